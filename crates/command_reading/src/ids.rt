@@ -1,26 +1,9 @@
 //! FileIds, CreateGuids and flags as numbers.
-ghost use Rattle.std.specs.Prelude.{◌≡◌, ◌<◌, length, MatchResult};
-ghost use Rattle.wire_defs.specs.Places.{number};
+ghost use Rattle.std.specs.Prelude.{◌≡◌, ◌<◌};
 ghost use Rattle.exchange_defs.specs.Commands.{has_bit};
 ghost use Rattle.command_defs.specs.Ids.{file_of, guid_of};
 
-use smb_bytes::{Cursor, Short};
-
-// The two halves of an id of 16 bytes, the first one the lower.
-#[derive(Clone, Copy)]
-struct Halves {
-    low: u64,
-    high: u64,
-}
-
-fn halves_of(id: &[u8]) -> Result<Halves, Short>
-    ensures { MatchResult result (λ h. (h.low ≡ number 8 id.now 0) × (h.high ≡ number 8 id.now 8)) (λ _. length id.now < 16) }
-{
-    let mut cursor = Cursor::new(id);
-    let low = cursor.get_u64()?;
-    let high = cursor.get_u64()?;
-    Ok(Halves { low, high })
-}
+use smb_bytes::halves_of;
 
 // The open that a FileId names: its id stands there twice, and 0 is no open's.
 #[tactic(auto, unfolding(command_defs::specs::Ids::file_of))]

@@ -1,8 +1,8 @@
 //! NEGOTIATE at the server (MS-SMB2 3.3.5.4).
-ghost use Rattle.std.specs.Prelude.{[], ◌≡◌, ◌≤◌, ◌<◌, ℕ, List, None, Err, length, IfOk, MatchResult};
+ghost use Rattle.std.specs.Prelude.{[], ◌≡◌, ◌≤◌, ◌<◌, ℕ, List, None, Err, length, IfOk};
 ghost use Rattle.wire_defs.specs.Offer.{offer_fault, offer_in};
 ghost use Rattle.msg_session.specs.Views.{negotiate_request};
-ghost use Rattle.wire_defs.specs.Places.{number, number_of};
+ghost use Rattle.wire_defs.specs.Places.{number_of};
 ghost use Rattle.token_defs.specs.Tokens as tokens;
 ghost use Rattle.negotiate_ctx.specs.Views.{offer as offer_view};
 ghost use Rattle.world_defs.specs.Negotiate as negotiate;
@@ -15,7 +15,7 @@ use negotiate_ctx::{
     ChooseError, Numbers, Offer, choose, context_count, read_contexts, write_contexts,
 };
 use session_defs::Chosen;
-use smb_bytes::{Bytes, Cursor, Short, u16_at};
+use smb_bytes::{Bytes, halves_of, u16_at};
 use spnego_der::{InitToken, NTLM_LIST, write_init};
 use std::alloc::{AllocError, Global};
 use wire_law::negotiate_request_law;
@@ -67,22 +67,6 @@ fn has_dialect(dialects: &[u8]) -> bool
         }
     }
     false
-}
-
-/// The two halves of 16 bytes, the first one the lower.
-#[derive(Clone, Copy)]
-struct Halves {
-    low: u64,
-    high: u64,
-}
-
-fn halves_of(guid: &[u8]) -> Result<Halves, Short>
-    ensures { MatchResult result (λ h. (h.low ≡ number 8 guid.now 0) × (h.high ≡ number 8 guid.now 8)) (λ _. length guid.now < 16) }
-{
-    let mut cursor = Cursor::new(guid);
-    let low = cursor.get_u64()?;
-    let high = cursor.get_u64()?;
-    Ok(Halves { low, high })
 }
 
 /// The number of a ClientGuid, its first byte the lowest.

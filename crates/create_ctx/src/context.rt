@@ -6,7 +6,7 @@ ghost use Rattle.wire_defs.specs.declared.chain_error.ChainError.TheVariants.{Sh
 ghost use Rattle.create_ctx.specs.Parts.{due_of, context, ReadsFirst, ReadsLink};
 
 use crate::due::{Side, due_of};
-use smb_bytes::Cursor;
+use smb_bytes::{Cursor, fields_fit, u16_at, u32_at};
 use smb_header::{is_badly_linked, piece_of};
 use wire_defs::ChainError;
 
@@ -75,13 +75,11 @@ fn check_length(side: Side, name: &[u8], len: u32) -> Result<(), ChainError>
 fn context_of(side: Side, m: &[u8]) -> Result<Context<'_>, ChainError>
     ensures { Reads (context_fault (due_of side) m.now) (IsContext (due_of side) m.now) context result }
 {
-    let mut cursor = Cursor::new(m);
-    let _next = cursor.get_u32()?;
-    let name_at = cursor.get_u16()?;
-    let name_len = cursor.get_u16()?;
-    let _reserved = cursor.get_u16()?;
-    let value_at = cursor.get_u16()?;
-    let value_len = cursor.get_u32()?;
+    fields_fit(m, &[4, 2, 2, 2, 2, 4])?;
+    let name_at = u16_at(m, 4);
+    let name_len = u16_at(m, 6);
+    let value_at = u16_at(m, 10);
+    let value_len = u32_at(m, 12);
     let name = part_of(m, name_at as usize, name_len as usize)?;
     let value = part_of(m, value_at as usize, value_len as usize)?;
     check_length(side, name, value_len)?;

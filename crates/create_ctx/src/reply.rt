@@ -7,16 +7,16 @@ ghost use Rattle.create_ctx.specs.Parts.{context, FirstReplySays};
 use crate::context::{Context, first_context};
 use crate::due::{Side, is_named};
 use crate::values::{first, is_persistent};
-use smb_bytes::{Cursor, Short};
+use smb_bytes::{Short, fields_fit, u32_at, u64_at};
 use smb_header::items_behind;
 use wire_defs::{ChainError, Dh2qReply, DiskId, MaximalAccess, ReplyContexts};
 
 fn dh2q_reply_in(value: &[u8]) -> Result<Dh2qReply, Short>
     ensures { MatchResult result (λ q. q ≡ dh2q_reply_in value.now) (λ _. length value.now < 8) }
 {
-    let mut cursor = Cursor::new(value);
-    let timeout = cursor.get_u32()?;
-    let flags = cursor.get_u32()?;
+    fields_fit(value, &[4, 4])?;
+    let timeout = u32_at(value, 0);
+    let flags = u32_at(value, 4);
     Ok(Dh2qReply {
         timeout,
         persistent: is_persistent(flags),
@@ -26,9 +26,9 @@ fn dh2q_reply_in(value: &[u8]) -> Result<Dh2qReply, Short>
 fn maximal_access_in(value: &[u8]) -> Result<MaximalAccess, Short>
     ensures { MatchResult result (λ a. a ≡ maximal_access_in value.now) (λ _. length value.now < 8) }
 {
-    let mut cursor = Cursor::new(value);
-    let query_status = cursor.get_u32()?;
-    let maximal_access = cursor.get_u32()?;
+    fields_fit(value, &[4, 4])?;
+    let query_status = u32_at(value, 0);
+    let maximal_access = u32_at(value, 4);
     Ok(MaximalAccess {
         query_status,
         maximal_access,
@@ -38,10 +38,9 @@ fn maximal_access_in(value: &[u8]) -> Result<MaximalAccess, Short>
 fn disk_id_in(value: &[u8]) -> Result<DiskId, Short>
     ensures { MatchResult result (λ d. d ≡ disk_id_in value.now) (λ _. length value.now < 32) }
 {
-    let mut cursor = Cursor::new(value);
-    let file = cursor.get_u64()?;
-    let volume = cursor.get_u64()?;
-    let _reserved = cursor.take(16)?;
+    fields_fit(value, &[8, 8, 16])?;
+    let file = u64_at(value, 0);
+    let volume = u64_at(value, 8);
     Ok(DiskId { file, volume })
 }
 

@@ -7,18 +7,17 @@ ghost use Rattle.create_ctx.specs.Parts.{context, FirstRequestSays};
 use crate::context::{Context, first_context};
 use crate::due::{Side, is_named};
 use crate::values::{first, is_persistent};
-use smb_bytes::{Cursor, Short};
+use smb_bytes::{Short, array_at, fields_fit, u32_at};
 use smb_header::items_behind;
 use wire_defs::{ChainError, CreateContexts, Dh2c, Dh2q};
 
 fn dh2q_in(value: &[u8]) -> Result<Dh2q, Short>
     ensures { MatchResult result (λ q. q ≡ dh2q_in value.now) (λ _. length value.now < 32) }
 {
-    let mut cursor = Cursor::new(value);
-    let timeout = cursor.get_u32()?;
-    let flags = cursor.get_u32()?;
-    let _reserved = cursor.get_u64()?;
-    let guid = cursor.get_array::<16>()?;
+    fields_fit(value, &[4, 4, 8, 16])?;
+    let timeout = u32_at(value, 0);
+    let flags = u32_at(value, 4);
+    let guid = array_at::<16>(value, 16);
     Ok(Dh2q {
         timeout,
         persistent: is_persistent(flags),
@@ -29,10 +28,10 @@ fn dh2q_in(value: &[u8]) -> Result<Dh2q, Short>
 fn dh2c_in(value: &[u8]) -> Result<Dh2c, Short>
     ensures { MatchResult result (λ q. q ≡ dh2c_in value.now) (λ _. length value.now < 36) }
 {
-    let mut cursor = Cursor::new(value);
-    let file = cursor.get_array::<16>()?;
-    let guid = cursor.get_array::<16>()?;
-    let flags = cursor.get_u32()?;
+    fields_fit(value, &[16, 16, 4])?;
+    let file = array_at::<16>(value, 0);
+    let guid = array_at::<16>(value, 16);
+    let flags = u32_at(value, 32);
     Ok(Dh2c {
         file,
         guid,

@@ -3,7 +3,7 @@ ghost use Rattle.wire_defs.specs.Places.{gap_to_8};
 ghost use Rattle.wire_defs.specs.CreateContexts.{context_spelling};
 ghost use Rattle.create_ctx.specs.Parts.{linked_if};
 
-use smb_bytes::{Bytes, Out};
+use smb_bytes::{Bytes, FixedOut, Out};
 use smb_header::{gap_before, told_place};
 use std::alloc::{AllocError, Global};
 
@@ -19,13 +19,15 @@ fn context_bytes(
 {
     let gap = gap_before(value.len(), name.len());
     let value_at = 16 + name.len() as u32 + gap as u32;
+    let mut fixed = FixedOut::<16>::new();
+    fixed.put_u32(next);
+    fixed.put_u16(16);
+    fixed.put_u16(name.len() as u16);
+    fixed.put_u16(0);
+    fixed.put_u16(told_place(value.len(), value_at) as u16);
+    fixed.put_u32(value.len() as u32);
     let mut out = Out::new(alloc);
-    out.put_u32(next)?;
-    out.put_u16(16)?;
-    out.put_u16(name.len() as u16)?;
-    out.put_u16(0)?;
-    out.put_u16(told_place(value.len(), value_at) as u16)?;
-    out.put_u32(value.len() as u32)?;
+    out.put_slice(&fixed.finish())?;
     out.put_slice(name)?;
     out.put_zeros(gap)?;
     out.put_slice(value)?;

@@ -4,24 +4,22 @@ ghost use Rattle.wire_defs.specs.declared.directory_class.DirectoryClass.TheVari
 ghost use Rattle.info_classes.specs.Views.{directory_entry};
 
 use crate::directory_entry::DirectoryEntry;
-use smb_bytes::Cursor;
+use smb_bytes::{fields_fit, u32_at, u64_at};
 use smb_header::{MessageError, Part, part_of};
 use wire_defs::DirectoryClass;
 
 fn read_directory(m: &[u8]) -> Result<DirectoryEntry<'_>, MessageError>
     ensures { Reads (directory_entry_fault classes.Directory m.now) (SpellsDirectoryEntry classes.Directory m.now) directory_entry result }
 {
-    let mut cursor = Cursor::new(m);
-    let _next = cursor.get_u32()?;
-    let _file_index = cursor.get_u32()?;
-    let creation_time = cursor.get_u64()?;
-    let last_access_time = cursor.get_u64()?;
-    let last_write_time = cursor.get_u64()?;
-    let change_time = cursor.get_u64()?;
-    let end_of_file = cursor.get_u64()?;
-    let allocation_size = cursor.get_u64()?;
-    let file_attributes = cursor.get_u32()?;
-    let name_len = cursor.get_u32()?;
+    fields_fit(m, &[4, 4, 8, 8, 8, 8, 8, 8, 4, 4])?;
+    let creation_time = u64_at(m, 8);
+    let last_access_time = u64_at(m, 16);
+    let last_write_time = u64_at(m, 24);
+    let change_time = u64_at(m, 32);
+    let end_of_file = u64_at(m, 40);
+    let allocation_size = u64_at(m, 48);
+    let file_attributes = u32_at(m, 56);
+    let name_len = u32_at(m, 60);
     let name = part_of(m, 64, name_len as usize, 64, Part::Name)?;
     Ok(DirectoryEntry {
         creation_time,
@@ -40,18 +38,15 @@ fn read_full_directory(m: &[u8]) -> Result<DirectoryEntry<'_>, MessageError>
     ensures { Reads (directory_entry_fault classes.FullDirectory m.now) (SpellsDirectoryEntry classes.FullDirectory
         m.now) directory_entry result }
 {
-    let mut cursor = Cursor::new(m);
-    let _next = cursor.get_u32()?;
-    let _file_index = cursor.get_u32()?;
-    let creation_time = cursor.get_u64()?;
-    let last_access_time = cursor.get_u64()?;
-    let last_write_time = cursor.get_u64()?;
-    let change_time = cursor.get_u64()?;
-    let end_of_file = cursor.get_u64()?;
-    let allocation_size = cursor.get_u64()?;
-    let file_attributes = cursor.get_u32()?;
-    let name_len = cursor.get_u32()?;
-    let _ea_size = cursor.get_u32()?;
+    fields_fit(m, &[4, 4, 8, 8, 8, 8, 8, 8, 4, 4, 4])?;
+    let creation_time = u64_at(m, 8);
+    let last_access_time = u64_at(m, 16);
+    let last_write_time = u64_at(m, 24);
+    let change_time = u64_at(m, 32);
+    let end_of_file = u64_at(m, 40);
+    let allocation_size = u64_at(m, 48);
+    let file_attributes = u32_at(m, 56);
+    let name_len = u32_at(m, 60);
     let name = part_of(m, 68, name_len as usize, 68, Part::Name)?;
     Ok(DirectoryEntry {
         creation_time,
@@ -70,21 +65,15 @@ fn read_both_directory(m: &[u8]) -> Result<DirectoryEntry<'_>, MessageError>
     ensures { Reads (directory_entry_fault classes.BothDirectory m.now) (SpellsDirectoryEntry classes.BothDirectory
         m.now) directory_entry result }
 {
-    let mut cursor = Cursor::new(m);
-    let _next = cursor.get_u32()?;
-    let _file_index = cursor.get_u32()?;
-    let creation_time = cursor.get_u64()?;
-    let last_access_time = cursor.get_u64()?;
-    let last_write_time = cursor.get_u64()?;
-    let change_time = cursor.get_u64()?;
-    let end_of_file = cursor.get_u64()?;
-    let allocation_size = cursor.get_u64()?;
-    let file_attributes = cursor.get_u32()?;
-    let name_len = cursor.get_u32()?;
-    let _ea_size = cursor.get_u32()?;
-    let _short_name_length = cursor.get_u8()?;
-    let _reserved = cursor.get_u8()?;
-    let _short_name = cursor.take(24)?;
+    fields_fit(m, &[4, 4, 8, 8, 8, 8, 8, 8, 4, 4, 4, 1, 1, 24])?;
+    let creation_time = u64_at(m, 8);
+    let last_access_time = u64_at(m, 16);
+    let last_write_time = u64_at(m, 24);
+    let change_time = u64_at(m, 32);
+    let end_of_file = u64_at(m, 40);
+    let allocation_size = u64_at(m, 48);
+    let file_attributes = u32_at(m, 56);
+    let name_len = u32_at(m, 60);
     let name = part_of(m, 94, name_len as usize, 94, Part::Name)?;
     Ok(DirectoryEntry {
         creation_time,
@@ -102,10 +91,8 @@ fn read_both_directory(m: &[u8]) -> Result<DirectoryEntry<'_>, MessageError>
 fn read_names(m: &[u8]) -> Result<DirectoryEntry<'_>, MessageError>
     ensures { Reads (directory_entry_fault classes.Names m.now) (SpellsDirectoryEntry classes.Names m.now) directory_entry result }
 {
-    let mut cursor = Cursor::new(m);
-    let _next = cursor.get_u32()?;
-    let _file_index = cursor.get_u32()?;
-    let name_len = cursor.get_u32()?;
+    fields_fit(m, &[4, 4, 4])?;
+    let name_len = u32_at(m, 8);
     let name = part_of(m, 12, name_len as usize, 12, Part::Name)?;
     Ok(DirectoryEntry {
         creation_time: 0,
@@ -124,23 +111,16 @@ fn read_id_both_directory(m: &[u8]) -> Result<DirectoryEntry<'_>, MessageError>
     ensures { Reads (directory_entry_fault classes.IdBothDirectory m.now) (SpellsDirectoryEntry classes.IdBothDirectory
         m.now) directory_entry result }
 {
-    let mut cursor = Cursor::new(m);
-    let _next = cursor.get_u32()?;
-    let _file_index = cursor.get_u32()?;
-    let creation_time = cursor.get_u64()?;
-    let last_access_time = cursor.get_u64()?;
-    let last_write_time = cursor.get_u64()?;
-    let change_time = cursor.get_u64()?;
-    let end_of_file = cursor.get_u64()?;
-    let allocation_size = cursor.get_u64()?;
-    let file_attributes = cursor.get_u32()?;
-    let name_len = cursor.get_u32()?;
-    let _ea_size = cursor.get_u32()?;
-    let _short_name_length = cursor.get_u8()?;
-    let _reserved = cursor.get_u8()?;
-    let _short_name = cursor.take(24)?;
-    let _reserved_too = cursor.get_u16()?;
-    let file_id = cursor.get_u64()?;
+    fields_fit(m, &[4, 4, 8, 8, 8, 8, 8, 8, 4, 4, 4, 1, 1, 24, 2, 8])?;
+    let creation_time = u64_at(m, 8);
+    let last_access_time = u64_at(m, 16);
+    let last_write_time = u64_at(m, 24);
+    let change_time = u64_at(m, 32);
+    let end_of_file = u64_at(m, 40);
+    let allocation_size = u64_at(m, 48);
+    let file_attributes = u32_at(m, 56);
+    let name_len = u32_at(m, 60);
+    let file_id = u64_at(m, 96);
     let name = part_of(m, 104, name_len as usize, 104, Part::Name)?;
     Ok(DirectoryEntry {
         creation_time,
@@ -159,20 +139,16 @@ fn read_id_full_directory(m: &[u8]) -> Result<DirectoryEntry<'_>, MessageError>
     ensures { Reads (directory_entry_fault classes.IdFullDirectory m.now) (SpellsDirectoryEntry classes.IdFullDirectory
         m.now) directory_entry result }
 {
-    let mut cursor = Cursor::new(m);
-    let _next = cursor.get_u32()?;
-    let _file_index = cursor.get_u32()?;
-    let creation_time = cursor.get_u64()?;
-    let last_access_time = cursor.get_u64()?;
-    let last_write_time = cursor.get_u64()?;
-    let change_time = cursor.get_u64()?;
-    let end_of_file = cursor.get_u64()?;
-    let allocation_size = cursor.get_u64()?;
-    let file_attributes = cursor.get_u32()?;
-    let name_len = cursor.get_u32()?;
-    let _ea_size = cursor.get_u32()?;
-    let _reserved = cursor.get_u32()?;
-    let file_id = cursor.get_u64()?;
+    fields_fit(m, &[4, 4, 8, 8, 8, 8, 8, 8, 4, 4, 4, 4, 8])?;
+    let creation_time = u64_at(m, 8);
+    let last_access_time = u64_at(m, 16);
+    let last_write_time = u64_at(m, 24);
+    let change_time = u64_at(m, 32);
+    let end_of_file = u64_at(m, 40);
+    let allocation_size = u64_at(m, 48);
+    let file_attributes = u32_at(m, 56);
+    let name_len = u32_at(m, 60);
+    let file_id = u64_at(m, 72);
     let name = part_of(m, 80, name_len as usize, 80, Part::Name)?;
     Ok(DirectoryEntry {
         creation_time,

@@ -4,7 +4,7 @@ ghost use Rattle.wire_defs.specs.FileClasses.{SpellsFileAllInformation, file_all
 ghost use Rattle.info_classes.specs.Views.{file_all_information};
 
 use crate::named::FileAllInformation;
-use smb_bytes::{Bytes, Cursor, Out};
+use smb_bytes::{Bytes, FixedOut, Out, fields_fit, u8_at, u32_at, u64_at};
 use smb_header::{MessageError, Part, part_of};
 use std::alloc::{AllocError, Global};
 
@@ -12,26 +12,24 @@ use std::alloc::{AllocError, Global};
 pub fn read_file_all_information(m: &[u8]) -> Result<FileAllInformation<'_>, MessageError>
     ensures { Reads (file_all_information_fault m.now) (SpellsFileAllInformation m.now) file_all_information result }
 {
-    let mut cursor = Cursor::new(m);
-    let creation_time = cursor.get_u64()?;
-    let last_access_time = cursor.get_u64()?;
-    let last_write_time = cursor.get_u64()?;
-    let change_time = cursor.get_u64()?;
-    let file_attributes = cursor.get_u32()?;
-    let _reserved = cursor.get_u32()?;
-    let allocation_size = cursor.get_u64()?;
-    let end_of_file = cursor.get_u64()?;
-    let number_of_links = cursor.get_u32()?;
-    let delete_pending = cursor.get_u8()?;
-    let directory = cursor.get_u8()?;
-    let _reserved_too = cursor.get_u16()?;
-    let index_number = cursor.get_u64()?;
-    let _ea_size = cursor.get_u32()?;
-    let access_flags = cursor.get_u32()?;
-    let _current_byte_offset = cursor.get_u64()?;
-    let mode = cursor.get_u32()?;
-    let _alignment_requirement = cursor.get_u32()?;
-    let name_len = cursor.get_u32()?;
+    fields_fit(
+        m,
+        &[8, 8, 8, 8, 4, 4, 8, 8, 4, 1, 1, 2, 8, 4, 4, 8, 4, 4, 4],
+    )?;
+    let creation_time = u64_at(m, 0);
+    let last_access_time = u64_at(m, 8);
+    let last_write_time = u64_at(m, 16);
+    let change_time = u64_at(m, 24);
+    let file_attributes = u32_at(m, 32);
+    let allocation_size = u64_at(m, 40);
+    let end_of_file = u64_at(m, 48);
+    let number_of_links = u32_at(m, 56);
+    let delete_pending = u8_at(m, 60);
+    let directory = u8_at(m, 61);
+    let index_number = u64_at(m, 64);
+    let access_flags = u32_at(m, 76);
+    let mode = u32_at(m, 88);
+    let name_len = u32_at(m, 96);
     let name = part_of(m, 100, name_len as usize, 100, Part::Name)?;
     Ok(FileAllInformation {
         creation_time,
@@ -60,26 +58,28 @@ pub fn write_file_all_information(
     requires { length v.now.name.now < 2 ^ 32 }
     ensures { IfOk result (λ b. b ≡ file_all_information_spelling (file_all_information v.now)) }
 {
+    let mut fixed = FixedOut::<100>::new();
+    fixed.put_u64(v.creation_time);
+    fixed.put_u64(v.last_access_time);
+    fixed.put_u64(v.last_write_time);
+    fixed.put_u64(v.change_time);
+    fixed.put_u32(v.file_attributes);
+    fixed.put_u32(0);
+    fixed.put_u64(v.allocation_size);
+    fixed.put_u64(v.end_of_file);
+    fixed.put_u32(v.number_of_links);
+    fixed.put_u8(v.delete_pending);
+    fixed.put_u8(v.directory);
+    fixed.put_u16(0);
+    fixed.put_u64(v.index_number);
+    fixed.put_u32(0);
+    fixed.put_u32(v.access_flags);
+    fixed.put_u64(0);
+    fixed.put_u32(v.mode);
+    fixed.put_u32(0);
+    fixed.put_u32(v.name.len() as u32);
     let mut out = Out::new(alloc);
-    out.put_u64(v.creation_time)?;
-    out.put_u64(v.last_access_time)?;
-    out.put_u64(v.last_write_time)?;
-    out.put_u64(v.change_time)?;
-    out.put_u32(v.file_attributes)?;
-    out.put_u32(0)?;
-    out.put_u64(v.allocation_size)?;
-    out.put_u64(v.end_of_file)?;
-    out.put_u32(v.number_of_links)?;
-    out.put_u8(v.delete_pending)?;
-    out.put_u8(v.directory)?;
-    out.put_u16(0)?;
-    out.put_u64(v.index_number)?;
-    out.put_u32(0)?;
-    out.put_u32(v.access_flags)?;
-    out.put_u64(0)?;
-    out.put_u32(v.mode)?;
-    out.put_u32(0)?;
-    out.put_u32(v.name.len() as u32)?;
+    out.put_slice(&fixed.finish())?;
     out.put_slice(v.name)?;
     Ok(out.finish())
 }

@@ -3,7 +3,7 @@ ghost use Rattle.wire_defs.specs.Fault.{Reads};
 ghost use Rattle.wire_defs.specs.FileClasses.{SpellsFileAllocationInformation, file_allocation_information_fault};
 ghost use Rattle.wire_defs.specs.FileClasses.{file_allocation_information_spelling};
 
-use smb_bytes::{Bytes, Cursor, Out};
+use smb_bytes::{Bytes, Out, fields_fit, u64_at};
 use smb_header::MessageError;
 use std::alloc::{AllocError, Global};
 use wire_defs::FileAllocationInformation;
@@ -12,8 +12,8 @@ use wire_defs::FileAllocationInformation;
 pub fn read_file_allocation_information(m: &[u8]) -> Result<FileAllocationInformation, MessageError>
     ensures { Reads (file_allocation_information_fault m.now) (SpellsFileAllocationInformation m.now) (λ v. v) result }
 {
-    let mut cursor = Cursor::new(m);
-    let allocation_size = cursor.get_u64()?;
+    fields_fit(m, &[8])?;
+    let allocation_size = u64_at(m, 0);
     Ok(FileAllocationInformation { allocation_size })
 }
 

@@ -2,7 +2,7 @@ ghost use Rattle.std.specs.Prelude.{◌≡◌, IfOk};
 ghost use Rattle.wire_defs.specs.Fault.{Reads};
 ghost use Rattle.wire_defs.specs.FileClasses.{SpellsFileBasicInformation, file_basic_information_fault, file_basic_information_spelling};
 
-use smb_bytes::{Bytes, Cursor, Out};
+use smb_bytes::{Bytes, FixedOut, fields_fit, u32_at, u64_at};
 use smb_header::MessageError;
 use std::alloc::{AllocError, Global};
 use wire_defs::FileBasicInformation;
@@ -11,13 +11,12 @@ use wire_defs::FileBasicInformation;
 pub fn read_file_basic_information(m: &[u8]) -> Result<FileBasicInformation, MessageError>
     ensures { Reads (file_basic_information_fault m.now) (SpellsFileBasicInformation m.now) (λ v. v) result }
 {
-    let mut cursor = Cursor::new(m);
-    let creation_time = cursor.get_u64()?;
-    let last_access_time = cursor.get_u64()?;
-    let last_write_time = cursor.get_u64()?;
-    let change_time = cursor.get_u64()?;
-    let file_attributes = cursor.get_u32()?;
-    let _reserved = cursor.get_u32()?;
+    fields_fit(m, &[8, 8, 8, 8, 4, 4])?;
+    let creation_time = u64_at(m, 0);
+    let last_access_time = u64_at(m, 8);
+    let last_write_time = u64_at(m, 16);
+    let change_time = u64_at(m, 24);
+    let file_attributes = u32_at(m, 32);
     Ok(FileBasicInformation {
         creation_time,
         last_access_time,
@@ -34,12 +33,12 @@ pub fn write_file_basic_information(
 ) -> Result<Bytes, AllocError>
     ensures { IfOk result (λ b. b ≡ file_basic_information_spelling v.now) }
 {
-    let mut out = Out::new(alloc);
-    out.put_u64(v.creation_time)?;
-    out.put_u64(v.last_access_time)?;
-    out.put_u64(v.last_write_time)?;
-    out.put_u64(v.change_time)?;
-    out.put_u32(v.file_attributes)?;
-    out.put_u32(0)?;
-    Ok(out.finish())
+    let mut fixed = FixedOut::<40>::new();
+    fixed.put_u64(v.creation_time);
+    fixed.put_u64(v.last_access_time);
+    fixed.put_u64(v.last_write_time);
+    fixed.put_u64(v.change_time);
+    fixed.put_u32(v.file_attributes);
+    fixed.put_u32(0);
+    Bytes::from_slice(alloc, &fixed.finish())
 }

@@ -3,7 +3,7 @@ ghost use Rattle.wire_defs.specs.Fault.{Reads};
 ghost use Rattle.wire_defs.specs.FileClasses.{SpellsFileDispositionInformation, file_disposition_information_fault};
 ghost use Rattle.wire_defs.specs.FileClasses.{file_disposition_information_spelling};
 
-use smb_bytes::{Bytes, Cursor, Out};
+use smb_bytes::{Bytes, Out, fields_fit, u8_at};
 use smb_header::MessageError;
 use std::alloc::{AllocError, Global};
 use wire_defs::FileDispositionInformation;
@@ -14,8 +14,8 @@ pub fn read_file_disposition_information(
 ) -> Result<FileDispositionInformation, MessageError>
     ensures { Reads (file_disposition_information_fault m.now) (SpellsFileDispositionInformation m.now) (λ v. v) result }
 {
-    let mut cursor = Cursor::new(m);
-    let delete_pending = cursor.get_u8()?;
+    fields_fit(m, &[1])?;
+    let delete_pending = u8_at(m, 0);
     Ok(FileDispositionInformation { delete_pending })
 }
 

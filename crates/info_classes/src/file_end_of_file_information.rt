@@ -3,7 +3,7 @@ ghost use Rattle.wire_defs.specs.Fault.{Reads};
 ghost use Rattle.wire_defs.specs.FileClasses.{SpellsFileEndOfFileInformation, file_end_of_file_information_fault};
 ghost use Rattle.wire_defs.specs.FileClasses.{file_end_of_file_information_spelling};
 
-use smb_bytes::{Bytes, Cursor, Out};
+use smb_bytes::{Bytes, Out, fields_fit, u64_at};
 use smb_header::MessageError;
 use std::alloc::{AllocError, Global};
 use wire_defs::FileEndOfFileInformation;
@@ -12,8 +12,8 @@ use wire_defs::FileEndOfFileInformation;
 pub fn read_file_end_of_file_information(m: &[u8]) -> Result<FileEndOfFileInformation, MessageError>
     ensures { Reads (file_end_of_file_information_fault m.now) (SpellsFileEndOfFileInformation m.now) (λ v. v) result }
 {
-    let mut cursor = Cursor::new(m);
-    let end_of_file = cursor.get_u64()?;
+    fields_fit(m, &[8])?;
+    let end_of_file = u64_at(m, 0);
     Ok(FileEndOfFileInformation { end_of_file })
 }
 

@@ -5,7 +5,7 @@ ghost use Rattle.wire_defs.specs.VolumeClasses.{file_fs_attribute_information_sp
 ghost use Rattle.info_classes.specs.Views.{file_fs_attribute_information};
 
 use crate::named::FileFsAttributeInformation;
-use smb_bytes::{Bytes, Cursor, Out};
+use smb_bytes::{Bytes, FixedOut, Out, fields_fit, u32_at};
 use smb_header::{MessageError, Part, part_of};
 use std::alloc::{AllocError, Global};
 
@@ -16,10 +16,10 @@ pub fn read_file_fs_attribute_information(
     ensures { Reads (file_fs_attribute_information_fault m.now) (SpellsFileFsAttributeInformation m.now)
         file_fs_attribute_information result }
 {
-    let mut cursor = Cursor::new(m);
-    let file_system_attributes = cursor.get_u32()?;
-    let maximum_component_name_length = cursor.get_u32()?;
-    let name_len = cursor.get_u32()?;
+    fields_fit(m, &[4, 4, 4])?;
+    let file_system_attributes = u32_at(m, 0);
+    let maximum_component_name_length = u32_at(m, 4);
+    let name_len = u32_at(m, 8);
     let name = part_of(m, 12, name_len as usize, 12, Part::Name)?;
     Ok(FileFsAttributeInformation {
         file_system_attributes,
@@ -37,10 +37,12 @@ pub fn write_file_fs_attribute_information(
     requires { length v.now.name.now < 2 ^ 32 }
     ensures { IfOk result (λ b. b ≡ file_fs_attribute_information_spelling (file_fs_attribute_information v.now)) }
 {
+    let mut fixed = FixedOut::<12>::new();
+    fixed.put_u32(v.file_system_attributes);
+    fixed.put_u32(v.maximum_component_name_length);
+    fixed.put_u32(v.name.len() as u32);
     let mut out = Out::new(alloc);
-    out.put_u32(v.file_system_attributes)?;
-    out.put_u32(v.maximum_component_name_length)?;
-    out.put_u32(v.name.len() as u32)?;
+    out.put_slice(&fixed.finish())?;
     out.put_slice(v.name)?;
     Ok(out.finish())
 }

@@ -3,7 +3,7 @@ ghost use Rattle.wire_defs.specs.Fault.{Reads};
 ghost use Rattle.wire_defs.specs.VolumeClasses.{SpellsFileFsDeviceInformation, file_fs_device_information_fault};
 ghost use Rattle.wire_defs.specs.VolumeClasses.{file_fs_device_information_spelling};
 
-use smb_bytes::{Bytes, Cursor, Out};
+use smb_bytes::{Bytes, Out, fields_fit, u32_at};
 use smb_header::MessageError;
 use std::alloc::{AllocError, Global};
 use wire_defs::FileFsDeviceInformation;
@@ -12,9 +12,9 @@ use wire_defs::FileFsDeviceInformation;
 pub fn read_file_fs_device_information(m: &[u8]) -> Result<FileFsDeviceInformation, MessageError>
     ensures { Reads (file_fs_device_information_fault m.now) (SpellsFileFsDeviceInformation m.now) (λ v. v) result }
 {
-    let mut cursor = Cursor::new(m);
-    let device_type = cursor.get_u32()?;
-    let characteristics = cursor.get_u32()?;
+    fields_fit(m, &[4, 4])?;
+    let device_type = u32_at(m, 0);
+    let characteristics = u32_at(m, 4);
     Ok(FileFsDeviceInformation {
         device_type,
         characteristics,

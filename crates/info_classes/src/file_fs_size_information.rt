@@ -3,7 +3,7 @@ ghost use Rattle.wire_defs.specs.Fault.{Reads};
 ghost use Rattle.wire_defs.specs.VolumeClasses.{SpellsFileFsSizeInformation, file_fs_size_information_fault};
 ghost use Rattle.wire_defs.specs.VolumeClasses.{file_fs_size_information_spelling};
 
-use smb_bytes::{Bytes, Cursor, Out};
+use smb_bytes::{Bytes, FixedOut, fields_fit, u32_at, u64_at};
 use smb_header::MessageError;
 use std::alloc::{AllocError, Global};
 use wire_defs::FileFsSizeInformation;
@@ -12,11 +12,11 @@ use wire_defs::FileFsSizeInformation;
 pub fn read_file_fs_size_information(m: &[u8]) -> Result<FileFsSizeInformation, MessageError>
     ensures { Reads (file_fs_size_information_fault m.now) (SpellsFileFsSizeInformation m.now) (λ v. v) result }
 {
-    let mut cursor = Cursor::new(m);
-    let total_allocation_units = cursor.get_u64()?;
-    let available_allocation_units = cursor.get_u64()?;
-    let sectors_per_allocation_unit = cursor.get_u32()?;
-    let bytes_per_sector = cursor.get_u32()?;
+    fields_fit(m, &[8, 8, 4, 4])?;
+    let total_allocation_units = u64_at(m, 0);
+    let available_allocation_units = u64_at(m, 8);
+    let sectors_per_allocation_unit = u32_at(m, 16);
+    let bytes_per_sector = u32_at(m, 20);
     Ok(FileFsSizeInformation {
         total_allocation_units,
         available_allocation_units,
@@ -32,10 +32,10 @@ pub fn write_file_fs_size_information(
 ) -> Result<Bytes, AllocError>
     ensures { IfOk result (λ b. b ≡ file_fs_size_information_spelling v.now) }
 {
-    let mut out = Out::new(alloc);
-    out.put_u64(v.total_allocation_units)?;
-    out.put_u64(v.available_allocation_units)?;
-    out.put_u32(v.sectors_per_allocation_unit)?;
-    out.put_u32(v.bytes_per_sector)?;
-    Ok(out.finish())
+    let mut fixed = FixedOut::<24>::new();
+    fixed.put_u64(v.total_allocation_units);
+    fixed.put_u64(v.available_allocation_units);
+    fixed.put_u32(v.sectors_per_allocation_unit);
+    fixed.put_u32(v.bytes_per_sector);
+    Bytes::from_slice(alloc, &fixed.finish())
 }

@@ -5,7 +5,7 @@ ghost use Rattle.wire_defs.specs.VolumeClasses.{file_fs_volume_information_spell
 ghost use Rattle.info_classes.specs.Views.{file_fs_volume_information};
 
 use crate::named::FileFsVolumeInformation;
-use smb_bytes::{Bytes, Cursor, Out};
+use smb_bytes::{Bytes, FixedOut, Out, fields_fit, u8_at, u32_at, u64_at};
 use smb_header::{MessageError, Part, part_of};
 use std::alloc::{AllocError, Global};
 
@@ -15,12 +15,11 @@ pub fn read_file_fs_volume_information(
 ) -> Result<FileFsVolumeInformation<'_>, MessageError>
     ensures { Reads (file_fs_volume_information_fault m.now) (SpellsFileFsVolumeInformation m.now) file_fs_volume_information result }
 {
-    let mut cursor = Cursor::new(m);
-    let volume_creation_time = cursor.get_u64()?;
-    let volume_serial_number = cursor.get_u32()?;
-    let label_len = cursor.get_u32()?;
-    let supports_objects = cursor.get_u8()?;
-    let _reserved = cursor.get_u8()?;
+    fields_fit(m, &[8, 4, 4, 1, 1])?;
+    let volume_creation_time = u64_at(m, 0);
+    let volume_serial_number = u32_at(m, 8);
+    let label_len = u32_at(m, 12);
+    let supports_objects = u8_at(m, 16);
     let label = part_of(m, 18, label_len as usize, 18, Part::Name)?;
     Ok(FileFsVolumeInformation {
         volume_creation_time,
@@ -39,12 +38,14 @@ pub fn write_file_fs_volume_information(
     requires { length v.now.label.now < 2 ^ 32 }
     ensures { IfOk result (λ b. b ≡ file_fs_volume_information_spelling (file_fs_volume_information v.now)) }
 {
+    let mut fixed = FixedOut::<18>::new();
+    fixed.put_u64(v.volume_creation_time);
+    fixed.put_u32(v.volume_serial_number);
+    fixed.put_u32(v.label.len() as u32);
+    fixed.put_u8(v.supports_objects);
+    fixed.put_u8(0);
     let mut out = Out::new(alloc);
-    out.put_u64(v.volume_creation_time)?;
-    out.put_u32(v.volume_serial_number)?;
-    out.put_u32(v.label.len() as u32)?;
-    out.put_u8(v.supports_objects)?;
-    out.put_u8(0)?;
+    out.put_slice(&fixed.finish())?;
     out.put_slice(v.label)?;
     Ok(out.finish())
 }

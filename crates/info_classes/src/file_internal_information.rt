@@ -3,7 +3,7 @@ ghost use Rattle.wire_defs.specs.Fault.{Reads};
 ghost use Rattle.wire_defs.specs.FileClasses.{SpellsFileInternalInformation, file_internal_information_fault};
 ghost use Rattle.wire_defs.specs.FileClasses.{file_internal_information_spelling};
 
-use smb_bytes::{Bytes, Cursor, Out};
+use smb_bytes::{Bytes, Out, fields_fit, u64_at};
 use smb_header::MessageError;
 use std::alloc::{AllocError, Global};
 use wire_defs::FileInternalInformation;
@@ -12,8 +12,8 @@ use wire_defs::FileInternalInformation;
 pub fn read_file_internal_information(m: &[u8]) -> Result<FileInternalInformation, MessageError>
     ensures { Reads (file_internal_information_fault m.now) (SpellsFileInternalInformation m.now) (λ v. v) result }
 {
-    let mut cursor = Cursor::new(m);
-    let index_number = cursor.get_u64()?;
+    fields_fit(m, &[8])?;
+    let index_number = u64_at(m, 0);
     Ok(FileInternalInformation { index_number })
 }
 

@@ -3,7 +3,7 @@ ghost use Rattle.wire_defs.specs.Fault.{Reads};
 ghost use Rattle.wire_defs.specs.FileClasses.{SpellsFileNetworkOpenInformation, file_network_open_information_fault};
 ghost use Rattle.wire_defs.specs.FileClasses.{file_network_open_information_spelling};
 
-use smb_bytes::{Bytes, Cursor, Out};
+use smb_bytes::{Bytes, FixedOut, fields_fit, u32_at, u64_at};
 use smb_header::MessageError;
 use std::alloc::{AllocError, Global};
 use wire_defs::FileNetworkOpenInformation;
@@ -14,15 +14,14 @@ pub fn read_file_network_open_information(
 ) -> Result<FileNetworkOpenInformation, MessageError>
     ensures { Reads (file_network_open_information_fault m.now) (SpellsFileNetworkOpenInformation m.now) (λ v. v) result }
 {
-    let mut cursor = Cursor::new(m);
-    let creation_time = cursor.get_u64()?;
-    let last_access_time = cursor.get_u64()?;
-    let last_write_time = cursor.get_u64()?;
-    let change_time = cursor.get_u64()?;
-    let allocation_size = cursor.get_u64()?;
-    let end_of_file = cursor.get_u64()?;
-    let file_attributes = cursor.get_u32()?;
-    let _reserved = cursor.get_u32()?;
+    fields_fit(m, &[8, 8, 8, 8, 8, 8, 4, 4])?;
+    let creation_time = u64_at(m, 0);
+    let last_access_time = u64_at(m, 8);
+    let last_write_time = u64_at(m, 16);
+    let change_time = u64_at(m, 24);
+    let allocation_size = u64_at(m, 32);
+    let end_of_file = u64_at(m, 40);
+    let file_attributes = u32_at(m, 48);
     Ok(FileNetworkOpenInformation {
         creation_time,
         last_access_time,
@@ -41,14 +40,14 @@ pub fn write_file_network_open_information(
 ) -> Result<Bytes, AllocError>
     ensures { IfOk result (λ b. b ≡ file_network_open_information_spelling v.now) }
 {
-    let mut out = Out::new(alloc);
-    out.put_u64(v.creation_time)?;
-    out.put_u64(v.last_access_time)?;
-    out.put_u64(v.last_write_time)?;
-    out.put_u64(v.change_time)?;
-    out.put_u64(v.allocation_size)?;
-    out.put_u64(v.end_of_file)?;
-    out.put_u32(v.file_attributes)?;
-    out.put_u32(0)?;
-    Ok(out.finish())
+    let mut fixed = FixedOut::<56>::new();
+    fixed.put_u64(v.creation_time);
+    fixed.put_u64(v.last_access_time);
+    fixed.put_u64(v.last_write_time);
+    fixed.put_u64(v.change_time);
+    fixed.put_u64(v.allocation_size);
+    fixed.put_u64(v.end_of_file);
+    fixed.put_u32(v.file_attributes);
+    fixed.put_u32(0);
+    Bytes::from_slice(alloc, &fixed.finish())
 }

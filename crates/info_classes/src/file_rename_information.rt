@@ -4,7 +4,7 @@ ghost use Rattle.wire_defs.specs.FileClasses.{SpellsFileRenameInformation, file_
 ghost use Rattle.info_classes.specs.Views.{file_rename_information};
 
 use crate::named::FileRenameInformation;
-use smb_bytes::{Bytes, Cursor, Out};
+use smb_bytes::{Bytes, Out, fields_fit, u8_at, u32_at, u64_at};
 use smb_header::{MessageError, Part, part_of};
 use std::alloc::{AllocError, Global};
 
@@ -12,11 +12,10 @@ use std::alloc::{AllocError, Global};
 pub fn read_file_rename_information(m: &[u8]) -> Result<FileRenameInformation<'_>, MessageError>
     ensures { Reads (file_rename_information_fault m.now) (SpellsFileRenameInformation m.now) file_rename_information result }
 {
-    let mut cursor = Cursor::new(m);
-    let replace_if_exists = cursor.get_u8()?;
-    let _reserved = cursor.take(7)?;
-    let root_directory = cursor.get_u64()?;
-    let name_len = cursor.get_u32()?;
+    fields_fit(m, &[1, 7, 8, 4])?;
+    let replace_if_exists = u8_at(m, 0);
+    let root_directory = u64_at(m, 8);
+    let name_len = u32_at(m, 16);
     let name = part_of(m, 20, name_len as usize, 20, Part::Name)?;
     Ok(FileRenameInformation {
         replace_if_exists,

@@ -3,7 +3,7 @@ ghost use Rattle.wire_defs.specs.Fault.{Reads};
 ghost use Rattle.wire_defs.specs.FileClasses.{SpellsFileStandardInformation, file_standard_information_fault};
 ghost use Rattle.wire_defs.specs.FileClasses.{file_standard_information_spelling};
 
-use smb_bytes::{Bytes, Cursor, Out};
+use smb_bytes::{Bytes, FixedOut, fields_fit, u8_at, u32_at, u64_at};
 use smb_header::MessageError;
 use std::alloc::{AllocError, Global};
 use wire_defs::FileStandardInformation;
@@ -12,13 +12,12 @@ use wire_defs::FileStandardInformation;
 pub fn read_file_standard_information(m: &[u8]) -> Result<FileStandardInformation, MessageError>
     ensures { Reads (file_standard_information_fault m.now) (SpellsFileStandardInformation m.now) (λ v. v) result }
 {
-    let mut cursor = Cursor::new(m);
-    let allocation_size = cursor.get_u64()?;
-    let end_of_file = cursor.get_u64()?;
-    let number_of_links = cursor.get_u32()?;
-    let delete_pending = cursor.get_u8()?;
-    let directory = cursor.get_u8()?;
-    let _reserved = cursor.get_u16()?;
+    fields_fit(m, &[8, 8, 4, 1, 1, 2])?;
+    let allocation_size = u64_at(m, 0);
+    let end_of_file = u64_at(m, 8);
+    let number_of_links = u32_at(m, 16);
+    let delete_pending = u8_at(m, 20);
+    let directory = u8_at(m, 21);
     Ok(FileStandardInformation {
         allocation_size,
         end_of_file,
@@ -35,12 +34,12 @@ pub fn write_file_standard_information(
 ) -> Result<Bytes, AllocError>
     ensures { IfOk result (λ b. b ≡ file_standard_information_spelling v.now) }
 {
-    let mut out = Out::new(alloc);
-    out.put_u64(v.allocation_size)?;
-    out.put_u64(v.end_of_file)?;
-    out.put_u32(v.number_of_links)?;
-    out.put_u8(v.delete_pending)?;
-    out.put_u8(v.directory)?;
-    out.put_u16(0)?;
-    Ok(out.finish())
+    let mut fixed = FixedOut::<24>::new();
+    fixed.put_u64(v.allocation_size);
+    fixed.put_u64(v.end_of_file);
+    fixed.put_u32(v.number_of_links);
+    fixed.put_u8(v.delete_pending);
+    fixed.put_u8(v.directory);
+    fixed.put_u16(0);
+    Bytes::from_slice(alloc, &fixed.finish())
 }

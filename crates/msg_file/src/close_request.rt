@@ -2,7 +2,7 @@ ghost use Rattle.std.specs.Prelude.{◌≡◌, IfOk};
 ghost use Rattle.wire_defs.specs.Fault.{Reads};
 ghost use Rattle.wire_defs.specs.Close.{SpellsCloseRequest, close_request_fault, close_request_spelling};
 
-use smb_bytes::{Bytes, Cursor, Out};
+use smb_bytes::{Bytes, FixedOut, array_at, fields_fit, u16_at};
 use smb_header::MessageError;
 use std::alloc::{AllocError, Global};
 use wire_defs::CloseRequest;
@@ -11,12 +11,10 @@ use wire_defs::CloseRequest;
 pub fn read_close_request(m: &[u8]) -> Result<CloseRequest, MessageError>
     ensures { Reads (close_request_fault m.now) (SpellsCloseRequest m.now) (λ v. v) result }
 {
-    let mut cursor = Cursor::new(m);
-    let _header = cursor.take(64)?;
-    let size = cursor.get_u16()?;
-    let flags = cursor.get_u16()?;
-    let _reserved = cursor.get_u32()?;
-    let file_id = cursor.get_array::<16>()?;
+    fields_fit(m, &[64, 2, 2, 4, 16])?;
+    let size = u16_at(m, 64);
+    let flags = u16_at(m, 66);
+    let file_id = array_at::<16>(m, 72);
     if size != 24 {
         return Err(MessageError::BadSize(size));
     }
@@ -27,10 +25,10 @@ pub fn read_close_request(m: &[u8]) -> Result<CloseRequest, MessageError>
 pub fn write_close_request(alloc: Global, v: &CloseRequest) -> Result<Bytes, AllocError>
     ensures { IfOk result (λ b. b ≡ close_request_spelling v.now) }
 {
-    let mut out = Out::new(alloc);
-    out.put_u16(24)?;
-    out.put_u16(v.flags)?;
-    out.put_u32(0)?;
-    out.put_slice(&v.file_id)?;
-    Ok(out.finish())
+    let mut fixed = FixedOut::<24>::new();
+    fixed.put_u16(24);
+    fixed.put_u16(v.flags);
+    fixed.put_u32(0);
+    fixed.put_slice(&v.file_id);
+    Bytes::from_slice(alloc, &fixed.finish())
 }

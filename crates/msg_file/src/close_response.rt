@@ -2,7 +2,7 @@ ghost use Rattle.std.specs.Prelude.{◌≡◌, IfOk};
 ghost use Rattle.wire_defs.specs.Fault.{Reads};
 ghost use Rattle.wire_defs.specs.Close.{SpellsCloseResponse, close_response_fault, close_response_spelling};
 
-use smb_bytes::{Bytes, Cursor, Out};
+use smb_bytes::{Bytes, FixedOut, fields_fit, u16_at, u32_at, u64_at};
 use smb_header::MessageError;
 use std::alloc::{AllocError, Global};
 use wire_defs::CloseResponse;
@@ -11,18 +11,16 @@ use wire_defs::CloseResponse;
 pub fn read_close_response(m: &[u8]) -> Result<CloseResponse, MessageError>
     ensures { Reads (close_response_fault m.now) (SpellsCloseResponse m.now) (λ v. v) result }
 {
-    let mut cursor = Cursor::new(m);
-    let _header = cursor.take(64)?;
-    let size = cursor.get_u16()?;
-    let flags = cursor.get_u16()?;
-    let _reserved = cursor.get_u32()?;
-    let creation_time = cursor.get_u64()?;
-    let last_access_time = cursor.get_u64()?;
-    let last_write_time = cursor.get_u64()?;
-    let change_time = cursor.get_u64()?;
-    let allocation_size = cursor.get_u64()?;
-    let end_of_file = cursor.get_u64()?;
-    let file_attributes = cursor.get_u32()?;
+    fields_fit(m, &[64, 2, 2, 4, 8, 8, 8, 8, 8, 8, 4])?;
+    let size = u16_at(m, 64);
+    let flags = u16_at(m, 66);
+    let creation_time = u64_at(m, 72);
+    let last_access_time = u64_at(m, 80);
+    let last_write_time = u64_at(m, 88);
+    let change_time = u64_at(m, 96);
+    let allocation_size = u64_at(m, 104);
+    let end_of_file = u64_at(m, 112);
+    let file_attributes = u32_at(m, 120);
     if size != 60 {
         return Err(MessageError::BadSize(size));
     }
@@ -42,16 +40,16 @@ pub fn read_close_response(m: &[u8]) -> Result<CloseResponse, MessageError>
 pub fn write_close_response(alloc: Global, v: &CloseResponse) -> Result<Bytes, AllocError>
     ensures { IfOk result (λ b. b ≡ close_response_spelling v.now) }
 {
-    let mut out = Out::new(alloc);
-    out.put_u16(60)?;
-    out.put_u16(v.flags)?;
-    out.put_u32(0)?;
-    out.put_u64(v.creation_time)?;
-    out.put_u64(v.last_access_time)?;
-    out.put_u64(v.last_write_time)?;
-    out.put_u64(v.change_time)?;
-    out.put_u64(v.allocation_size)?;
-    out.put_u64(v.end_of_file)?;
-    out.put_u32(v.file_attributes)?;
-    Ok(out.finish())
+    let mut fixed = FixedOut::<60>::new();
+    fixed.put_u16(60);
+    fixed.put_u16(v.flags);
+    fixed.put_u32(0);
+    fixed.put_u64(v.creation_time);
+    fixed.put_u64(v.last_access_time);
+    fixed.put_u64(v.last_write_time);
+    fixed.put_u64(v.change_time);
+    fixed.put_u64(v.allocation_size);
+    fixed.put_u64(v.end_of_file);
+    fixed.put_u32(v.file_attributes);
+    Bytes::from_slice(alloc, &fixed.finish())
 }

@@ -5,7 +5,7 @@ ghost use Rattle.wire_defs.specs.Create.{SpellsCreateRequest, create_request_fau
 ghost use Rattle.msg_file.specs.Views.{create_request};
 
 use crate::create::CreateRequest;
-use smb_bytes::{Bytes, Cursor, Out};
+use smb_bytes::{Bytes, FixedOut, Out, fields_fit, u8_at, u16_at, u32_at};
 use smb_header::{MessageError, Part, part_of};
 use std::alloc::{AllocError, Global};
 
@@ -13,23 +13,19 @@ use std::alloc::{AllocError, Global};
 pub fn read_create_request(m: &[u8]) -> Result<CreateRequest<'_>, MessageError>
     ensures { Reads (create_request_fault m.now) (SpellsCreateRequest m.now) create_request result }
 {
-    let mut cursor = Cursor::new(m);
-    let _header = cursor.take(64)?;
-    let size = cursor.get_u16()?;
-    let _security_flags = cursor.get_u8()?;
-    let requested_oplock_level = cursor.get_u8()?;
-    let impersonation_level = cursor.get_u32()?;
-    let _create_flags = cursor.get_u64()?;
-    let _reserved = cursor.get_u64()?;
-    let desired_access = cursor.get_u32()?;
-    let file_attributes = cursor.get_u32()?;
-    let share_access = cursor.get_u32()?;
-    let create_disposition = cursor.get_u32()?;
-    let create_options = cursor.get_u32()?;
-    let name_at = cursor.get_u16()?;
-    let name_len = cursor.get_u16()?;
-    let contexts_at = cursor.get_u32()?;
-    let contexts_len = cursor.get_u32()?;
+    fields_fit(m, &[64, 2, 1, 1, 4, 8, 8, 4, 4, 4, 4, 4, 2, 2, 4, 4])?;
+    let size = u16_at(m, 64);
+    let requested_oplock_level = u8_at(m, 67);
+    let impersonation_level = u32_at(m, 68);
+    let desired_access = u32_at(m, 88);
+    let file_attributes = u32_at(m, 92);
+    let share_access = u32_at(m, 96);
+    let create_disposition = u32_at(m, 100);
+    let create_options = u32_at(m, 104);
+    let name_at = u16_at(m, 108);
+    let name_len = u16_at(m, 110);
+    let contexts_at = u32_at(m, 112);
+    let contexts_len = u32_at(m, 116);
     if size != 57 {
         return Err(MessageError::BadSize(size));
     }
@@ -94,22 +90,24 @@ pub fn write_create_request(alloc: Global, v: &CreateRequest<'_>) -> Result<Byte
     requires contexts { length v.now.contexts.now < 2 ^ 32 }
     ensures { IfOk result (λ b. b ≡ create_request_spelling (create_request v.now)) }
 {
+    let mut fixed = FixedOut::<56>::new();
+    fixed.put_u16(57);
+    fixed.put_u8(0);
+    fixed.put_u8(v.requested_oplock_level);
+    fixed.put_u32(v.impersonation_level);
+    fixed.put_u64(0);
+    fixed.put_u64(0);
+    fixed.put_u32(v.desired_access);
+    fixed.put_u32(v.file_attributes);
+    fixed.put_u32(v.share_access);
+    fixed.put_u32(v.create_disposition);
+    fixed.put_u32(v.create_options);
+    fixed.put_u16(120);
+    fixed.put_u16(v.name.len() as u16);
+    fixed.put_u32(place_of(v));
+    fixed.put_u32(v.contexts.len() as u32);
     let mut out = Out::new(alloc);
-    out.put_u16(57)?;
-    out.put_u8(0)?;
-    out.put_u8(v.requested_oplock_level)?;
-    out.put_u32(v.impersonation_level)?;
-    out.put_u64(0)?;
-    out.put_u64(0)?;
-    out.put_u32(v.desired_access)?;
-    out.put_u32(v.file_attributes)?;
-    out.put_u32(v.share_access)?;
-    out.put_u32(v.create_disposition)?;
-    out.put_u32(v.create_options)?;
-    out.put_u16(120)?;
-    out.put_u16(v.name.len() as u16)?;
-    out.put_u32(place_of(v))?;
-    out.put_u32(v.contexts.len() as u32)?;
+    out.put_slice(&fixed.finish())?;
     out.put_slice(v.name)?;
     out.put_zeros(gap_of(v))?;
     out.put_slice(v.contexts)?;

@@ -4,7 +4,7 @@ ghost use Rattle.wire_defs.specs.CreateResponse.{SpellsCreateResponse, create_re
 ghost use Rattle.msg_file.specs.Views.{create_response};
 
 use crate::create::CreateResponse;
-use smb_bytes::{Bytes, Cursor, Out};
+use smb_bytes::{Bytes, FixedOut, Out, array_at, fields_fit, u8_at, u16_at, u32_at, u64_at};
 use smb_header::{MessageError, Part, part_of, told_place};
 use std::alloc::{AllocError, Global};
 
@@ -12,23 +12,21 @@ use std::alloc::{AllocError, Global};
 pub fn read_create_response(m: &[u8]) -> Result<CreateResponse<'_>, MessageError>
     ensures { Reads (create_response_fault m.now) (SpellsCreateResponse m.now) create_response result }
 {
-    let mut cursor = Cursor::new(m);
-    let _header = cursor.take(64)?;
-    let size = cursor.get_u16()?;
-    let oplock_level = cursor.get_u8()?;
-    let flags = cursor.get_u8()?;
-    let create_action = cursor.get_u32()?;
-    let creation_time = cursor.get_u64()?;
-    let last_access_time = cursor.get_u64()?;
-    let last_write_time = cursor.get_u64()?;
-    let change_time = cursor.get_u64()?;
-    let allocation_size = cursor.get_u64()?;
-    let end_of_file = cursor.get_u64()?;
-    let file_attributes = cursor.get_u32()?;
-    let _reserved = cursor.get_u32()?;
-    let file_id = cursor.get_array::<16>()?;
-    let contexts_at = cursor.get_u32()?;
-    let contexts_len = cursor.get_u32()?;
+    fields_fit(m, &[64, 2, 1, 1, 4, 8, 8, 8, 8, 8, 8, 4, 4, 16, 4, 4])?;
+    let size = u16_at(m, 64);
+    let oplock_level = u8_at(m, 66);
+    let flags = u8_at(m, 67);
+    let create_action = u32_at(m, 68);
+    let creation_time = u64_at(m, 72);
+    let last_access_time = u64_at(m, 80);
+    let last_write_time = u64_at(m, 88);
+    let change_time = u64_at(m, 96);
+    let allocation_size = u64_at(m, 104);
+    let end_of_file = u64_at(m, 112);
+    let file_attributes = u32_at(m, 120);
+    let file_id = array_at::<16>(m, 128);
+    let contexts_at = u32_at(m, 144);
+    let contexts_len = u32_at(m, 148);
     if size != 89 {
         return Err(MessageError::BadSize(size));
     }
@@ -61,22 +59,24 @@ pub fn write_create_response(alloc: Global, v: &CreateResponse<'_>) -> Result<By
     requires { length v.now.contexts.now < 2 ^ 32 }
     ensures { IfOk result (λ b. b ≡ create_response_spelling (create_response v.now)) }
 {
+    let mut fixed = FixedOut::<88>::new();
+    fixed.put_u16(89);
+    fixed.put_u8(v.oplock_level);
+    fixed.put_u8(v.flags);
+    fixed.put_u32(v.create_action);
+    fixed.put_u64(v.creation_time);
+    fixed.put_u64(v.last_access_time);
+    fixed.put_u64(v.last_write_time);
+    fixed.put_u64(v.change_time);
+    fixed.put_u64(v.allocation_size);
+    fixed.put_u64(v.end_of_file);
+    fixed.put_u32(v.file_attributes);
+    fixed.put_u32(0);
+    fixed.put_slice(&v.file_id);
+    fixed.put_u32(told_place(v.contexts.len(), 152));
+    fixed.put_u32(v.contexts.len() as u32);
     let mut out = Out::new(alloc);
-    out.put_u16(89)?;
-    out.put_u8(v.oplock_level)?;
-    out.put_u8(v.flags)?;
-    out.put_u32(v.create_action)?;
-    out.put_u64(v.creation_time)?;
-    out.put_u64(v.last_access_time)?;
-    out.put_u64(v.last_write_time)?;
-    out.put_u64(v.change_time)?;
-    out.put_u64(v.allocation_size)?;
-    out.put_u64(v.end_of_file)?;
-    out.put_u32(v.file_attributes)?;
-    out.put_u32(0)?;
-    out.put_slice(&v.file_id)?;
-    out.put_u32(told_place(v.contexts.len(), 152))?;
-    out.put_u32(v.contexts.len() as u32)?;
+    out.put_slice(&fixed.finish())?;
     out.put_slice(v.contexts)?;
     Ok(out.finish())
 }

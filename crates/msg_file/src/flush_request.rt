@@ -2,7 +2,7 @@ ghost use Rattle.std.specs.Prelude.{◌≡◌, IfOk};
 ghost use Rattle.wire_defs.specs.Fault.{Reads};
 ghost use Rattle.wire_defs.specs.Flush.{SpellsFlushRequest, flush_request_fault, flush_request_spelling};
 
-use smb_bytes::{Bytes, Cursor, Out};
+use smb_bytes::{Bytes, FixedOut, array_at, fields_fit, u16_at};
 use smb_header::MessageError;
 use std::alloc::{AllocError, Global};
 use wire_defs::FlushRequest;
@@ -11,12 +11,9 @@ use wire_defs::FlushRequest;
 pub fn read_flush_request(m: &[u8]) -> Result<FlushRequest, MessageError>
     ensures { Reads (flush_request_fault m.now) (SpellsFlushRequest m.now) (λ v. v) result }
 {
-    let mut cursor = Cursor::new(m);
-    let _header = cursor.take(64)?;
-    let size = cursor.get_u16()?;
-    let _reserved = cursor.get_u16()?;
-    let _reserved_too = cursor.get_u32()?;
-    let file_id = cursor.get_array::<16>()?;
+    fields_fit(m, &[64, 2, 2, 4, 16])?;
+    let size = u16_at(m, 64);
+    let file_id = array_at::<16>(m, 72);
     if size != 24 {
         return Err(MessageError::BadSize(size));
     }
@@ -27,10 +24,10 @@ pub fn read_flush_request(m: &[u8]) -> Result<FlushRequest, MessageError>
 pub fn write_flush_request(alloc: Global, v: &FlushRequest) -> Result<Bytes, AllocError>
     ensures { IfOk result (λ b. b ≡ flush_request_spelling v.now) }
 {
-    let mut out = Out::new(alloc);
-    out.put_u16(24)?;
-    out.put_u16(0)?;
-    out.put_u32(0)?;
-    out.put_slice(&v.file_id)?;
-    Ok(out.finish())
+    let mut fixed = FixedOut::<24>::new();
+    fixed.put_u16(24);
+    fixed.put_u16(0);
+    fixed.put_u32(0);
+    fixed.put_slice(&v.file_id);
+    Bytes::from_slice(alloc, &fixed.finish())
 }

@@ -6,7 +6,7 @@ ghost use Rattle.wire_defs.specs.Lock.{lock_element_spelling};
 ghost use Rattle.msg_file.specs.Views.{lock_request};
 
 use crate::lock::LockRequest;
-use smb_bytes::{Bytes, Cursor, FixedOut, Out, Short};
+use smb_bytes::{Bytes, Cursor, FixedOut, Out, Short, array_at, fields_fit, u16_at, u32_at};
 use smb_header::{MessageError, Part, counted_at};
 use std::alloc::{AllocError, Global};
 use wire_defs::LockElement;
@@ -15,12 +15,11 @@ use wire_defs::LockElement;
 pub fn read_lock_request(m: &[u8]) -> Result<LockRequest<'_>, MessageError>
     ensures { Reads (lock_request_fault m.now) (SpellsLockRequest m.now) lock_request result }
 {
-    let mut cursor = Cursor::new(m);
-    let _header = cursor.take(64)?;
-    let size = cursor.get_u16()?;
-    let count = cursor.get_u16()?;
-    let lock_sequence = cursor.get_u32()?;
-    let file_id = cursor.get_array::<16>()?;
+    fields_fit(m, &[64, 2, 2, 4, 16])?;
+    let size = u16_at(m, 64);
+    let count = u16_at(m, 66);
+    let lock_sequence = u32_at(m, 68);
+    let file_id = array_at::<16>(m, 72);
     if size != 48 {
         return Err(MessageError::BadSize(size));
     }
@@ -40,11 +39,13 @@ pub fn write_lock_request(alloc: Global, v: &LockRequest<'_>) -> Result<Bytes, A
     requires fits { length v.now.locks.now < 24 * 2 ^ 16 }
     ensures { IfOk result (λ b. b ≡ lock_request_spelling (lock_request v.now)) }
 {
+    let mut fixed = FixedOut::<24>::new();
+    fixed.put_u16(48);
+    fixed.put_u16((v.locks.len() / 24) as u16);
+    fixed.put_u32(v.lock_sequence);
+    fixed.put_slice(&v.file_id);
     let mut out = Out::new(alloc);
-    out.put_u16(48)?;
-    out.put_u16((v.locks.len() / 24) as u16)?;
-    out.put_u32(v.lock_sequence)?;
-    out.put_slice(&v.file_id)?;
+    out.put_slice(&fixed.finish())?;
     out.put_slice(v.locks)?;
     Ok(out.finish())
 }

@@ -2,7 +2,7 @@ ghost use Rattle.std.specs.Prelude.{◌≡◌, IfOk};
 ghost use Rattle.wire_defs.specs.Fault.{Reads};
 ghost use Rattle.wire_defs.specs.LockResponse.{SpellsLockResponse, lock_response_fault, lock_response_spelling};
 
-use smb_bytes::{Bytes, Cursor, Out};
+use smb_bytes::{Bytes, Out, fields_fit, u16_at};
 use smb_header::MessageError;
 use std::alloc::{AllocError, Global};
 use wire_defs::LockResponse;
@@ -11,10 +11,8 @@ use wire_defs::LockResponse;
 pub fn read_lock_response(m: &[u8]) -> Result<LockResponse, MessageError>
     ensures { Reads (lock_response_fault m.now) (SpellsLockResponse m.now) (λ v. v) result }
 {
-    let mut cursor = Cursor::new(m);
-    let _header = cursor.take(64)?;
-    let size = cursor.get_u16()?;
-    let _reserved = cursor.get_u16()?;
+    fields_fit(m, &[64, 2, 2])?;
+    let size = u16_at(m, 64);
     if size != 4 {
         return Err(MessageError::BadSize(size));
     }

@@ -2,7 +2,7 @@ ghost use Rattle.std.specs.Prelude.{◌≡◌, IfOk};
 ghost use Rattle.wire_defs.specs.Fault.{Reads};
 ghost use Rattle.wire_defs.specs.Read.{SpellsReadRequest, read_request_fault, read_request_spelling};
 
-use smb_bytes::{Bytes, Cursor, Out};
+use smb_bytes::{Bytes, FixedOut, array_at, fields_fit, u8_at, u16_at, u32_at, u64_at};
 use smb_header::MessageError;
 use std::alloc::{AllocError, Global};
 use wire_defs::ReadRequest;
@@ -11,20 +11,15 @@ use wire_defs::ReadRequest;
 pub fn read_read_request(m: &[u8]) -> Result<ReadRequest, MessageError>
     ensures { Reads (read_request_fault m.now) (SpellsReadRequest m.now) (λ v. v) result }
 {
-    let mut cursor = Cursor::new(m);
-    let _header = cursor.take(64)?;
-    let size = cursor.get_u16()?;
-    let _padding = cursor.get_u8()?;
-    let flags = cursor.get_u8()?;
-    let length = cursor.get_u32()?;
-    let offset = cursor.get_u64()?;
-    let file_id = cursor.get_array::<16>()?;
-    let minimum_count = cursor.get_u32()?;
-    let channel = cursor.get_u32()?;
-    let remaining_bytes = cursor.get_u32()?;
-    let _information_at = cursor.get_u16()?;
-    let _information_len = cursor.get_u16()?;
-    let _information = cursor.get_u8()?;
+    fields_fit(m, &[64, 2, 1, 1, 4, 8, 16, 4, 4, 4, 2, 2, 1])?;
+    let size = u16_at(m, 64);
+    let flags = u8_at(m, 67);
+    let length = u32_at(m, 68);
+    let offset = u64_at(m, 72);
+    let file_id = array_at::<16>(m, 80);
+    let minimum_count = u32_at(m, 96);
+    let channel = u32_at(m, 100);
+    let remaining_bytes = u32_at(m, 104);
     if size != 49 {
         return Err(MessageError::BadSize(size));
     }
@@ -43,18 +38,18 @@ pub fn read_read_request(m: &[u8]) -> Result<ReadRequest, MessageError>
 pub fn write_read_request(alloc: Global, v: &ReadRequest) -> Result<Bytes, AllocError>
     ensures { IfOk result (λ b. b ≡ read_request_spelling v.now) }
 {
-    let mut out = Out::new(alloc);
-    out.put_u16(49)?;
-    out.put_u8(0)?;
-    out.put_u8(v.flags)?;
-    out.put_u32(v.length)?;
-    out.put_u64(v.offset)?;
-    out.put_slice(&v.file_id)?;
-    out.put_u32(v.minimum_count)?;
-    out.put_u32(v.channel)?;
-    out.put_u32(v.remaining_bytes)?;
-    out.put_u16(0)?;
-    out.put_u16(0)?;
-    out.put_u8(0)?;
-    Ok(out.finish())
+    let mut fixed = FixedOut::<49>::new();
+    fixed.put_u16(49);
+    fixed.put_u8(0);
+    fixed.put_u8(v.flags);
+    fixed.put_u32(v.length);
+    fixed.put_u64(v.offset);
+    fixed.put_slice(&v.file_id);
+    fixed.put_u32(v.minimum_count);
+    fixed.put_u32(v.channel);
+    fixed.put_u32(v.remaining_bytes);
+    fixed.put_u16(0);
+    fixed.put_u16(0);
+    fixed.put_u8(0);
+    Bytes::from_slice(alloc, &fixed.finish())
 }

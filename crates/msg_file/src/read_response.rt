@@ -5,7 +5,7 @@ ghost use Rattle.wire_defs.specs.Read.{SpellsReadResponse, read_response_fault, 
 ghost use Rattle.msg_file.specs.Views.{read_response};
 
 use crate::read::ReadResponse;
-use smb_bytes::{Bytes, Cursor, Out};
+use smb_bytes::{Bytes, FixedOut, Out, fields_fit, u8_at, u16_at, u32_at};
 use smb_header::{MessageError, Part, part_of};
 use std::alloc::{AllocError, Global};
 
@@ -13,14 +13,11 @@ use std::alloc::{AllocError, Global};
 pub fn read_read_response(m: &[u8]) -> Result<ReadResponse<'_>, MessageError>
     ensures { Reads (read_response_fault m.now) (SpellsReadResponse m.now) read_response result }
 {
-    let mut cursor = Cursor::new(m);
-    let _header = cursor.take(64)?;
-    let size = cursor.get_u16()?;
-    let payload_at = cursor.get_u8()?;
-    let _reserved = cursor.get_u8()?;
-    let payload_len = cursor.get_u32()?;
-    let data_remaining = cursor.get_u32()?;
-    let _reserved_too = cursor.get_u32()?;
+    fields_fit(m, &[64, 2, 1, 1, 4, 4, 4])?;
+    let size = u16_at(m, 64);
+    let payload_at = u8_at(m, 66);
+    let payload_len = u32_at(m, 68);
+    let data_remaining = u32_at(m, 72);
     if size != 17 {
         return Err(MessageError::BadSize(size));
     }
@@ -50,13 +47,15 @@ pub fn write_read_response(alloc: Global, v: &ReadResponse<'_>) -> Result<Bytes,
     requires { length v.now.payload.now < 2 ^ 32 }
     ensures { IfOk result (λ b. b ≡ read_response_spelling (read_response v.now)) }
 {
+    let mut fixed = FixedOut::<16>::new();
+    fixed.put_u16(17);
+    fixed.put_u8(80);
+    fixed.put_u8(0);
+    fixed.put_u32(v.payload.len() as u32);
+    fixed.put_u32(v.data_remaining);
+    fixed.put_u32(0);
     let mut out = Out::new(alloc);
-    out.put_u16(17)?;
-    out.put_u8(80)?;
-    out.put_u8(0)?;
-    out.put_u32(v.payload.len() as u32)?;
-    out.put_u32(v.data_remaining)?;
-    out.put_u32(0)?;
+    out.put_slice(&fixed.finish())?;
     out.put_slice(v.payload)?;
     out.put_zeros(filler_of(v.payload))?;
     Ok(out.finish())

@@ -4,7 +4,7 @@ ghost use Rattle.wire_defs.specs.Write.{SpellsWriteRequest, write_request_fault,
 ghost use Rattle.msg_file.specs.Views.{write_request};
 
 use crate::write::WriteRequest;
-use smb_bytes::{Bytes, Cursor, Out};
+use smb_bytes::{Bytes, FixedOut, Out, array_at, fields_fit, u16_at, u32_at, u64_at};
 use smb_header::{MessageError, Part, part_of};
 use std::alloc::{AllocError, Global};
 
@@ -12,18 +12,15 @@ use std::alloc::{AllocError, Global};
 pub fn read_write_request(m: &[u8]) -> Result<WriteRequest<'_>, MessageError>
     ensures { Reads (write_request_fault m.now) (SpellsWriteRequest m.now) write_request result }
 {
-    let mut cursor = Cursor::new(m);
-    let _header = cursor.take(64)?;
-    let size = cursor.get_u16()?;
-    let payload_at = cursor.get_u16()?;
-    let payload_len = cursor.get_u32()?;
-    let offset = cursor.get_u64()?;
-    let file_id = cursor.get_array::<16>()?;
-    let channel = cursor.get_u32()?;
-    let remaining_bytes = cursor.get_u32()?;
-    let _information_at = cursor.get_u16()?;
-    let _information_len = cursor.get_u16()?;
-    let flags = cursor.get_u32()?;
+    fields_fit(m, &[64, 2, 2, 4, 8, 16, 4, 4, 2, 2, 4])?;
+    let size = u16_at(m, 64);
+    let payload_at = u16_at(m, 66);
+    let payload_len = u32_at(m, 68);
+    let offset = u64_at(m, 72);
+    let file_id = array_at::<16>(m, 80);
+    let channel = u32_at(m, 96);
+    let remaining_bytes = u32_at(m, 100);
+    let flags = u32_at(m, 108);
     if size != 49 {
         return Err(MessageError::BadSize(size));
     }
@@ -50,17 +47,19 @@ pub fn write_write_request(alloc: Global, v: &WriteRequest<'_>) -> Result<Bytes,
     requires { length v.now.payload.now < 2 ^ 32 }
     ensures { IfOk result (λ b. b ≡ write_request_spelling (write_request v.now)) }
 {
+    let mut fixed = FixedOut::<48>::new();
+    fixed.put_u16(49);
+    fixed.put_u16(112);
+    fixed.put_u32(v.payload.len() as u32);
+    fixed.put_u64(v.offset);
+    fixed.put_slice(&v.file_id);
+    fixed.put_u32(v.channel);
+    fixed.put_u32(v.remaining_bytes);
+    fixed.put_u16(0);
+    fixed.put_u16(0);
+    fixed.put_u32(v.flags);
     let mut out = Out::new(alloc);
-    out.put_u16(49)?;
-    out.put_u16(112)?;
-    out.put_u32(v.payload.len() as u32)?;
-    out.put_u64(v.offset)?;
-    out.put_slice(&v.file_id)?;
-    out.put_u32(v.channel)?;
-    out.put_u32(v.remaining_bytes)?;
-    out.put_u16(0)?;
-    out.put_u16(0)?;
-    out.put_u32(v.flags)?;
+    out.put_slice(&fixed.finish())?;
     out.put_slice(v.payload)?;
     Ok(out.finish())
 }

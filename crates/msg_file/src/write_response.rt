@@ -2,7 +2,7 @@ ghost use Rattle.std.specs.Prelude.{◌≡◌, IfOk};
 ghost use Rattle.wire_defs.specs.Fault.{Reads};
 ghost use Rattle.wire_defs.specs.Write.{SpellsWriteResponse, write_response_fault, write_response_spelling};
 
-use smb_bytes::{Bytes, Cursor, Out};
+use smb_bytes::{Bytes, FixedOut, fields_fit, u16_at, u32_at};
 use smb_header::MessageError;
 use std::alloc::{AllocError, Global};
 use wire_defs::WriteResponse;
@@ -11,14 +11,10 @@ use wire_defs::WriteResponse;
 pub fn read_write_response(m: &[u8]) -> Result<WriteResponse, MessageError>
     ensures { Reads (write_response_fault m.now) (SpellsWriteResponse m.now) (λ v. v) result }
 {
-    let mut cursor = Cursor::new(m);
-    let _header = cursor.take(64)?;
-    let size = cursor.get_u16()?;
-    let _reserved = cursor.get_u16()?;
-    let count = cursor.get_u32()?;
-    let remaining = cursor.get_u32()?;
-    let _information_at = cursor.get_u16()?;
-    let _information_len = cursor.get_u16()?;
+    fields_fit(m, &[64, 2, 2, 4, 4, 2, 2])?;
+    let size = u16_at(m, 64);
+    let count = u32_at(m, 68);
+    let remaining = u32_at(m, 72);
     if size != 17 {
         return Err(MessageError::BadSize(size));
     }
@@ -29,12 +25,12 @@ pub fn read_write_response(m: &[u8]) -> Result<WriteResponse, MessageError>
 pub fn write_write_response(alloc: Global, v: &WriteResponse) -> Result<Bytes, AllocError>
     ensures { IfOk result (λ b. b ≡ write_response_spelling v.now) }
 {
-    let mut out = Out::new(alloc);
-    out.put_u16(17)?;
-    out.put_u16(0)?;
-    out.put_u32(v.count)?;
-    out.put_u32(v.remaining)?;
-    out.put_u16(0)?;
-    out.put_u16(0)?;
-    Ok(out.finish())
+    let mut fixed = FixedOut::<16>::new();
+    fixed.put_u16(17);
+    fixed.put_u16(0);
+    fixed.put_u32(v.count);
+    fixed.put_u32(v.remaining);
+    fixed.put_u16(0);
+    fixed.put_u16(0);
+    Bytes::from_slice(alloc, &fixed.finish())
 }

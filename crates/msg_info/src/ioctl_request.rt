@@ -4,7 +4,7 @@ ghost use Rattle.wire_defs.specs.Ioctl.{SpellsIoctlRequest, ioctl_request_fault,
 ghost use Rattle.msg_info.specs.Views.{ioctl_request};
 
 use crate::ioctl::IoctlRequest;
-use smb_bytes::{Bytes, Cursor, Out};
+use smb_bytes::{Bytes, FixedOut, Out, array_at, fields_fit, u16_at, u32_at};
 use smb_header::{MessageError, Part, gap_before, part_of, told_place};
 use std::alloc::{AllocError, Global};
 
@@ -12,20 +12,17 @@ use std::alloc::{AllocError, Global};
 pub fn read_ioctl_request(m: &[u8]) -> Result<IoctlRequest<'_>, MessageError>
     ensures { Reads (ioctl_request_fault m.now) (SpellsIoctlRequest m.now) ioctl_request result }
 {
-    let mut cursor = Cursor::new(m);
-    let _header = cursor.take(64)?;
-    let size = cursor.get_u16()?;
-    let _reserved = cursor.get_u16()?;
-    let ctl_code = cursor.get_u32()?;
-    let file_id = cursor.get_array::<16>()?;
-    let input_at = cursor.get_u32()?;
-    let input_len = cursor.get_u32()?;
-    let max_input_response = cursor.get_u32()?;
-    let output_at = cursor.get_u32()?;
-    let output_len = cursor.get_u32()?;
-    let max_output_response = cursor.get_u32()?;
-    let flags = cursor.get_u32()?;
-    let _reserved_too = cursor.get_u32()?;
+    fields_fit(m, &[64, 2, 2, 4, 16, 4, 4, 4, 4, 4, 4, 4, 4])?;
+    let size = u16_at(m, 64);
+    let ctl_code = u32_at(m, 68);
+    let file_id = array_at::<16>(m, 72);
+    let input_at = u32_at(m, 88);
+    let input_len = u32_at(m, 92);
+    let max_input_response = u32_at(m, 96);
+    let output_at = u32_at(m, 100);
+    let output_len = u32_at(m, 104);
+    let max_output_response = u32_at(m, 108);
+    let flags = u32_at(m, 112);
     if size != 57 {
         return Err(MessageError::BadSize(size));
     }
@@ -57,19 +54,21 @@ pub fn write_ioctl_request(alloc: Global, v: &IoctlRequest<'_>) -> Result<Bytes,
 {
     let gap = gap_before(v.output.len(), v.input.len());
     let output_at = 120 + v.input.len() as u32 + gap as u32;
+    let mut fixed = FixedOut::<56>::new();
+    fixed.put_u16(57);
+    fixed.put_u16(0);
+    fixed.put_u32(v.ctl_code);
+    fixed.put_slice(&v.file_id);
+    fixed.put_u32(told_place(v.input.len(), 120));
+    fixed.put_u32(v.input.len() as u32);
+    fixed.put_u32(v.max_input_response);
+    fixed.put_u32(told_place(v.output.len(), output_at));
+    fixed.put_u32(v.output.len() as u32);
+    fixed.put_u32(v.max_output_response);
+    fixed.put_u32(v.flags);
+    fixed.put_u32(0);
     let mut out = Out::new(alloc);
-    out.put_u16(57)?;
-    out.put_u16(0)?;
-    out.put_u32(v.ctl_code)?;
-    out.put_slice(&v.file_id)?;
-    out.put_u32(told_place(v.input.len(), 120))?;
-    out.put_u32(v.input.len() as u32)?;
-    out.put_u32(v.max_input_response)?;
-    out.put_u32(told_place(v.output.len(), output_at))?;
-    out.put_u32(v.output.len() as u32)?;
-    out.put_u32(v.max_output_response)?;
-    out.put_u32(v.flags)?;
-    out.put_u32(0)?;
+    out.put_slice(&fixed.finish())?;
     out.put_slice(v.input)?;
     out.put_zeros(gap)?;
     out.put_slice(v.output)?;

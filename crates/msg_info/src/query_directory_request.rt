@@ -6,7 +6,7 @@ ghost use Rattle.msg_info.specs.Views.{query_directory_request};
 
 use crate::known::{check_class, is_directory_class};
 use crate::query_directory::QueryDirectoryRequest;
-use smb_bytes::{Bytes, Cursor, Out};
+use smb_bytes::{Bytes, FixedOut, Out, array_at, fields_fit, u8_at, u16_at, u32_at};
 use smb_header::{MessageError, Part, part_of, told_place};
 use std::alloc::{AllocError, Global};
 
@@ -14,16 +14,15 @@ use std::alloc::{AllocError, Global};
 pub fn read_query_directory_request(m: &[u8]) -> Result<QueryDirectoryRequest<'_>, MessageError>
     ensures { Reads (query_directory_request_fault m.now) (SpellsQueryDirectoryRequest m.now) query_directory_request result }
 {
-    let mut cursor = Cursor::new(m);
-    let _header = cursor.take(64)?;
-    let size = cursor.get_u16()?;
-    let file_information_class = cursor.get_u8()?;
-    let flags = cursor.get_u8()?;
-    let file_index = cursor.get_u32()?;
-    let file_id = cursor.get_array::<16>()?;
-    let name_at = cursor.get_u16()?;
-    let name_len = cursor.get_u16()?;
-    let output_buffer_length = cursor.get_u32()?;
+    fields_fit(m, &[64, 2, 1, 1, 4, 16, 2, 2, 4])?;
+    let size = u16_at(m, 64);
+    let file_information_class = u8_at(m, 66);
+    let flags = u8_at(m, 67);
+    let file_index = u32_at(m, 68);
+    let file_id = array_at::<16>(m, 72);
+    let name_at = u16_at(m, 88);
+    let name_len = u16_at(m, 90);
+    let output_buffer_length = u32_at(m, 92);
     if size != 33 {
         return Err(MessageError::BadSize(size));
     }
@@ -51,15 +50,17 @@ pub fn write_query_directory_request(
     requires { length v.now.name.now < 2 ^ 16 }
     ensures { IfOk result (λ b. b ≡ query_directory_request_spelling (query_directory_request v.now)) }
 {
+    let mut fixed = FixedOut::<32>::new();
+    fixed.put_u16(33);
+    fixed.put_u8(v.file_information_class);
+    fixed.put_u8(v.flags);
+    fixed.put_u32(v.file_index);
+    fixed.put_slice(&v.file_id);
+    fixed.put_u16(told_place(v.name.len(), 96) as u16);
+    fixed.put_u16(v.name.len() as u16);
+    fixed.put_u32(v.output_buffer_length);
     let mut out = Out::new(alloc);
-    out.put_u16(33)?;
-    out.put_u8(v.file_information_class)?;
-    out.put_u8(v.flags)?;
-    out.put_u32(v.file_index)?;
-    out.put_slice(&v.file_id)?;
-    out.put_u16(told_place(v.name.len(), 96) as u16)?;
-    out.put_u16(v.name.len() as u16)?;
-    out.put_u32(v.output_buffer_length)?;
+    out.put_slice(&fixed.finish())?;
     out.put_slice(v.name)?;
     Ok(out.finish())
 }

@@ -5,7 +5,7 @@ ghost use Rattle.wire_defs.specs.QueryDirectory.{query_directory_response_spelli
 ghost use Rattle.msg_info.specs.Views.{query_directory_response};
 
 use crate::query_directory::QueryDirectoryResponse;
-use smb_bytes::{Bytes, Cursor, Out};
+use smb_bytes::{Bytes, FixedOut, Out, fields_fit, u16_at, u32_at};
 use smb_header::{MessageError, Part, part_of};
 use std::alloc::{AllocError, Global};
 
@@ -13,11 +13,10 @@ use std::alloc::{AllocError, Global};
 pub fn read_query_directory_response(m: &[u8]) -> Result<QueryDirectoryResponse<'_>, MessageError>
     ensures { Reads (query_directory_response_fault m.now) (SpellsQueryDirectoryResponse m.now) query_directory_response result }
 {
-    let mut cursor = Cursor::new(m);
-    let _header = cursor.take(64)?;
-    let size = cursor.get_u16()?;
-    let output_at = cursor.get_u16()?;
-    let output_len = cursor.get_u32()?;
+    fields_fit(m, &[64, 2, 2, 4])?;
+    let size = u16_at(m, 64);
+    let output_at = u16_at(m, 66);
+    let output_len = u32_at(m, 68);
     if size != 9 {
         return Err(MessageError::BadSize(size));
     }
@@ -34,10 +33,12 @@ pub fn write_query_directory_response(
     requires { length v.now.output.now < 2 ^ 32 }
     ensures { IfOk result (λ b. b ≡ query_directory_response_spelling (query_directory_response v.now)) }
 {
+    let mut fixed = FixedOut::<8>::new();
+    fixed.put_u16(9);
+    fixed.put_u16(72);
+    fixed.put_u32(v.output.len() as u32);
     let mut out = Out::new(alloc);
-    out.put_u16(9)?;
-    out.put_u16(72)?;
-    out.put_u32(v.output.len() as u32)?;
+    out.put_slice(&fixed.finish())?;
     out.put_slice(v.output)?;
     Ok(out.finish())
 }

@@ -5,7 +5,7 @@ ghost use Rattle.msg_info.specs.Views.{query_info_request};
 
 use crate::known::{check_class, is_query_class};
 use crate::query_info::QueryInfoRequest;
-use smb_bytes::{Bytes, Cursor, Out};
+use smb_bytes::{Bytes, FixedOut, Out, array_at, fields_fit, u8_at, u16_at, u32_at};
 use smb_header::{MessageError, Part, part_of, told_place};
 use std::alloc::{AllocError, Global};
 
@@ -13,18 +13,16 @@ use std::alloc::{AllocError, Global};
 pub fn read_query_info_request(m: &[u8]) -> Result<QueryInfoRequest<'_>, MessageError>
     ensures { Reads (query_info_request_fault m.now) (SpellsQueryInfoRequest m.now) query_info_request result }
 {
-    let mut cursor = Cursor::new(m);
-    let _header = cursor.take(64)?;
-    let size = cursor.get_u16()?;
-    let info_type = cursor.get_u8()?;
-    let file_info_class = cursor.get_u8()?;
-    let output_buffer_length = cursor.get_u32()?;
-    let input_at = cursor.get_u16()?;
-    let _reserved = cursor.get_u16()?;
-    let input_len = cursor.get_u32()?;
-    let additional_information = cursor.get_u32()?;
-    let flags = cursor.get_u32()?;
-    let file_id = cursor.get_array::<16>()?;
+    fields_fit(m, &[64, 2, 1, 1, 4, 2, 2, 4, 4, 4, 16])?;
+    let size = u16_at(m, 64);
+    let info_type = u8_at(m, 66);
+    let file_info_class = u8_at(m, 67);
+    let output_buffer_length = u32_at(m, 68);
+    let input_at = u16_at(m, 72);
+    let input_len = u32_at(m, 76);
+    let additional_information = u32_at(m, 80);
+    let flags = u32_at(m, 84);
+    let file_id = array_at::<16>(m, 88);
     if size != 41 {
         return Err(MessageError::BadSize(size));
     }
@@ -50,17 +48,19 @@ pub fn write_query_info_request(
     requires { length v.now.input.now < 2 ^ 32 }
     ensures { IfOk result (λ b. b ≡ query_info_request_spelling (query_info_request v.now)) }
 {
+    let mut fixed = FixedOut::<40>::new();
+    fixed.put_u16(41);
+    fixed.put_u8(v.info_type);
+    fixed.put_u8(v.file_info_class);
+    fixed.put_u32(v.output_buffer_length);
+    fixed.put_u16(told_place(v.input.len(), 104) as u16);
+    fixed.put_u16(0);
+    fixed.put_u32(v.input.len() as u32);
+    fixed.put_u32(v.additional_information);
+    fixed.put_u32(v.flags);
+    fixed.put_slice(&v.file_id);
     let mut out = Out::new(alloc);
-    out.put_u16(41)?;
-    out.put_u8(v.info_type)?;
-    out.put_u8(v.file_info_class)?;
-    out.put_u32(v.output_buffer_length)?;
-    out.put_u16(told_place(v.input.len(), 104) as u16)?;
-    out.put_u16(0)?;
-    out.put_u32(v.input.len() as u32)?;
-    out.put_u32(v.additional_information)?;
-    out.put_u32(v.flags)?;
-    out.put_slice(&v.file_id)?;
+    out.put_slice(&fixed.finish())?;
     out.put_slice(v.input)?;
     Ok(out.finish())
 }

@@ -4,7 +4,7 @@ ghost use Rattle.wire_defs.specs.QueryInfo.{SpellsQueryInfoResponse, query_info_
 ghost use Rattle.msg_info.specs.Views.{query_info_response};
 
 use crate::query_info::QueryInfoResponse;
-use smb_bytes::{Bytes, Cursor, Out};
+use smb_bytes::{Bytes, FixedOut, Out, fields_fit, u16_at, u32_at};
 use smb_header::{MessageError, Part, part_of};
 use std::alloc::{AllocError, Global};
 
@@ -12,11 +12,10 @@ use std::alloc::{AllocError, Global};
 pub fn read_query_info_response(m: &[u8]) -> Result<QueryInfoResponse<'_>, MessageError>
     ensures { Reads (query_info_response_fault m.now) (SpellsQueryInfoResponse m.now) query_info_response result }
 {
-    let mut cursor = Cursor::new(m);
-    let _header = cursor.take(64)?;
-    let size = cursor.get_u16()?;
-    let output_at = cursor.get_u16()?;
-    let output_len = cursor.get_u32()?;
+    fields_fit(m, &[64, 2, 2, 4])?;
+    let size = u16_at(m, 64);
+    let output_at = u16_at(m, 66);
+    let output_len = u32_at(m, 68);
     if size != 9 {
         return Err(MessageError::BadSize(size));
     }
@@ -33,10 +32,12 @@ pub fn write_query_info_response(
     requires { length v.now.output.now < 2 ^ 32 }
     ensures { IfOk result (λ b. b ≡ query_info_response_spelling (query_info_response v.now)) }
 {
+    let mut fixed = FixedOut::<8>::new();
+    fixed.put_u16(9);
+    fixed.put_u16(72);
+    fixed.put_u32(v.output.len() as u32);
     let mut out = Out::new(alloc);
-    out.put_u16(9)?;
-    out.put_u16(72)?;
-    out.put_u32(v.output.len() as u32)?;
+    out.put_slice(&fixed.finish())?;
     out.put_slice(v.output)?;
     Ok(out.finish())
 }

@@ -5,7 +5,7 @@ ghost use Rattle.msg_info.specs.Views.{set_info_request};
 
 use crate::known::{check_class, is_set_class};
 use crate::set_info::SetInfoRequest;
-use smb_bytes::{Bytes, Cursor, Out};
+use smb_bytes::{Bytes, FixedOut, Out, array_at, fields_fit, u8_at, u16_at, u32_at};
 use smb_header::{MessageError, Part, part_of};
 use std::alloc::{AllocError, Global};
 
@@ -13,16 +13,14 @@ use std::alloc::{AllocError, Global};
 pub fn read_set_info_request(m: &[u8]) -> Result<SetInfoRequest<'_>, MessageError>
     ensures { Reads (set_info_request_fault m.now) (SpellsSetInfoRequest m.now) set_info_request result }
 {
-    let mut cursor = Cursor::new(m);
-    let _header = cursor.take(64)?;
-    let size = cursor.get_u16()?;
-    let info_type = cursor.get_u8()?;
-    let file_info_class = cursor.get_u8()?;
-    let payload_len = cursor.get_u32()?;
-    let payload_at = cursor.get_u16()?;
-    let _reserved = cursor.get_u16()?;
-    let additional_information = cursor.get_u32()?;
-    let file_id = cursor.get_array::<16>()?;
+    fields_fit(m, &[64, 2, 1, 1, 4, 2, 2, 4, 16])?;
+    let size = u16_at(m, 64);
+    let info_type = u8_at(m, 66);
+    let file_info_class = u8_at(m, 67);
+    let payload_len = u32_at(m, 68);
+    let payload_at = u16_at(m, 72);
+    let additional_information = u32_at(m, 76);
+    let file_id = array_at::<16>(m, 80);
     if size != 33 {
         return Err(MessageError::BadSize(size));
     }
@@ -49,15 +47,17 @@ pub fn write_set_info_request(alloc: Global, v: &SetInfoRequest<'_>) -> Result<B
     requires { length v.now.payload.now < 2 ^ 32 }
     ensures { IfOk result (λ b. b ≡ set_info_request_spelling (set_info_request v.now)) }
 {
+    let mut fixed = FixedOut::<32>::new();
+    fixed.put_u16(33);
+    fixed.put_u8(v.info_type);
+    fixed.put_u8(v.file_info_class);
+    fixed.put_u32(v.payload.len() as u32);
+    fixed.put_u16(96);
+    fixed.put_u16(0);
+    fixed.put_u32(v.additional_information);
+    fixed.put_slice(&v.file_id);
     let mut out = Out::new(alloc);
-    out.put_u16(33)?;
-    out.put_u8(v.info_type)?;
-    out.put_u8(v.file_info_class)?;
-    out.put_u32(v.payload.len() as u32)?;
-    out.put_u16(96)?;
-    out.put_u16(0)?;
-    out.put_u32(v.additional_information)?;
-    out.put_slice(&v.file_id)?;
+    out.put_slice(&fixed.finish())?;
     out.put_slice(v.payload)?;
     Ok(out.finish())
 }

@@ -2,7 +2,7 @@ ghost use Rattle.std.specs.Prelude.{◌≡◌, IfOk};
 ghost use Rattle.wire_defs.specs.Fault.{Reads};
 ghost use Rattle.wire_defs.specs.SetInfo.{SpellsSetInfoResponse, set_info_response_fault, set_info_response_spelling};
 
-use smb_bytes::{Bytes, Cursor, Out};
+use smb_bytes::{Bytes, Out, fields_fit, u16_at};
 use smb_header::MessageError;
 use std::alloc::{AllocError, Global};
 use wire_defs::SetInfoResponse;
@@ -11,9 +11,8 @@ use wire_defs::SetInfoResponse;
 pub fn read_set_info_response(m: &[u8]) -> Result<SetInfoResponse, MessageError>
     ensures { Reads (set_info_response_fault m.now) (SpellsSetInfoResponse m.now) (λ v. v) result }
 {
-    let mut cursor = Cursor::new(m);
-    let _header = cursor.take(64)?;
-    let size = cursor.get_u16()?;
+    fields_fit(m, &[64, 2])?;
+    let size = u16_at(m, 64);
     if size != 2 {
         return Err(MessageError::BadSize(size));
     }

@@ -2,7 +2,7 @@ ghost use Rattle.std.specs.Prelude.{◌≡◌, IfOk};
 ghost use Rattle.wire_defs.specs.Fault.{Reads};
 ghost use Rattle.wire_defs.specs.Bare.{SpellsBare, bare_fault, bare_spelling};
 
-use smb_bytes::{Bytes, Cursor, Out};
+use smb_bytes::{Bytes, Out, fields_fit, u16_at};
 use smb_header::MessageError;
 use std::alloc::{AllocError, Global};
 use wire_defs::{
@@ -14,10 +14,8 @@ use wire_defs::{
 fn read_bare(m: &[u8]) -> Result<(), MessageError>
     ensures { Reads (bare_fault m.now) (λ _. SpellsBare m.now) (λ v. v) result }
 {
-    let mut cursor = Cursor::new(m);
-    let _header = cursor.take(64)?;
-    let size = cursor.get_u16()?;
-    let _reserved = cursor.get_u16()?;
+    fields_fit(m, &[64, 2, 2])?;
+    let size = u16_at(m, 64);
     if size != 4 {
         return Err(MessageError::BadSize(size));
     }

@@ -2,7 +2,7 @@ ghost use Rattle.std.specs.Prelude.{◌≡◌, IfOk};
 ghost use Rattle.wire_defs.specs.Fault.{Reads};
 ghost use Rattle.wire_defs.specs.Error.{SpellsErrorResponse, error_response_fault, error_response_spelling};
 
-use smb_bytes::{Bytes, Cursor, Out};
+use smb_bytes::{Bytes, FixedOut, fields_fit, u8_at, u16_at, u32_at};
 use smb_header::MessageError;
 use std::alloc::{AllocError, Global};
 use wire_defs::ErrorResponse;
@@ -12,13 +12,10 @@ use wire_defs::ErrorResponse;
 pub fn read_error_response(m: &[u8]) -> Result<ErrorResponse, MessageError>
     ensures { Reads (error_response_fault m.now) (SpellsErrorResponse m.now) (λ v. v) result }
 {
-    let mut cursor = Cursor::new(m);
-    let _header = cursor.take(64)?;
-    let size = cursor.get_u16()?;
-    let error_context_count = cursor.get_u8()?;
-    let _reserved = cursor.get_u8()?;
-    let byte_count = cursor.get_u32()?;
-    let _data = cursor.get_u8()?;
+    fields_fit(m, &[64, 2, 1, 1, 4, 1])?;
+    let size = u16_at(m, 64);
+    let error_context_count = u8_at(m, 66);
+    let byte_count = u32_at(m, 68);
     if size != 9 {
         return Err(MessageError::BadSize(size));
     }
@@ -32,11 +29,11 @@ pub fn read_error_response(m: &[u8]) -> Result<ErrorResponse, MessageError>
 pub fn write_error_response(alloc: Global, v: &ErrorResponse) -> Result<Bytes, AllocError>
     ensures { IfOk result (λ b. b ≡ error_response_spelling v.now) }
 {
-    let mut out = Out::new(alloc);
-    out.put_u16(9)?;
-    out.put_u8(v.error_context_count)?;
-    out.put_u8(0)?;
-    out.put_u32(v.byte_count)?;
-    out.put_u8(0)?;
-    Ok(out.finish())
+    let mut fixed = FixedOut::<9>::new();
+    fixed.put_u16(9);
+    fixed.put_u8(v.error_context_count);
+    fixed.put_u8(0);
+    fixed.put_u32(v.byte_count);
+    fixed.put_u8(0);
+    Bytes::from_slice(alloc, &fixed.finish())
 }

@@ -5,7 +5,7 @@ ghost use Rattle.msg_session.specs.Views.{negotiate_request};
 
 use crate::gap::{gap_of, place_of};
 use crate::negotiate::NegotiateRequest;
-use smb_bytes::{Bytes, Cursor, Out};
+use smb_bytes::{Bytes, FixedOut, Out, array_at, fields_fit, u16_at, u32_at};
 use smb_header::{MessageError, Part, contexts_of, counted_at};
 use std::alloc::{AllocError, Global};
 
@@ -13,17 +13,14 @@ use std::alloc::{AllocError, Global};
 pub fn read_negotiate_request(m: &[u8]) -> Result<NegotiateRequest<'_>, MessageError>
     ensures { Reads (negotiate_request_fault m.now) (SpellsNegotiateRequest m.now) negotiate_request result }
 {
-    let mut cursor = Cursor::new(m);
-    let _header = cursor.take(64)?;
-    let size = cursor.get_u16()?;
-    let dialect_count = cursor.get_u16()?;
-    let security_mode = cursor.get_u16()?;
-    let _reserved = cursor.get_u16()?;
-    let capabilities = cursor.get_u32()?;
-    let client_guid = cursor.get_array::<16>()?;
-    let contexts_at = cursor.get_u32()?;
-    let negotiate_context_count = cursor.get_u16()?;
-    let _reserved_too = cursor.get_u16()?;
+    fields_fit(m, &[64, 2, 2, 2, 2, 4, 16, 4, 2, 2])?;
+    let size = u16_at(m, 64);
+    let dialect_count = u16_at(m, 66);
+    let security_mode = u16_at(m, 68);
+    let capabilities = u32_at(m, 72);
+    let client_guid = array_at::<16>(m, 76);
+    let contexts_at = u32_at(m, 92);
+    let negotiate_context_count = u16_at(m, 96);
     if size != 36 {
         return Err(MessageError::BadSize(size));
     }
@@ -49,16 +46,18 @@ pub fn write_negotiate_request(alloc: Global, v: &NegotiateRequest<'_>) -> Resul
 {
     let count = v.negotiate_context_count;
     let behind = 100 + v.dialects.len() as u32;
+    let mut fixed = FixedOut::<36>::new();
+    fixed.put_u16(36);
+    fixed.put_u16((v.dialects.len() / 2) as u16);
+    fixed.put_u16(v.security_mode);
+    fixed.put_u16(0);
+    fixed.put_u32(v.capabilities);
+    fixed.put_slice(&v.client_guid);
+    fixed.put_u32(place_of(count, behind));
+    fixed.put_u16(count);
+    fixed.put_u16(0);
     let mut out = Out::new(alloc);
-    out.put_u16(36)?;
-    out.put_u16((v.dialects.len() / 2) as u16)?;
-    out.put_u16(v.security_mode)?;
-    out.put_u16(0)?;
-    out.put_u32(v.capabilities)?;
-    out.put_slice(&v.client_guid)?;
-    out.put_u32(place_of(count, behind))?;
-    out.put_u16(count)?;
-    out.put_u16(0)?;
+    out.put_slice(&fixed.finish())?;
     out.put_slice(v.dialects)?;
     out.put_zeros(gap_of(count, behind))?;
     out.put_slice(v.contexts)?;

@@ -5,7 +5,7 @@ ghost use Rattle.msg_session.specs.Views.{negotiate_response};
 
 use crate::gap::{gap_of, place_of};
 use crate::negotiate::NegotiateResponse;
-use smb_bytes::{Bytes, Cursor, Out};
+use smb_bytes::{Bytes, FixedOut, Out, array_at, fields_fit, u16_at, u32_at, u64_at};
 use smb_header::{MessageError, Part, contexts_of, part_of};
 use std::alloc::{AllocError, Global};
 
@@ -13,22 +13,21 @@ use std::alloc::{AllocError, Global};
 pub fn read_negotiate_response(m: &[u8]) -> Result<NegotiateResponse<'_>, MessageError>
     ensures { Reads (negotiate_response_fault m.now) (SpellsNegotiateResponse m.now) negotiate_response result }
 {
-    let mut cursor = Cursor::new(m);
-    let _header = cursor.take(64)?;
-    let size = cursor.get_u16()?;
-    let security_mode = cursor.get_u16()?;
-    let dialect_revision = cursor.get_u16()?;
-    let negotiate_context_count = cursor.get_u16()?;
-    let server_guid = cursor.get_array::<16>()?;
-    let capabilities = cursor.get_u32()?;
-    let max_transact_size = cursor.get_u32()?;
-    let max_read_size = cursor.get_u32()?;
-    let max_write_size = cursor.get_u32()?;
-    let system_time = cursor.get_u64()?;
-    let server_start_time = cursor.get_u64()?;
-    let security_at = cursor.get_u16()?;
-    let security_len = cursor.get_u16()?;
-    let contexts_at = cursor.get_u32()?;
+    fields_fit(m, &[64, 2, 2, 2, 2, 16, 4, 4, 4, 4, 8, 8, 2, 2, 4])?;
+    let size = u16_at(m, 64);
+    let security_mode = u16_at(m, 66);
+    let dialect_revision = u16_at(m, 68);
+    let negotiate_context_count = u16_at(m, 70);
+    let server_guid = array_at::<16>(m, 72);
+    let capabilities = u32_at(m, 88);
+    let max_transact_size = u32_at(m, 92);
+    let max_read_size = u32_at(m, 96);
+    let max_write_size = u32_at(m, 100);
+    let system_time = u64_at(m, 104);
+    let server_start_time = u64_at(m, 112);
+    let security_at = u16_at(m, 120);
+    let security_len = u16_at(m, 122);
+    let contexts_at = u32_at(m, 124);
     if size != 65 {
         return Err(MessageError::BadSize(size));
     }
@@ -67,21 +66,23 @@ pub fn write_negotiate_response(
 {
     let count = v.negotiate_context_count;
     let behind = 128 + v.security.len() as u32;
+    let mut fixed = FixedOut::<64>::new();
+    fixed.put_u16(65);
+    fixed.put_u16(v.security_mode);
+    fixed.put_u16(v.dialect_revision);
+    fixed.put_u16(count);
+    fixed.put_slice(&v.server_guid);
+    fixed.put_u32(v.capabilities);
+    fixed.put_u32(v.max_transact_size);
+    fixed.put_u32(v.max_read_size);
+    fixed.put_u32(v.max_write_size);
+    fixed.put_u64(v.system_time);
+    fixed.put_u64(v.server_start_time);
+    fixed.put_u16(128);
+    fixed.put_u16(v.security.len() as u16);
+    fixed.put_u32(place_of(count, behind));
     let mut out = Out::new(alloc);
-    out.put_u16(65)?;
-    out.put_u16(v.security_mode)?;
-    out.put_u16(v.dialect_revision)?;
-    out.put_u16(count)?;
-    out.put_slice(&v.server_guid)?;
-    out.put_u32(v.capabilities)?;
-    out.put_u32(v.max_transact_size)?;
-    out.put_u32(v.max_read_size)?;
-    out.put_u32(v.max_write_size)?;
-    out.put_u64(v.system_time)?;
-    out.put_u64(v.server_start_time)?;
-    out.put_u16(128)?;
-    out.put_u16(v.security.len() as u16)?;
-    out.put_u32(place_of(count, behind))?;
+    out.put_slice(&fixed.finish())?;
     out.put_slice(v.security)?;
     out.put_zeros(gap_of(count, behind))?;
     out.put_slice(v.contexts)?;

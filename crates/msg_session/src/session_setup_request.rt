@@ -4,7 +4,7 @@ ghost use Rattle.wire_defs.specs.SessionSetup.{SpellsSessionSetupRequest, sessio
 ghost use Rattle.msg_session.specs.Views.{session_setup_request};
 
 use crate::session_setup::SessionSetupRequest;
-use smb_bytes::{Bytes, Cursor, Out};
+use smb_bytes::{Bytes, FixedOut, Out, fields_fit, u8_at, u16_at, u32_at, u64_at};
 use smb_header::{MessageError, Part, part_of};
 use std::alloc::{AllocError, Global};
 
@@ -12,16 +12,15 @@ use std::alloc::{AllocError, Global};
 pub fn read_session_setup_request(m: &[u8]) -> Result<SessionSetupRequest<'_>, MessageError>
     ensures { Reads (session_setup_request_fault m.now) (SpellsSessionSetupRequest m.now) session_setup_request result }
 {
-    let mut cursor = Cursor::new(m);
-    let _header = cursor.take(64)?;
-    let size = cursor.get_u16()?;
-    let flags = cursor.get_u8()?;
-    let security_mode = cursor.get_u8()?;
-    let capabilities = cursor.get_u32()?;
-    let channel = cursor.get_u32()?;
-    let security_at = cursor.get_u16()?;
-    let security_len = cursor.get_u16()?;
-    let previous_session_id = cursor.get_u64()?;
+    fields_fit(m, &[64, 2, 1, 1, 4, 4, 2, 2, 8])?;
+    let size = u16_at(m, 64);
+    let flags = u8_at(m, 66);
+    let security_mode = u8_at(m, 67);
+    let capabilities = u32_at(m, 68);
+    let channel = u32_at(m, 72);
+    let security_at = u16_at(m, 76);
+    let security_len = u16_at(m, 78);
+    let previous_session_id = u64_at(m, 80);
     if size != 25 {
         return Err(MessageError::BadSize(size));
     }
@@ -51,15 +50,17 @@ pub fn write_session_setup_request(
     requires { length v.now.security.now < 2 ^ 16 }
     ensures { IfOk result (λ b. b ≡ session_setup_request_spelling (session_setup_request v.now)) }
 {
+    let mut fixed = FixedOut::<24>::new();
+    fixed.put_u16(25);
+    fixed.put_u8(v.flags);
+    fixed.put_u8(v.security_mode);
+    fixed.put_u32(v.capabilities);
+    fixed.put_u32(v.channel);
+    fixed.put_u16(88);
+    fixed.put_u16(v.security.len() as u16);
+    fixed.put_u64(v.previous_session_id);
     let mut out = Out::new(alloc);
-    out.put_u16(25)?;
-    out.put_u8(v.flags)?;
-    out.put_u8(v.security_mode)?;
-    out.put_u32(v.capabilities)?;
-    out.put_u32(v.channel)?;
-    out.put_u16(88)?;
-    out.put_u16(v.security.len() as u16)?;
-    out.put_u64(v.previous_session_id)?;
+    out.put_slice(&fixed.finish())?;
     out.put_slice(v.security)?;
     Ok(out.finish())
 }

@@ -4,7 +4,7 @@ ghost use Rattle.wire_defs.specs.SessionSetup.{SpellsSessionSetupResponse, sessi
 ghost use Rattle.msg_session.specs.Views.{session_setup_response};
 
 use crate::session_setup::SessionSetupResponse;
-use smb_bytes::{Bytes, Cursor, Out};
+use smb_bytes::{Bytes, FixedOut, Out, fields_fit, u16_at};
 use smb_header::{MessageError, Part, part_of};
 use std::alloc::{AllocError, Global};
 
@@ -12,12 +12,11 @@ use std::alloc::{AllocError, Global};
 pub fn read_session_setup_response(m: &[u8]) -> Result<SessionSetupResponse<'_>, MessageError>
     ensures { Reads (session_setup_response_fault m.now) (SpellsSessionSetupResponse m.now) session_setup_response result }
 {
-    let mut cursor = Cursor::new(m);
-    let _header = cursor.take(64)?;
-    let size = cursor.get_u16()?;
-    let session_flags = cursor.get_u16()?;
-    let security_at = cursor.get_u16()?;
-    let security_len = cursor.get_u16()?;
+    fields_fit(m, &[64, 2, 2, 2, 2])?;
+    let size = u16_at(m, 64);
+    let session_flags = u16_at(m, 66);
+    let security_at = u16_at(m, 68);
+    let security_len = u16_at(m, 70);
     if size != 9 {
         return Err(MessageError::BadSize(size));
     }
@@ -43,11 +42,13 @@ pub fn write_session_setup_response(
     requires { length v.now.security.now < 2 ^ 16 }
     ensures { IfOk result (λ b. b ≡ session_setup_response_spelling (session_setup_response v.now)) }
 {
+    let mut fixed = FixedOut::<8>::new();
+    fixed.put_u16(9);
+    fixed.put_u16(v.session_flags);
+    fixed.put_u16(72);
+    fixed.put_u16(v.security.len() as u16);
     let mut out = Out::new(alloc);
-    out.put_u16(9)?;
-    out.put_u16(v.session_flags)?;
-    out.put_u16(72)?;
-    out.put_u16(v.security.len() as u16)?;
+    out.put_slice(&fixed.finish())?;
     out.put_slice(v.security)?;
     Ok(out.finish())
 }

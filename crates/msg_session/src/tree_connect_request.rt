@@ -4,7 +4,7 @@ ghost use Rattle.wire_defs.specs.TreeConnect.{SpellsTreeConnectRequest, tree_con
 ghost use Rattle.msg_session.specs.Views.{tree_connect_request};
 
 use crate::tree_connect::TreeConnectRequest;
-use smb_bytes::{Bytes, Cursor, Out};
+use smb_bytes::{Bytes, FixedOut, Out, fields_fit, u16_at};
 use smb_header::{MessageError, Part, part_of};
 use std::alloc::{AllocError, Global};
 
@@ -12,12 +12,11 @@ use std::alloc::{AllocError, Global};
 pub fn read_tree_connect_request(m: &[u8]) -> Result<TreeConnectRequest<'_>, MessageError>
     ensures { Reads (tree_connect_request_fault m.now) (SpellsTreeConnectRequest m.now) tree_connect_request result }
 {
-    let mut cursor = Cursor::new(m);
-    let _header = cursor.take(64)?;
-    let size = cursor.get_u16()?;
-    let flags = cursor.get_u16()?;
-    let path_at = cursor.get_u16()?;
-    let path_len = cursor.get_u16()?;
+    fields_fit(m, &[64, 2, 2, 2, 2])?;
+    let size = u16_at(m, 64);
+    let flags = u16_at(m, 66);
+    let path_at = u16_at(m, 68);
+    let path_len = u16_at(m, 70);
     if size != 9 {
         return Err(MessageError::BadSize(size));
     }
@@ -34,11 +33,13 @@ pub fn write_tree_connect_request(
     requires { length v.now.path.now < 2 ^ 16 }
     ensures { IfOk result (λ b. b ≡ tree_connect_request_spelling (tree_connect_request v.now)) }
 {
+    let mut fixed = FixedOut::<8>::new();
+    fixed.put_u16(9);
+    fixed.put_u16(v.flags);
+    fixed.put_u16(72);
+    fixed.put_u16(v.path.len() as u16);
     let mut out = Out::new(alloc);
-    out.put_u16(9)?;
-    out.put_u16(v.flags)?;
-    out.put_u16(72)?;
-    out.put_u16(v.path.len() as u16)?;
+    out.put_slice(&fixed.finish())?;
     out.put_slice(v.path)?;
     Ok(out.finish())
 }

@@ -2,7 +2,7 @@ ghost use Rattle.std.specs.Prelude.{◌≡◌, IfOk};
 ghost use Rattle.wire_defs.specs.Fault.{Reads};
 ghost use Rattle.wire_defs.specs.TreeConnect.{SpellsTreeConnectResponse, tree_connect_response_fault, tree_connect_response_spelling};
 
-use smb_bytes::{Bytes, Cursor, Out};
+use smb_bytes::{Bytes, FixedOut, fields_fit, u8_at, u16_at, u32_at};
 use smb_header::MessageError;
 use std::alloc::{AllocError, Global};
 use wire_defs::TreeConnectResponse;
@@ -11,14 +11,12 @@ use wire_defs::TreeConnectResponse;
 pub fn read_tree_connect_response(m: &[u8]) -> Result<TreeConnectResponse, MessageError>
     ensures { Reads (tree_connect_response_fault m.now) (SpellsTreeConnectResponse m.now) (λ v. v) result }
 {
-    let mut cursor = Cursor::new(m);
-    let _header = cursor.take(64)?;
-    let size = cursor.get_u16()?;
-    let share_type = cursor.get_u8()?;
-    let _reserved = cursor.get_u8()?;
-    let share_flags = cursor.get_u32()?;
-    let capabilities = cursor.get_u32()?;
-    let maximal_access = cursor.get_u32()?;
+    fields_fit(m, &[64, 2, 1, 1, 4, 4, 4])?;
+    let size = u16_at(m, 64);
+    let share_type = u8_at(m, 66);
+    let share_flags = u32_at(m, 68);
+    let capabilities = u32_at(m, 72);
+    let maximal_access = u32_at(m, 76);
     if size != 16 {
         return Err(MessageError::BadSize(size));
     }
@@ -37,12 +35,12 @@ pub fn write_tree_connect_response(
 ) -> Result<Bytes, AllocError>
     ensures { IfOk result (λ b. b ≡ tree_connect_response_spelling v.now) }
 {
-    let mut out = Out::new(alloc);
-    out.put_u16(16)?;
-    out.put_u8(v.share_type)?;
-    out.put_u8(0)?;
-    out.put_u32(v.share_flags)?;
-    out.put_u32(v.capabilities)?;
-    out.put_u32(v.maximal_access)?;
-    Ok(out.finish())
+    let mut fixed = FixedOut::<16>::new();
+    fixed.put_u16(16);
+    fixed.put_u8(v.share_type);
+    fixed.put_u8(0);
+    fixed.put_u32(v.share_flags);
+    fixed.put_u32(v.capabilities);
+    fixed.put_u32(v.maximal_access);
+    Bytes::from_slice(alloc, &fixed.finish())
 }

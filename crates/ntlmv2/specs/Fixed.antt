@@ -1,8 +1,6 @@
 -- The fixed parts of the messages as they were read.
-use Rattle.std.specs.Prelude.{◌≡◌, ℕ, ◌+◌, ◌≤◌, ◌<◌, List, length, Result, Ok, Err}
+use Rattle.std.specs.Prelude.{◌≡◌, ℕ, ◌+◌, ◌≤◌, List, length}
 use Rattle.wire_defs.specs.Places.{number, bytes_at}
-use Rattle.smb_bytes.specs.Spot.{Spot, moved}
-use Rattle.smb_bytes.specs.declared.short.Short.{Short}
 use Rattle.token_defs.specs.declared.ntlm.NtlmError.{NtlmError}
 use Rattle.token_defs.specs.declared.ntlm.NtlmError.TheVariants.{BadSignature, BadType}
 use Rattle.token_defs.specs.Messages.{ntlm_signature}
@@ -14,11 +12,6 @@ use Rattle.ntlmv2.specs.declared.messages.Fixed3.{Fixed3}
 -- a part is told at this place
 abbrev pub IsTold : List ℕ → ℕ → Place → Type 0
 IsTold m at p = (p.count ≡ number 2 m at) × (p.at ≡ number 4 m (at + 4))
-
--- the next eight bytes tell it, or there are too few
-abbrev pub TellsPlace : Spot → Spot → Result Place Short → Type 0
-TellsPlace old new (Ok p) = (old.at + 8 ≤ length old.bytes) × IsTold old.bytes old.at p × (new ≡ moved old 8)
-TellsPlace old new (Err e) = length old.bytes < old.at + 8
 
 pub record IsFixed1 (m : List ℕ) (f : Fixed1) : Type 0 where
   pub whole : 16 ≤ length m

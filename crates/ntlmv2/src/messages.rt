@@ -1,16 +1,16 @@
 //! The three messages, read and written.
-ghost use Rattle.std.specs.Prelude.{◌≡◌, ◌<◌, ◌+◌, ◌^◌, ◌++◌, ◌==◌, nat_lt, if◌then◌else◌, length, drop, MatchResult};
+ghost use Rattle.std.specs.Prelude.{◌≡◌, ◌<◌, ◌≤◌, ◌+◌, ◌^◌, ◌++◌, ◌==◌, nat_lt, if◌then◌else◌, length, drop, MatchResult};
 ghost use Rattle.std.specs.Prelude.{None, Some, IfOk, OnOk, IsTrue, ◌↔◌};
 ghost use Rattle.wire_defs.specs.Places.{le, bytes_at};
 ghost use Rattle.wire_defs.specs.Table.{with_fields};
 ghost use Rattle.token_defs.specs.Messages.{ntlm_signature, range_fault, info_fault, type3_places, type1_in, type2_in};
 ghost use Rattle.token_defs.specs.Messages.{type3_in, type1_spelling, type2_spelling, type3_spelling, IsWritableType2};
 ghost use Rattle.token_defs.specs.Messages.{IsWritableType3};
-ghost use Rattle.ntlmv2.specs.Fixed.{IsFixed1, IsFixed2, IsFixed3, MatchKind, TellsPlace};
+ghost use Rattle.ntlmv2.specs.Fixed.{IsFixed1, IsFixed2, IsFixed3, IsTold, MatchKind};
 ghost use Rattle.ntlmv2.specs.Views.{type2_view, type3_view, AreShort, Reads};
 
 use crate::pairs::check_pairs;
-use smb_bytes::{Bytes, Cursor, Out, Short};
+use smb_bytes::{Bytes, Out, Short, array_at, fields_fit, u16_at, u32_at};
 use std::alloc::{AllocError, Global};
 use token_defs::{NtlmError, NtlmField, Type1};
 
@@ -49,14 +49,15 @@ struct Place {
     at: u32,
 }
 
-/// The place of a part as the next eight bytes tell it.
-fn place_in(cursor: &mut Cursor<'_>) -> Result<Place, Short>
-    ensures { TellsPlace cursor.old cursor.new result }
+/// The place of a part as eight bytes tell it.
+fn place_at(m: &[u8], at: usize) -> Place
+    requires { at + 8 ≤ length m.now }
+    ensures { IsTold m.now at result }
 {
-    let count = cursor.get_u16()?;
-    let _most = cursor.get_u16()?;
-    let at = cursor.get_u32()?;
-    Ok(Place { count, at })
+    Place {
+        count: u16_at(m, at),
+        at: u32_at(m, at + 4),
+    }
 }
 
 /// The fixed part of a type 1, as far as it is needed.
@@ -70,14 +71,11 @@ struct Fixed1 {
 fn fixed1_of(m: &[u8]) -> Result<Fixed1, Short>
     ensures { MatchResult result (λ f. IsFixed1 m.now f) (λ e. length m.now < 16) }
 {
-    let mut cursor = Cursor::new(m);
-    let signature = cursor.get_array::<8>()?;
-    let kind = cursor.get_u32()?;
-    let flags = cursor.get_u32()?;
+    fields_fit(m, &[8, 4, 4])?;
     Ok(Fixed1 {
-        signature,
-        kind,
-        flags,
+        signature: array_at::<8>(m, 0),
+        kind: u32_at(m, 8),
+        flags: u32_at(m, 12),
     })
 }
 
@@ -95,22 +93,14 @@ struct Fixed2 {
 fn fixed2_of(m: &[u8]) -> Result<Fixed2, Short>
     ensures { MatchResult result (λ f. IsFixed2 m.now f) (λ e. length m.now < 56) }
 {
-    let mut cursor = Cursor::new(m);
-    let signature = cursor.get_array::<8>()?;
-    let kind = cursor.get_u32()?;
-    let target_name = place_in(&mut cursor)?;
-    let flags = cursor.get_u32()?;
-    let challenge = cursor.get_array::<8>()?;
-    let _reserved = cursor.get_u64()?;
-    let target_info = place_in(&mut cursor)?;
-    let _version = cursor.get_u64()?;
+    fields_fit(m, &[8, 4, 8, 4, 8, 8, 8, 8])?;
     Ok(Fixed2 {
-        signature,
-        kind,
-        target_name,
-        flags,
-        challenge,
-        target_info,
+        signature: array_at::<8>(m, 0),
+        kind: u32_at(m, 8),
+        target_name: place_at(m, 12),
+        flags: u32_at(m, 20),
+        challenge: array_at::<8>(m, 24),
+        target_info: place_at(m, 40),
     })
 }
 
@@ -132,29 +122,18 @@ struct Fixed3 {
 fn fixed3_of(m: &[u8]) -> Result<Fixed3, Short>
     ensures { MatchResult result (λ f. IsFixed3 m.now f) (λ e. length m.now < 88) }
 {
-    let mut cursor = Cursor::new(m);
-    let signature = cursor.get_array::<8>()?;
-    let kind = cursor.get_u32()?;
-    let lm = place_in(&mut cursor)?;
-    let nt = place_in(&mut cursor)?;
-    let domain = place_in(&mut cursor)?;
-    let user = place_in(&mut cursor)?;
-    let workstation = place_in(&mut cursor)?;
-    let session_key = place_in(&mut cursor)?;
-    let flags = cursor.get_u32()?;
-    let _version = cursor.get_u64()?;
-    let mic = cursor.get_array::<16>()?;
+    fields_fit(m, &[8, 4, 8, 8, 8, 8, 8, 8, 4, 8, 16])?;
     Ok(Fixed3 {
-        signature,
-        kind,
-        lm,
-        nt,
-        domain,
-        user,
-        workstation,
-        session_key,
-        flags,
-        mic,
+        signature: array_at::<8>(m, 0),
+        kind: u32_at(m, 8),
+        lm: place_at(m, 12),
+        nt: place_at(m, 20),
+        domain: place_at(m, 28),
+        user: place_at(m, 36),
+        workstation: place_at(m, 44),
+        session_key: place_at(m, 52),
+        flags: u32_at(m, 60),
+        mic: array_at::<16>(m, 72),
     })
 }
 

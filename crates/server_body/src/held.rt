@@ -1,28 +1,12 @@
 //! What is made of bytes that a record holds.
-ghost use Rattle.std.specs.Prelude.{◌≡◌, ◌/◌, ◌≤◌, ◌<◌, length, drop, IfOk, MatchResult};
-ghost use Rattle.wire_defs.specs.Places.{number, number_of};
+ghost use Rattle.std.specs.Prelude.{◌≡◌, ◌/◌, ◌≤◌, length, drop, IfOk};
+ghost use Rattle.wire_defs.specs.Places.{number_of};
 ghost use Rattle.journal_records.specs.Meaning.{elements_in};
 
 use exchange_defs::values::Element;
 use msg_file::lock_element_at;
-use smb_bytes::{Cursor, Short};
+use smb_bytes::halves_of;
 use std::alloc::{AllocError, Global};
-
-// The two halves of 16 bytes, the first one the lower.
-#[derive(Clone, Copy)]
-struct Halves {
-    low: u64,
-    high: u64,
-}
-
-fn halves_of(guid: &[u8]) -> Result<Halves, Short>
-    ensures { MatchResult result (λ h. (h.low ≡ number 8 guid.now 0) × (h.high ≡ number 8 guid.now 8)) (λ _. length guid.now < 16) }
-{
-    let mut cursor = Cursor::new(guid);
-    let low = cursor.get_u64()?;
-    let high = cursor.get_u64()?;
-    Ok(Halves { low, high })
-}
 
 /// The number that the bytes of a GUID spell, the lowest first.
 #[tactic(auto, using(crate::proofs::Elements::guid_cut))]

@@ -1,2 +1,3 @@
 pub mod Spot
 pub mod Pair
+pub mod Widths

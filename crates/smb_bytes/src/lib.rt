@@ -4,7 +4,9 @@
 
 mod bytes;
 mod cursor;
+mod fields;
 mod fixed;
+mod halves;
 mod numbers;
 mod out;
 mod place;
@@ -14,9 +16,11 @@ mod utf16;
 
 pub use bytes::Bytes;
 pub use cursor::Cursor;
+pub use fields::fields_fit;
 pub use fixed::FixedOut;
+pub use halves::{Halves, halves_of};
 pub use out::Out;
-pub use place::u16_at;
+pub use place::{array_at, u8_at, u16_at, u32_at, u64_at};
 pub use short::Short;
 pub use text::Text;
 pub use utf16::{text_of_utf16, utf16_of};

@@ -1,6 +1,6 @@
 ghost use Rattle.wire_defs.specs.Header.{ReadsHeader};
 
-use smb_bytes::Cursor;
+use smb_bytes::{array_at, u16_at, u32_at, u64_at};
 use wire_defs::{Header, HeaderError};
 
 /// Reads the header that `m` begins with (MS-SMB2 2.2.1). The refusals are, in this order, `Short`,
@@ -8,20 +8,11 @@ use wire_defs::{Header, HeaderError};
 pub fn read_header(m: &[u8]) -> Result<Header, HeaderError>
     ensures { ReadsHeader m.now result }
 {
-    let mut cursor = Cursor::new(m);
-    let protocol = cursor.get_array::<4>()?;
-    let size = cursor.get_u16()?;
-    let charge = cursor.get_u16()?;
-    let status = cursor.get_u32()?;
-    let command = cursor.get_u16()?;
-    let credits = cursor.get_u16()?;
-    let flags = cursor.get_u32()?;
-    let next = cursor.get_u32()?;
-    let message = cursor.get_u64()?;
-    let _reserved = cursor.get_u32()?;
-    let tree = cursor.get_u32()?;
-    let session = cursor.get_u64()?;
-    let signature = cursor.get_array::<16>()?;
+    if m.len() < 64 {
+        return Err(HeaderError::Short);
+    }
+    let protocol = array_at::<4>(m, 0);
+    let size = u16_at(m, 4);
     if protocol != [0xfe, b'S', b'M', b'B'] {
         return Err(HeaderError::BadProtocol(protocol));
     }
@@ -29,15 +20,15 @@ pub fn read_header(m: &[u8]) -> Result<Header, HeaderError>
         return Err(HeaderError::BadSize(size));
     }
     Ok(Header {
-        charge,
-        status,
-        command,
-        credits,
-        flags,
-        next,
-        message,
-        tree,
-        session,
-        signature,
+        charge: u16_at(m, 6),
+        status: u32_at(m, 8),
+        command: u16_at(m, 12),
+        credits: u16_at(m, 14),
+        flags: u32_at(m, 16),
+        next: u32_at(m, 20),
+        message: u64_at(m, 24),
+        tree: u32_at(m, 36),
+        session: u64_at(m, 40),
+        signature: array_at::<16>(m, 48),
     })
 }
