@@ -24,6 +24,7 @@ pub use failed::Failed;
 pub use mem_disk::MemDisk;
 pub use mem_sink::MemSink;
 pub use mem_source::MemSource;
+pub use plan::Plan;
 pub use sink::Sink;
 pub use source::Source;
 pub use std_disk::StdDisk;

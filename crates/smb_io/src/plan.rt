@@ -1,11 +1,11 @@
-// Which calls of a fake fail.
+// Which calls of a fake fail; the links and nets in memory stand on it too.
 use smb_bytes::Bytes;
 use std::marker::Model;
 
 /// Which of the calls to come fail. A contract sees the list of what is left of the plan, in which
 /// 1 stands for a call that fails; calls past its end do not fail.
 #[derive(Drop)]
-pub(crate) struct Plan {
+pub struct Plan {
     failing: Bytes,
     calls: usize,
 }
@@ -22,14 +22,15 @@ impl Plan {
     ghost use Rattle.std.specs.Prelude.{◌≡◌, drop};
     ghost use Rattle.smb_io.specs.Memory.{next_fails};
 
-    pub(crate) fn new(failing: Bytes) -> Plan
+    /// A plan of these bytes, one for each call: 1 fails.
+    pub fn new(failing: Bytes) -> Plan
         ensures { result ≡ failing }
     {
         Plan { failing, calls: 0 }
     }
 
     /// Whether the next call fails.
-    pub(crate) fn next(&mut self) -> bool
+    pub fn next(&mut self) -> bool
         ensures fails { result ≡ next_fails self.old }
         ensures rest { self.new ≡ drop 1 self.old }
     {

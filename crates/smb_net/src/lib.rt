@@ -12,7 +12,6 @@ mod mem_end;
 mod mem_link;
 mod mem_net;
 mod net;
-mod plan;
 mod std_clock;
 mod std_link;
 mod std_net;

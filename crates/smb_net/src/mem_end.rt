@@ -3,9 +3,8 @@ ghost use Rattle.std.specs.Prelude.{◌≡◌};
 
 use crate::Link;
 use crate::end::is_end;
-use crate::plan::Plan;
 use crate::wire::{End, Lane};
-use smb_io::Failed;
+use smb_io::{Failed, Plan};
 use std::marker::Model;
 use std::sync::{Arc, Wait};
 

@@ -3,9 +3,8 @@ ghost use Rattle.std.specs.Prelude.{⊤, ◌≡◌, min, length, take};
 
 use crate::Link;
 use crate::end::is_end;
-use crate::plan::Plan;
 use smb_bytes::Bytes;
-use smb_io::Failed;
+use smb_io::{Failed, Plan};
 use std::alloc::{AllocError, Global};
 use std::marker::Model;
 

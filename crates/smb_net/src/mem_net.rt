@@ -2,11 +2,10 @@
 ghost use Rattle.std.specs.Prelude.{◌≡◌, IfSome};
 ghost use Rattle.smb_net.specs.Memory.{new_end};
 
-use crate::plan::Plan;
 use crate::wire::{End, Lane};
 use crate::{MemEnd, Net};
 use smb_bytes::Bytes;
-use smb_io::{Address, Failed};
+use smb_io::{Address, Failed, Plan};
 use std::alloc::{AllocError, Global};
 use std::collections::VecDeque;
 use std::marker::Model;
