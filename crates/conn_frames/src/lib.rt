@@ -7,6 +7,3 @@ mod checking;
 
 pub use checked::{Checked, CheckedFrame};
 pub use checking::check;
-
-#[cfg(test)]
-mod tests;

@@ -7,9 +7,6 @@ use std::error::Error;
 use std::fmt;
 use std::marker::Model;
 
-#[cfg(test)]
-mod tests;
-
 /// The charge is above what the purse holds, which is told.
 #[derive(Clone, Copy, Debug, PartialEq, Eq)]
 pub struct NoCredit {

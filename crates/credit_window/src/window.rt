@@ -11,9 +11,6 @@ use std::error::Error;
 use std::fmt;
 use std::marker::Model;
 
-#[cfg(test)]
-mod tests;
-
 /// So many ids may be held at once.
 const LIMIT: usize = 512;
 

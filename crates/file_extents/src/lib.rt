@@ -11,6 +11,3 @@ mod write;
 
 pub use extents::Extents;
 pub use write::Prepared;
-
-#[cfg(test)]
-mod tests;

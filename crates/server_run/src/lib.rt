@@ -10,6 +10,3 @@ pub use clock::SharedClock;
 pub use ended::{ConnEnd, Ended};
 pub use lines::push_lines;
 pub use serving::{Roll, Service, entered, serve_here};
-
-#[cfg(test)]
-mod tests;

@@ -20,6 +20,3 @@ pub use verdict::{
     Change, Verdict, altered, bytes_change, check_first_binding, count_of, is_empty, refuse,
     refused_create, told, turn_down, turn_down_lock, without_room,
 };
-
-#[cfg(test)]
-mod tests;

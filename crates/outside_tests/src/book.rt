@@ -1,11 +1,10 @@
-ghost use Rattle.std.specs.Prelude.{◌≡◌, ◌+◌, ◌%◌, ◌^◌, IfSome};
+ghost use Rattle.std.specs.Prelude.{◌≡◌, ◌+◌, ◌%◌, ◌^◌};
 ghost use Rattle.shared_book.specs.Words.{IsSameSeat, AreOfOneBook, IsSeatOf};
 
 use shared_book::{Book, BookSeat, SharedBook};
-use std::snapshot::Snapshot;
 use std::sync::Wait;
 use std::test::Fail;
-use std::thread::{self, Promise, SpawnError, Threads};
+use std::thread::{self, Threads};
 
 /// Adds each event to a sum, and replies the sum.
 #[derive(Drop)]
@@ -95,54 +94,6 @@ fn by_join<R: Threads + Wait + Sync>(
     )
 }
 
-/// The thread gives back a seat of this seat's book.
-#[derive(Drop)]
-struct SameBook {
-    seat: Snapshot<BookSeat<Tally>>,
-}
-
-impl Promise<(BookSeat<Tally>, Vec<Note>)> for SameBook {
-    ghost use Rattle.shared_book.specs.Words.{AreOfOneBook};
-
-    ghost kept_by = { λ promise result. AreOfOneBook promise.seat.value result.0 };
-}
-
-/// Two threads, of which one is started in a scope.
-fn in_scope<R: Threads + Wait + Sync>(
-    rt: &R,
-    book: &SharedBook<Tally>,
-    mine: BookSeat<Tally>,
-    theirs: BookSeat<Tally>,
-    first: Vec<Note>,
-    second: Vec<Note>,
-) -> ((BookSeat<Tally>, Vec<Note>), (BookSeat<Tally>, Vec<Note>))
-    requires { IsSeatOf book.now mine × IsSeatOf book.now theirs }
-    ensures { IsSeatOf book.now result.0.0 × IsSeatOf book.now result.1.0 }
-{
-    thread::scope(
-        thread::scope_env(),
-        rt,
-        move |scope| -> ((BookSeat<Tally>, Vec<Note>), (BookSeat<Tally>, Vec<Note>))
-            requires { IsSeatOf book.now mine × IsSeatOf book.now theirs }
-            ensures { IsSeatOf book.entry.now result.0.0 × IsSeatOf book.entry.now result.1.0 }
-        {
-            let promise = SameBook {
-                seat: Snapshot::of(&theirs),
-            };
-            let child = scope.spawn_with(
-                promise,
-                move ||
-                    requires { IsSeatOf book.now theirs }
-                { added(rt, book, theirs, 1000, second) },
-            );
-            match child {
-                Ok(child) => (added(rt, book, mine, 100, first), child.join(rt)),
-                Err(SpawnError { value: job }) => { (added(rt, book, mine, 100, first), job()) }
-            }
-        },
-    )
-}
-
 /// Whether the notes are of places that no earlier note had, where each seen place has its reply and its event.
 fn take_in(seen: &mut [(u64, u64)], event: u64, notes: &[Note]) -> bool {
     for note in notes {
@@ -172,62 +123,24 @@ fn replies_follow(opening: u64, seen: &[(u64, u64)]) -> bool {
 const EACH: usize = 500;
 
 #[test]
-fn four_threads_share_one_history(rt: HostRuntime) -> Result<(), Fail> {
+fn two_threads_share_one_history(rt: HostRuntime) -> Result<(), Fail> {
     let alloc = rt.alloc();
     let blank = Note { place: 0, reply: 0 };
+    let first = vec![in alloc; blank; EACH]?;
+    let second = vec![in alloc; blank; EACH]?;
+    let mut seen = vec![in alloc; (0, 0); 2 * EACH]?;
     let (book, mut seat) = SharedBook::new(alloc, Tally { sum: 7 })?;
     let one = book.seat(&rt, &mut seat);
     let two = book.seat(&rt, &mut seat);
-    let three = book.seat(&rt, &mut seat);
-    let four = book.seat(&rt, &mut seat);
     let before = book.peek(&mut seat);
-    let ((one, first), (two, second)) = by_join(
-        &rt,
-        &book,
-        one,
-        two,
-        vec![in alloc; blank; EACH]?,
-        vec![in alloc; blank; EACH]?,
-    );
-    let between = book.peek(&mut seat);
-    let ((three, third), (four, fourth)) = in_scope(
-        &rt,
-        &book,
-        three,
-        four,
-        vec![in alloc; blank; EACH]?,
-        vec![in alloc; blank; EACH]?,
-    );
+    let ((one, first), (two, second)) = by_join(&rt, &book, one, two, first, second);
     let after = book.peek(&mut seat);
     book.rejoin(&mut seat, one);
     book.rejoin(&mut seat, two);
-    book.rejoin(&mut seat, three);
-    book.rejoin(&mut seat, four);
     let last = book.close(&rt, seat);
-    let mut seen = vec![in alloc; (0, 0); 4 * EACH]?;
     assert!(rt; take_in(seen.as_mut_slice(), 1, first.as_slice()));
     assert!(rt; take_in(seen.as_mut_slice(), 10, second.as_slice()));
-    assert!(rt; take_in(seen.as_mut_slice(), 100, third.as_slice()));
-    assert!(rt; take_in(seen.as_mut_slice(), 1000, fourth.as_slice()));
     assert!(rt; replies_follow(7, seen.as_slice()));
-    assert!(rt; before == 0 && between == 1000 && after == 2000);
-    assert!(rt; last.sum == 7 + 500 * 1111);
-    Ok(())
-}
-
-#[test]
-fn a_peek_sees_another_seats_event(rt: HostRuntime) -> Result<(), Fail> {
-    let (book, mut seat) = SharedBook::new(rt.alloc(), Tally { sum: 5 })?;
-    let (reply, receipt) = book.apply(&rt, &mut seat, 2);
-    let seen = book.peek(&mut seat);
-    let mut other = book.seat(&rt, &mut seat);
-    let (second, place) = book.apply(&rt, &mut other, 3);
-    let later = book.peek(&mut seat);
-    book.rejoin(&mut seat, other);
-    let (third, last_place) = book.apply(&rt, &mut seat, 4);
-    let last = book.close(&rt, seat);
-    assert!(rt; reply == 7 && receipt.place == 0 && seen == 1);
-    assert!(rt; second == 10 && place.place == 1 && later == 2);
-    assert!(rt; third == 14 && last_place.place == 2 && last.sum == 14);
+    assert!(rt; before == 0 && after == 1000 && last.sum == 7 + 500 * 11);
     Ok(())
 }

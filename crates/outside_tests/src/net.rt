@@ -1,31 +1,11 @@
 use smb_bytes::Bytes;
 use smb_io::{Address, Failed};
-use smb_net::{Clock, Link, MemClock, MemLink, MemNet, Net, StdClock, StdNet, file_time};
+use smb_net::{Clock, Link, MemNet, Net, StdClock, StdNet, file_time};
 use std::net::{Ipv4Addr, SocketAddr, TcpListener};
 use std::sync::Wait;
 use std::test::Fail;
 use std::thread::{self, Threads};
 use std::time::Duration;
-
-#[test]
-fn a_link_gives_its_bytes_and_fails_as_planned(rt: HostRuntime) -> Result<(), Fail> {
-    let alloc = rt.alloc();
-    let bytes = Bytes::from_slice(alloc, b"hello")?;
-    let failing = Bytes::from_slice(alloc, &[0, 0, 1, 1])?;
-    let mut link = MemLink::new(alloc, bytes, failing)?;
-    let mut into = [0u8; 3];
-    assert_eq!(rt; link.read(&mut into), Ok(3));
-    assert_eq!(rt; into, *b"hel");
-    assert_eq!(rt; link.write(b"ab"), Ok(2));
-    assert_eq!(rt; link.read(&mut into), Err(Failed));
-    assert_eq!(rt; link.write(b"cd"), Err(Failed));
-    assert_eq!(rt; link.fault_count(), 2);
-    assert_eq!(rt; link.read(&mut into), Ok(2));
-    assert_eq!(rt; into, *b"lol");
-    assert_eq!(rt; link.read(&mut into), Ok(0));
-    assert_eq!(rt; link.written(), b"ab".as_slice());
-    Ok(())
-}
 
 /// Writes a word and reads the answer to it, and then the end.
 fn ask<L: Link>(link: &mut L) -> Result<[u8; 4], Failed> {
@@ -111,8 +91,6 @@ fn the_machine_is_a_net(rt: HostRuntime) -> Result<(), Fail> {
 
 #[test]
 fn clocks_count_from_1601(rt: HostRuntime) -> Result<(), Fail> {
-    let mut still = MemClock::new(7);
-    assert_eq!(rt; (still.now(), still.now()), (7, 7));
     assert_eq!(rt; file_time(Duration::from_secs(0)), 116_444_736_000_000_000);
     assert_eq!(rt;
         file_time(Duration::new(1_172_163_600, 306_162_900)),

@@ -1,8 +1,0 @@
-//! Tests of disks, sources and sinks. They stand in a crate of their own, so that the crate that they call isn't proved a
-//! second time for them.
-#![tactic(auto)]
-
-#[cfg(test)]
-mod files;
-#[cfg(test)]
-mod outside;
