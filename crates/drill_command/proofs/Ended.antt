@@ -14,8 +14,10 @@ use Rattle.drill_command.specs.declared.ending.Ending.TheVariants.{Done, Usage, 
 use Rattle.drill_command.specs.Made.{Summed}
 use Rattle.drill_command.specs.Playing.{Ran, played, run_of}
 use Rattle.drill_command.specs.TopCall.{Answers, Drills, Ends, Makes, Refuses, SumsUp, Writes}
+use Rattle.drill_command.specs.Writing.{Fronts}
 use Rattle.drill_command.specs.declared.words.Asked.{Asked}
 use Rattle.drill_command.proofs.Limits.{keeps_limit}
+use Rattle.drill_command.proofs.Written.{front_of, whole_front}
 
 -- ---- a script that was read
 
@@ -87,7 +89,8 @@ sums_text key operations seed text written written' faults faults' Done summed (
 sums_text key operations seed text written written' faults faults' Usage summed h = absurd h
 sums_text key operations seed text written written' faults faults' Script summed h = absurd h
 sums_text key operations seed text written written' faults faults' SourceFailed summed h = absurd h
-sums_text key operations seed text written written' faults faults' SinkFailed summed h = h.0
+sums_text key operations seed text written written' faults faults' SinkFailed summed (rose, front) =
+    (rose, record { printed = text; due = inl summed; wrote = front })
 sums_text key operations seed text written written' faults faults' Memory summed h = absurd h
 
 pub sums_line : (key operations : ℕ) (seed : List ℕ) (refusal : Refusal) (written written' : Option (List ℕ)) (faults faults' : ℕ)
@@ -98,8 +101,11 @@ sums_line key operations seed refusal written written' faults faults' Usage due 
 sums_line key operations seed refusal written written' faults faults' Script due (calm, wrote) =
     (calm, record { refusal = refusal; refused = due; wrote = wrote })
 sums_line key operations seed refusal written written' faults faults' SourceFailed due h = absurd h
-sums_line key operations seed refusal written written' faults faults' SinkFailed due h = h.0
-sums_line key operations seed refusal written written' faults faults' Memory due h = tt
+sums_line key operations seed refusal written written' faults faults' SinkFailed due (rose, front) = (
+  rose,
+  record { printed = refusal_line refusal; due = inr (record { refusal = refusal; refused = due; told = refl }); wrote = front },
+)
+sums_line key operations seed refusal written written' faults faults' Memory due kept = kept
 
 -- behind the script
 pub makes : (key operations : ℕ) (seed : List ℕ) (ls : List MadeLine) (written between written' : Option (List ℕ)) (faults mid faults' : ℕ)
@@ -117,6 +123,21 @@ makes key operations seed ls written between written' faults mid faults' Script 
   behind = subst (λ (n : ℕ). SumsUp key operations seed between written' n faults' Script) calm h;
 }
 makes key operations seed ls written between written' faults mid faults' SourceFailed same wrote calm h = h
-makes key operations seed ls written between written' faults mid faults' SinkFailed same wrote calm h =
-    subst (λ (n : ℕ). Rose n faults') calm h
-makes key operations seed ls written between written' faults mid faults' Memory same wrote calm h = tt
+makes key operations seed ls written between written' faults mid faults' SinkFailed same wrote calm (rose, cut) = (
+  subst (λ (n : ℕ). Rose n faults') calm rose,
+  inr (record {
+    between = between;
+    script = subst (λ (l : List MadeLine). Appends written between (script_text l)) same wrote;
+    behind = (subst (λ (n : ℕ). Rose n faults') calm rose, cut);
+  }),
+)
+makes key operations seed ls written between written' faults mid faults' Memory same wrote calm kept =
+    whole_front written between written' (script_text (made_lines key operations))
+    (subst (λ (l : List MadeLine). Appends written between (script_text l)) same wrote) kept
+
+-- where it failed before the script's end
+pub cut_script : (key operations : ℕ) (seed : List ℕ) (ls : List MadeLine) (written written' : Option (List ℕ)) (faults faults' : ℕ)
+    → ls ≡ made_lines key operations → Rose faults faults' → Fronts written written' (script_text ls)
+    → Makes key operations seed written written' faults faults' SinkFailed
+cut_script key operations seed ls written written' faults faults' same rose front =
+    (rose, inl (front_of written written' ls (made_lines key operations) same front))

@@ -1,10 +1,11 @@
 -- A script that is made, piece by piece.
-use Rattle.std.proofs.Common.{◌≡◌, ℕ, List, [], ◌∷◌, ◌++◌, refl, sym, ap, subst, ◌∙◌, append_assoc, append-nil, Option}
-use Rattle.std.proofs.KnownBytes.{Appends-nil, Appends-trans}
-use Rattle.std.specs.Io.KnownBytes.{Appends}
-use Rattle.std.specs.Prelude.{codes}
-use Rattle.drill_command.specs.Writing.{Flushes}
+use Rattle.std.proofs.Common.{◌≡◌, ℕ, zero, suc, List, [], ◌∷◌, ◌++◌, length, take, drop, refl, sym, ap, subst, ◌∙◌, append_assoc, append-nil, take-append-drop, Option, Result, Ok, Err}
+use Rattle.std.proofs.KnownBytes.{Appends-kept, Appends-nil, Appends-trans}
+use Rattle.std.specs.Io.KnownBytes.{Appends, Keeps}
+use Rattle.std.specs.Prelude.{codes, OnErr}
+use Rattle.drill_command.specs.Writing.{Flushes, Fronts}
 use Rattle.gen_law.specs.ReadsBack.{script_text}
+use Rattle.outside_calls.specs.Outside.{AppendsFront}
 use Rattle.script_gen.specs.Lines.{line_text}
 use Rattle.script_gen.specs.declared.lines.MadeLine.{MadeLine}
 
@@ -65,3 +66,80 @@ pub last_of : (written mid now : Option (List ℕ)) (gathered bytes : List ℕ) 
     → left ≡ [] → Appends mid now bytes → Written written mid gathered left all → Appends written now all
 last_of written mid now gathered bytes left all same none wrote h =
     last_piece written mid now gathered left all none (subst (λ (l : List ℕ). Appends mid now l) same wrote) h
+
+-- ---- a front of it
+
+pub on_err : {A E : Type 0} (P : Type 0) (r : Result A E) → P → OnErr r P
+on_err P (Ok x) p = tt
+on_err P (Err e) p = p
+
+-- where a piece fails, a front of the piece
+pub cut_flush : (written written' : Option (List ℕ)) (bytes text : List ℕ) → bytes ≡ text → AppendsFront written written' bytes
+    → Fronts written written' text
+cut_flush written written' bytes text same front = record {
+  front = take front.0 bytes;
+  rest = drop front.0 bytes;
+  wrote = front.1;
+  parts = take-append-drop front.0 bytes ∙ same;
+}
+
+-- where a line can't be gathered, what was written before
+pub stood : (written now : Option (List ℕ)) (gathered : List ℕ) (left : List MadeLine) (all : List ℕ) → Written written now gathered left all
+    → Fronts written now all
+stood written now gathered left all h = record {
+  front = h.front;
+  rest = gathered ++ script_text left;
+  wrote = h.wrote;
+  parts = h.whole;
+}
+
+-- where a piece fails, what was written before and a front of the piece
+pub cut_piece : (written mid now : Option (List ℕ)) (gathered pushed : List ℕ) (left more : List MadeLine) (l : MadeLine) (all : List ℕ)
+    → left ≡ l ∷ more → pushed ≡ gathered ++ (line_text l ++ codes "\n") → Fronts mid now pushed → Written written mid gathered left all
+    → Fronts written now all
+cut_piece written mid now gathered pushed left more l all split grown f h = record {
+  front = h.front ++ f.front;
+  rest = f.rest ++ script_text more;
+  wrote = Appends-trans written mid now h.front f.front h.wrote f.wrote;
+  parts = regrouped h.front f.front f.rest gathered (line_text l ++ codes "\n") (script_text more) all (f.parts ∙ grown)
+      (subst (λ (ls : List MadeLine). h.front ++ (gathered ++ script_text ls) ≡ all) split h.whole);
+}
+
+pub cut_last : (written mid now : Option (List ℕ)) (gathered bytes : List ℕ) (left : List MadeLine) (all : List ℕ) → bytes ≡ gathered
+    → left ≡ [] → AppendsFront mid now bytes → Written written mid gathered left all → Fronts written now all
+cut_last written mid now gathered bytes left all same none front h = record {
+  front = h.front ++ take front.0 bytes;
+  rest = drop front.0 bytes;
+  wrote = Appends-trans written mid now h.front (take front.0 bytes) h.wrote front.1;
+  parts = append_assoc h.front (take front.0 bytes) (drop front.0 bytes)
+      ∙ (ap (λ (l : List ℕ). h.front ++ l) (take-append-drop front.0 bytes ∙ same)
+      ∙ (ap (λ (l : List ℕ). h.front ++ l) (sym (append-nil gathered))
+      ∙ subst (λ (ls : List MadeLine). h.front ++ (gathered ++ script_text ls) ≡ all) none h.whole));
+}
+
+first_part : (front rest : List ℕ) → take (length front) (front ++ rest) ≡ front
+first_part [] rest = refl
+first_part (x ∷ xs) rest = ap (λ (l : List ℕ). x ∷ l) (first_part xs rest)
+
+pub front_of : (written written' : Option (List ℕ)) (ls all : List MadeLine) → ls ≡ all → Fronts written written' (script_text ls)
+    → AppendsFront written written' (script_text all)
+front_of written written' ls all same f = (
+  length f.front,
+  subst (λ (l : List ℕ). Appends written written' l)
+      (sym (ap (λ (l : List ℕ). take (length f.front) l) (sym (f.parts ∙ ap (λ (m : List MadeLine). script_text m) same)) ∙ first_part f.front f.rest)) f.wrote,
+)
+
+-- nothing, and all of it
+pub no_front : (written : Option (List ℕ)) (text : List ℕ) → AppendsFront written written text
+no_front written text = (zero, Appends-nil written)
+
+all_taken : (text : List ℕ) → take (length text) text ≡ text
+all_taken [] = refl
+all_taken (x ∷ xs) = ap (λ (l : List ℕ). x ∷ l) (all_taken xs)
+
+pub whole_front : (written between written' : Option (List ℕ)) (text : List ℕ) → Appends written between text → Keeps between written'
+    → AppendsFront written written' text
+whole_front written between written' text wrote kept = (
+  length text,
+  subst (λ (l : List ℕ). Appends written written' l) (sym (all_taken text)) (Appends-kept written between written' text wrote kept),
+)

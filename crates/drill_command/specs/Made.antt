@@ -1,5 +1,5 @@
 -- The run of a script that is made, and its sum.
-use Rattle.std.specs.Prelude.{◌≡◌, ℕ, List, Result, Ok, MatchResult}
+use Rattle.std.specs.Prelude.{◌≡◌, ℕ, ◌⊎◌, List, Result, Ok, Err, MatchResult}
 use Rattle.drill_command.specs.Playing.{run_of}
 use Rattle.drill_command.specs.Summing.{summary_text}
 use Rattle.drill_defs.specs.Scripts.{lines_in, settings_in}
@@ -9,6 +9,7 @@ use Rattle.exchange_defs.specs.Network as network
 use Rattle.file_store.specs.Stored.{AreFiles}
 use Rattle.file_store.specs.declared.files.StoredFile.{StoredFile}
 use Rattle.gen_law.specs.ReadsBack.{made_script}
+use Rattle.outcome_lines.specs.Text.{refusal_line}
 use Rattle.script_lines.specs.declared.line.Refusal.{Refusal}
 use Rattle.script_runs.specs.Runs.{IsCourse}
 use Rattle.script_words.specs.Outcome.{Fails}
@@ -29,6 +30,16 @@ pub record Summed (key operations : ℕ) (seed printed : List ℕ) : Type 0 wher
   pub own : IsCourse (settings_in (made_script key operations) seed) (lines_in (made_script key operations)) course
   pub holds : MadeHolds (settings_in (made_script key operations) seed) (lines_in (made_script key operations))
   pub shown : IsSum course.world.values printed
+
+-- a line of it is refused, and this tells which and why
+pub record Stopped (key operations : ℕ) (seed printed : List ℕ) : Type 0 where
+  pub refusal : Refusal
+  pub refused : run_of (made_script key operations) seed ≡ Err refusal
+  pub told : printed ≡ refusal_line refusal
+
+-- what is due to be printed behind the script
+abbrev pub PrintsBehind : ℕ → ℕ → List ℕ → List ℕ → Type 0
+PrintsBehind key operations seed printed = Summed key operations seed printed ⊎ Stopped key operations seed printed
 
 -- the sum of the course that is due, or the refusal that is due
 abbrev pub Totals : {A : Type 0} → (A → List ℕ) → Result Course Refusal → Result A (Fault Refusal) → Type 0

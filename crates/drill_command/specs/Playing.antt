@@ -24,8 +24,8 @@ run_of read seed = schedule (settings_in read seed) 0 read.lines (opening (setti
 abbrev pub played : List ℕ → List ℕ → Result Course Refusal
 played text seed = script Drill text >>= λ read. run_of read seed
 
--- a script was read, each of its lines is met, its run over bytes is the definitions' own, the four sentences of the headline hold of it,
--- and this is its text
+-- a script was read, each of its lines is met, its run over bytes is the definitions' own, the four sentences of the headline hold of it, and
+-- completeness where it ends in settling, and this is its text
 pub record Ran (text seed printed : List ℕ) : Type 0 where
   pub read : Read
   pub said : script Drill text ≡ Ok read

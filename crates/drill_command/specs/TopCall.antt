@@ -1,5 +1,5 @@
 -- How the top call ends: its status, what it has read and what it has written.
-use Rattle.std.specs.Prelude.{◌≡◌, ℕ, Bool, true, false, List, codes, Option, Some, None, Result, Err}
+use Rattle.std.specs.Prelude.{◌≡◌, ℕ, ◌⊎◌, Bool, true, false, List, codes, Option, Some, None, Result, Err}
 use Rattle.std.specs.Io.KnownBytes.{Appends, Consumes, IsAtEnd, Keeps}
 use Rattle.drill_defs.specs.Scripts.{drill_settings}
 use Rattle.gen_law.specs.ReadsBack.{made_script, numbered, script_text}
@@ -14,7 +14,7 @@ use Rattle.script_runs.specs.Runs.{schedule}
 use Rattle.smb_io.specs.Faults.{Rose}
 use Rattle.world_defs.specs.Courses.{Course, opening}
 use Rattle.outside_calls.specs.Outside.{AppendsFront, HasRead}
-use Rattle.drill_command.specs.Made.{Summed}
+use Rattle.drill_command.specs.Made.{PrintsBehind, Summed}
 use Rattle.drill_command.specs.Playing.{Prints, Ran, played, run_of}
 use Rattle.drill_command.specs.declared.ending.Ending.{Ending}
 use Rattle.drill_command.specs.declared.ending.Ending.TheVariants.{Done, Usage, Script, SourceFailed, SinkFailed, Memory}
@@ -125,30 +125,41 @@ pub record IsStopped (key operations : ℕ) (seed : List ℕ) (written written' 
   pub refused : run_of (made_script key operations) seed ≡ Err refusal
   pub wrote : Appends written written' (refusal_line refusal)
 
+-- A front of the sum, or of the refused line, was written.
+pub record IsSumCut (key operations : ℕ) (seed : List ℕ) (written written' : Option (List ℕ)) : Type 0 where
+  pub printed : List ℕ
+  pub due : PrintsBehind key operations seed printed
+  pub wrote : AppendsFront written written' printed
+
 -- What an ending says behind a made script.
 abbrev pub SumsUp : (key operations : ℕ) (seed : List ℕ) (written written' : Option (List ℕ)) → (faults faults' : ℕ) → Ending → Type 0
 SumsUp key operations seed written written' faults faults' Done = (faults' ≡ faults) × IsSummed key operations seed written written'
 SumsUp key operations seed written written' faults faults' Usage = ⊥
 SumsUp key operations seed written written' faults faults' Script = (faults' ≡ faults) × IsStopped key operations seed written written'
 SumsUp key operations seed written written' faults faults' SourceFailed = ⊥
-SumsUp key operations seed written written' faults faults' SinkFailed = Rose faults faults'
-SumsUp key operations seed written written' faults faults' Memory = Unit {0}
+SumsUp key operations seed written written' faults faults' SinkFailed =
+    Rose faults faults' × IsSumCut key operations seed written written'
+SumsUp key operations seed written written' faults faults' Memory = Keeps written written'
 
--- What each ending says of `gen`: the script of its two numbers was written, and behind it the sum of that script's run, or its first refused
--- line; or the sink failed, where its count of faults rose. What was written where it failed, or where memory ran out, isn't said.
+-- The script of two numbers was written, and behind it what the ending says.
 pub record IsMade (key operations : ℕ) (seed : List ℕ) (written written' : Option (List ℕ)) (faults faults' : ℕ) (ending : Ending)
     : Type 0 where
   pub between : Option (List ℕ)
   pub script : Appends written between (script_text (made_lines key operations))
   pub behind : SumsUp key operations seed between written' faults faults' ending
 
+-- What each ending says of `gen`: the script of its two numbers was written, and behind it the sum of that script's run, or its first refused
+-- line. Where the sink failed, its count of faults rose, and a front of the script was written, or all of it and behind it a front of the sum
+-- or of the refused line. Where memory ran out, a front of the script was written, which may be all of it.
 abbrev pub Makes : (key operations : ℕ) (seed : List ℕ) (written written' : Option (List ℕ)) → (faults faults' : ℕ) → Ending → Type 0
 Makes key operations seed written written' faults faults' Done = IsMade key operations seed written written' faults faults' Done
 Makes key operations seed written written' faults faults' Usage = ⊥
 Makes key operations seed written written' faults faults' Script = IsMade key operations seed written written' faults faults' Script
 Makes key operations seed written written' faults faults' SourceFailed = ⊥
 Makes key operations seed written written' faults faults' SinkFailed = Rose faults faults'
-Makes key operations seed written written' faults faults' Memory = Unit {0}
+    × (AppendsFront written written' (script_text (made_lines key operations))
+    ⊎ IsMade key operations seed written written' faults faults' SinkFailed)
+Makes key operations seed written written' faults faults' Memory = AppendsFront written written' (script_text (made_lines key operations))
 
 -- What each ending says where the words are no command.
 abbrev pub IsUsage : (written written' : Option (List ℕ)) → (faults faults' : ℕ) → Ending → Type 0

@@ -10,6 +10,13 @@ abbrev pub FailsBy : ℕ → ℕ → WriteError → Type 0
 FailsBy old new Memory = Unit {0}
 FailsBy old new Failed = Rose old new
 
+-- a front of the text was written
+pub record Fronts (written written' : Option (List ℕ)) (text : List ℕ) : Type 0 where
+  pub front : List ℕ
+  pub rest : List ℕ
+  pub wrote : Appends written written' front
+  pub parts : front ++ rest ≡ text
+
 -- what left the text was written
 pub record Flushes (written written' : Option (List ℕ)) (old new : List ℕ) : Type 0 where
   pub front : List ℕ

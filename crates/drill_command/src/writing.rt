@@ -5,7 +5,7 @@ ghost use Rattle.std.specs.String.{string_bytes};
 ghost use Rattle.gen_law.specs.ReadsBack.{script_text};
 ghost use Rattle.script_gen.specs.Making.{lines_left};
 ghost use Rattle.smb_io.specs.Faults.{Rose};
-ghost use Rattle.drill_command.specs.Writing.{FailsBy, Flushes};
+ghost use Rattle.drill_command.specs.Writing.{FailsBy, Flushes, Fronts};
 
 use outside_calls::write_all;
 use script_gen::{Maker, push_line};
@@ -47,6 +47,7 @@ fn flush<O: Sink>(sink: &mut O, text: &mut String) -> Result<(), Failed>
     ensures written { OnOk result (Flushes (O.written sink.old) (O.written sink.new) (string_bytes text.old) (string_bytes text.new)) }
     ensures calm { OnOk result (O.faults sink.new ≡ O.faults sink.old) }
     ensures failed { OnErr result (Rose (O.faults sink.old) (O.faults sink.new)) }
+    ensures front { OnErr result (Fronts (O.written sink.old) (O.written sink.new) (string_bytes text.old)) }
 {
     write_all(sink, text.as_bytes())?;
     text.clear();
@@ -58,6 +59,7 @@ fn flush_piece<O: Sink>(sink: &mut O, text: &mut String) -> Result<(), Failed>
     ensures written { OnOk result (Flushes (O.written sink.old) (O.written sink.new) (string_bytes text.old) (string_bytes text.new)) }
     ensures calm { OnOk result (O.faults sink.new ≡ O.faults sink.old) }
     ensures failed { OnErr result (Rose (O.faults sink.old) (O.faults sink.new)) }
+    ensures front { OnErr result (Fronts (O.written sink.old) (O.written sink.new) (string_bytes text.old)) }
 {
     let full = text.len() >= PIECE;
     if full {
@@ -66,7 +68,8 @@ fn flush_piece<O: Sink>(sink: &mut O, text: &mut String) -> Result<(), Failed>
     Ok(())
 }
 
-/// All lines that are left are written, a piece at a time. That the sink failed raised its count of faults.
+/// All lines that are left are written, a piece at a time. That the sink failed raised its count of faults. Behind an error a front of them was
+/// written.
 pub(crate) fn write_script<O: Sink>(
     alloc: Global,
     mut maker: Maker,
@@ -75,6 +78,7 @@ pub(crate) fn write_script<O: Sink>(
     ensures written { OnOk result (Appends (O.written sink.old) (O.written sink.new) (script_text (lines_left maker))) }
     ensures calm { OnOk result (O.faults sink.new ≡ O.faults sink.old) }
     ensures failed { IfErr result (λ e. FailsBy (O.faults sink.old) (O.faults sink.new) e) }
+    ensures front { OnErr result (Fronts (O.written sink.old) (O.written sink.new) (script_text (lines_left maker))) }
 {
     let mut text = String::new(alloc);
     while let Some(line) = maker.next_line() {

@@ -1,1 +1,2 @@
 pub mod Quiet
+pub use Rattle.settling_law.specs as SettlingLaw

@@ -10,6 +10,7 @@ use lists_law::lists_law;
 use plain_law::plain_runs_law;
 use purse_law::purse_law;
 use script_fits_law::script_settings_law;
+pub use settling_law::scripts_settle_law;
 
 /// Lines without a forge and a flip, and without a cut, a drop, a restart and a crash, that end in settling: each operation is Ok or Refused
 /// with the reply of the server's step to a message of its own, or had no slot or no open, by their causes. One premise: nothing was given up

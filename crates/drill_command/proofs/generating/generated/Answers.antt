@@ -1,0 +1,7 @@
+use Rattle.gen_law.specs.ReadsBack.{script_text}
+use Rattle.script_gen.specs.Making.{made_lines}
+use Rattle.drill_command.proofs.Written.{no_front}
+use Rattle.drill_command.proofs.generating.generated.Goals as goal
+
+pub returns : goal.returns
+returns g c = no_front (g.O.Sink.written c.args.sink.now) (script_text (made_lines c.args.key c.args.operations))
