@@ -2,32 +2,38 @@
 //! `smb311.journal` of its folder. What it draws comes from 32 bytes of the machine's source of random bytes.
 #![tactic(auto)]
 
-mod serving;
-
-use drill_command::{Ending, smb311_drill};
+use journal_file::JournalFile;
 use rand_chacha::ChaCha20Rng;
 use rand_core::SeedableRng;
 use smb_io::{StdSink, StdSource};
+use smb_net::{StdClock, StdNet};
+use smb311_command::smb311;
 use std::alloc::AllocError;
 use std::env;
 use std::io::ErrorKind;
+use std::net::{Net, TcpListener, TcpStream};
 use std::process::ExitCode;
 use std::random::RandomSource;
 use std::rt::Env;
+use std::sync::Wait;
+use std::thread::Threads;
+use std::time::Clock;
 
-// Without random bytes nothing is called. `serve` and what stands behind it are the server's words, all others the drill's.
+/// The status without random bytes. Then nothing is called.
+const NO_RANDOM_BYTES: u8 = 1;
+
+/// The status without memory for the words. Then nothing is called.
+const NO_MEMORY: u8 = 8;
+
 fn main(rt: HostRuntime) -> ExitCode {
     let mut seed = [0; 32];
     if rt.fill_bytes(&mut seed).is_err() {
-        return ExitCode::from(1);
+        return ExitCode::from(NO_RANDOM_BYTES);
     }
-    let Ok(words) = words(&rt) else {
-        return ExitCode::from(Ending::Memory as u8);
-    };
-    if is_serve(words.as_slice()) {
-        return ExitCode::from(serving::served(&rt, &rt, words.as_slice(), seed) as u8);
+    match words(&rt) {
+        Ok(words) => ExitCode::from(status(&rt, &rt, words.as_slice(), seed)),
+        Err(AllocError) => ExitCode::from(NO_MEMORY),
     }
-    ExitCode::from(drilled(&rt, words.as_slice(), seed))
 }
 
 // The words behind the program's name. Where one is not UTF-8 there are none, since no command has such a word.
@@ -39,16 +45,25 @@ fn words<R: Env + AllocGlobal>(rt: &R) -> Result<Vec<String>, AllocError> {
     }
 }
 
-fn is_serve(words: &[String]) -> bool {
-    match words.first() {
-        Some(word) => word.as_str() == "serve",
-        None => false,
-    }
-}
-
-fn drilled(rt: &HostRuntime, words: &[String], seed: [u8; 32]) -> u8 {
-    let mut source = StdSource::new(rt.stdin());
-    let mut sink = StdSink::new(rt.stdout());
-    let mut random = ChaCha20Rng::from_seed(seed);
-    smb311_drill(rt.alloc(), words, &mut source, &mut sink, &mut random)
+// What the one call answers that does all.
+fn status<W>(rt: &W, host: &HostRuntime, words: &[String], seed: [u8; 32]) -> u8
+where
+    W: Wait + Threads + Sync + Net<Listener = TcpListener, Stream = TcpStream> + Clock,
+{
+    let mut source = StdSource::new(host.stdin());
+    let mut sink = StdSink::new(host.stdout());
+    let disk = JournalFile::new(host);
+    let (net, clock) = (StdNet::new(rt), StdClock::new(rt));
+    let random = ChaCha20Rng::from_seed(seed);
+    smb311(
+        rt,
+        host.alloc(),
+        words,
+        &mut source,
+        &mut sink,
+        disk,
+        net,
+        clock,
+        random,
+    )
 }
