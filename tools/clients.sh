@@ -5,9 +5,10 @@
 # SIZES (bytes of the files that are put and got) and PORT may be given; LIMIT is how many seconds a client may take.
 top=$(cd "$(dirname "$0")/.." && pwd)
 sizes=${SIZES:-0 1 65536 1048577 50000000}; port=${PORT:-4450}; limit=${LIMIT:-600}
-[ $# -gt 0 ] || { echo "usage: tools/clients.sh PROGRAM serve" >&2; exit 2; }
+[ $# -gt 0 ] && [ "$1" != --help ] || { echo "usage: tools/clients.sh PROGRAM serve" >&2; exit 2; }
 program=("$@"); room=$(mktemp -d) || exit 2
 well=0; failed=0; server=; address=127.0.0.1:$port
+whole=50000000; part=5000000; size=0  # a put that is cut, and how many bytes of it are in the journal then
 
 finish() { [ -n "$server" ] && kill -9 "$server" 2>/dev/null; rm -rf "$room"; }
 trap finish EXIT
@@ -69,20 +70,42 @@ two_at_once() {
   wait $left && wait $right && cmp "$room/left" "$room/f1048577" && cmp "$room/right" "$room/f65536"
 }
 
+# in_the_middle CLIENT: waits until a part of what the client puts is in the journal, or the client has ended.
+in_the_middle() {
+  local journal=$room/$folder/smb311.journal had turn
+  had=$(stat -c %s "$journal")
+  for turn in $(seq 10000); do
+    [ "$(stat -c %s "$journal")" -gt $((had + part)) ] && return
+    kill -0 "$1" 2>/dev/null || return
+    sleep 0.001
+  done
+}
+
 killed_client() {
-  (exec timeout "$limit" smbclient "//127.0.0.1/data" -p "$port" -t "$limit" -m SMB3_11 -U user%Password "${protection[@]}" -c "put $room/big big") &
+  (exec smbclient "//127.0.0.1/data" -p "$port" -t "$limit" -m SMB3_11 -U user%Password "${protection[@]}" -c "put $room/big big") &
   local client=$!
-  sleep 0.5; kill -9 $client 2>/dev/null; wait $client 2>/dev/null
+  in_the_middle $client; kill -9 $client 2>/dev/null; wait $client 2>/dev/null
   smb "${protection[@]}" -c "put $room/f1 after; get after $room/after" && cmp "$room/after" "$room/f1"
 }
 
-# The server is killed in a put and begun again: the files that were put before are there.
+# The file of the put that was cut is absent, or holds a front of what was sent.
+is_front() {
+  local said
+  rm -f "$room/torn"; size=0
+  said=$(smb "${protection[@]}" -c "get torn $room/torn" 2>&1)
+  [[ $said == *NT_STATUS_OBJECT_NAME_NOT_FOUND* ]] && return
+  [ -e "$room/torn" ] || { echo "$said"; return 1; }
+  size=$(stat -c %s "$room/torn")
+  [ "$size" -le "$whole" ] && cmp -n "$size" "$room/torn" "$room/big"
+}
+
+# The server is killed in a put and begun again: a file that was put before is there, and of the one that was cut a front at most.
 killed_server() {
   smb "${protection[@]}" -c "put $room/f65536 kept" || return 1
   smb "${protection[@]}" -c "put $room/big torn" & local client=$!
-  sleep 0.5; stop; wait $client
+  in_the_middle $client; stop; wait $client
   begin "$folder" "$settings"
-  smb "${protection[@]}" -c "get kept $room/kept" && cmp "$room/kept" "$room/f65536"
+  smb "${protection[@]}" -c "get kept $room/kept" && cmp "$room/kept" "$room/f65536" && is_front
 }
 
 with_smbclient() {
@@ -103,7 +126,7 @@ with_smbclient() {
 
 # The server's process id changes here, so this check runs in no shell of its own.
 killed() {
-  if killed_server > "$room/said" 2>&1; then ok "$1"; else bad "$1" "$(tail -n 1 "$room/said")"; fi
+  if killed_server > "$room/said" 2>&1; then ok "$1 ($size of $whole bytes are there)"; else bad "$1" "$(tail -n 1 "$room/said")"; fi
 }
 
 with_impacket() {
@@ -114,7 +137,7 @@ with_impacket() {
 }
 
 for size in $sizes 1 65536 1048577; do [ -e "$room/f$size" ] || head -c "$size" /dev/urandom > "$room/f$size"; done
-head -c 8000000 /dev/urandom > "$room/big"
+head -c "$whole" /dev/urandom > "$room/big"
 has_smbclient=; command -v smbclient > /dev/null && has_smbclient=yes || echo "smbclient is missing: its checks are left out"
 has_impacket=; /usr/bin/python3 -c 'import impacket' 2> /dev/null && has_impacket=yes || echo "python3-impacket is missing: its checks are left out"
 
