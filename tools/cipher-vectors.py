@@ -1,21 +1,23 @@
 #!/usr/bin/env python3
-"""Writes the expected output of crates/cipher_vectors, by Python's `cryptography` (which is OpenSSL's code).
+"""Writes what is due of the rows `cipher vector ..` of crates/byte_rows, by Python's `cryptography` (which is OpenSSL's code).
 
     tools/cipher-vectors.py
 
-It reads the lines of crates/cipher_vectors/stdin and writes crates/cipher_vectors/stdout. A line is the mode, and the lengths
-of key, nonce, additional data, text and tag. A mode with `-through` stands for all lengths of text from 0 to the one that is
-told, its result for the SHA-256 of their results one behind the other; one with `-zeros` has a key, nonce and text of
-zeros."""
+It reads these rows, whose words are the mode, and the lengths of key, nonce, additional data, text and tag, and writes them again with the
+answer. A mode with `-through` stands for all lengths of text from 0 to the one that is told, its result for the SHA-256 of their results one
+behind the other; one with `-zeros` has a key, nonce and text of zeros."""
 
 import hashlib
 import os
+
+import vector_parts
+import sys
 
 from cryptography.hazmat.primitives.ciphers.aead import AESCCM, AESGCM
 from cryptography.hazmat.primitives.ciphers.algorithms import AES
 from cryptography.hazmat.primitives.cmac import CMAC
 
-FOLDER = os.path.join(os.path.dirname(os.path.abspath(__file__)), "..", "crates", "cipher_vectors")
+ROWS = "cipher vector "
 
 
 def pattern(count, square, step, first, modulus):
@@ -63,11 +65,10 @@ def answer(line):
 
 
 def main():
-    with open(os.path.join(FOLDER, "stdin"), encoding="utf-8") as file:
-        lines = file.read().splitlines()
-    with open(os.path.join(FOLDER, "stdout"), "w", encoding="utf-8") as file:
-        for line in lines:
-            file.write("%s %s\n" % (line, answer(line)))
+    path = os.path.join(vector_parts.CRATES, "byte_rows", "stdin")
+    with open(path, encoding="utf-8") as file:
+        given = [line.partition(" = ")[0] for line in file.read().splitlines() if line.startswith(ROWS)]
+    vector_parts.put("byte_rows", "stdin", "cipher-vectors.py", ["%s = %s" % (row, answer(row[len(ROWS):])) for row in given])
 
 
 if __name__ == "__main__":

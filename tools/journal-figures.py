@@ -9,13 +9,17 @@ import os, shutil, subprocess, sys
 
 
 def main():
+    if len(sys.argv) != 2 or sys.argv[1].startswith("-"):
+        return __doc__
     folder = os.path.abspath(sys.argv[1])
     top = os.path.dirname(os.path.dirname(os.path.abspath(__file__)))
     os.makedirs(folder)
-    names = ["wire_defs", "smb_bytes", "smb_io", "journal_defs", "persist_journal"]
+    below = {line.split(":")[0]: line for line in open(f"{top}/crates.txt", encoding="utf-8") if ":" in line}
+    names = ["persist_journal"]
     for name in names:
+        names += [it for it in below[name].split(":")[1].split() if it in below and it not in names]
         shutil.copytree(f"{top}/crates/{name}", f"{folder}/crates/{name}")
-    lines = [line for line in open(f"{top}/crates.txt", encoding="utf-8") if line.split(":")[0] in names]
+    lines = [line for name, line in below.items() if name in names]
     lines.append("journal_figures: anyhow smb_bytes smb_io persist_journal\n")
     with open(f"{folder}/crates.txt", "w", encoding="utf-8") as out:
         out.writelines(lines)

@@ -498,10 +498,6 @@ def scripts():
     return rows
 
 
-# Behind the rows the program tells how many of 600 operations of five works are outstanding at once; the plain client gave these numbers.
-OUTSTANDING = (("apart", 512), ("one-place", 1), ("halves", 301), ("groups", 209), ("locks", 296))
-
-
 def figures(rows):
     """How often each answer comes, with its numbers taken out."""
     counts = collections.Counter()
@@ -531,7 +527,6 @@ def main(words):
         file.write("# Written by tools/plain-client.py.\n" + "".join(row + "\n" for row in rows))
     with open(os.path.join(folder, "stdout"), "w", encoding="utf-8") as file:
         file.write("%d rows are answered as they say\n" % len(rows))
-        file.writelines("%s: 600 and 600 are answered, at most %d are outstanding\n" % work for work in OUTSTANDING)
     return 0
 
 

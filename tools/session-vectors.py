@@ -1,5 +1,5 @@
 #!/usr/bin/env python3
-"""Writes the table of logon tokens, keys, signatures and sealed messages that the program crates/logon_vectors is run on.
+"""Writes the table of logon tokens, keys, signatures and sealed messages, which are rows of the program crates/message_vectors.
 
 usage: tools/session-vectors.py
 
@@ -9,11 +9,11 @@ hexadecimal digits and `COUNT*FIRST` (byte i is (7 i + FIRST) mod 256), joined b
 and their SHA-256. Lines that begin with `#` are printed as they are.
 """
 import hashlib
-import os
 import struct
 import sys
 
 import session_formulas as f
+import vector_parts
 import worked_logon as worked
 from session_formulas import Type3, der, pairs, utf16
 from wire_contexts import header
@@ -34,14 +34,12 @@ class Table:
         self.answered.append(f"# {words}")
 
     def row(self, asked, *answered):
-        self.asked.append(asked)
+        self.asked.append(f"logon {asked}")
         self.answered += [f"{asked.split()[0]}: {answered[0]}", *[f"  {line}" for line in answered[1:]]]
 
-    def write(self, name):
-        folder = os.path.join(os.path.dirname(os.path.dirname(os.path.abspath(__file__))), "crates", name)
+    def write(self):
         for file, lines in (("stdin", self.asked), ("stdout", self.answered)):
-            with open(os.path.join(folder, file), "w", encoding="utf-8") as out:
-                out.write("# Written by tools/session-vectors.py.\n" + "".join(line + "\n" for line in lines))
+            vector_parts.put("message_vectors", file, "session-vectors.py", lines)
 
 
 def digits(data):
@@ -527,6 +525,8 @@ def worked_frames(table, logon):
 
 
 def main():
+    if len(sys.argv) > 1:
+        sys.exit(__doc__)
     table = Table()
     published(table)
     formulas(table)
@@ -540,7 +540,7 @@ def main():
     signatures(table)
     seals(table)
     worked_rows(table)
-    table.write("logon_vectors")
+    table.write()
     return 0
 
 

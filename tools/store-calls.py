@@ -28,6 +28,7 @@ changes nothing.
     coded PATH = NUMBER                        makes a file; the path is hexadecimal digits
     holds NUMBER AT BYTES = same | other       whether the file holds these bytes there
     used = BYTES        next = NUMBER        room ROOM = ok
+    held = BYTES                               what the pieces of all files have, without the zeros between them
     files = COUNT#SUM                          no directories, in byte order of paths; the SUM is over, for each, its path's UTF-8 bytes,
                                                a zero byte, its length in 8 bytes and its bytes, one after the other
 
@@ -289,6 +290,14 @@ new 10 = ok
 make a file 0 1 = 1
 holds 1 0 - = same
 holds 1 0 78 = other
+# What one byte far away holds.
+new 268435456 = ok
+make f file 0 1 = 1
+write 1 200000000 78 2 = ok
+held = 1
+read 1 199999999 2 = 0078
+remove 1 = ok
+held = 0
 # Calls at random.
 """.strip()
 
@@ -543,6 +552,8 @@ class Caller:
 
 
 def main():
+    if len(sys.argv) < 3:
+        sys.exit(__doc__)
     seed, count, left_out = int(sys.argv[1]), int(sys.argv[2]), sys.argv[3:]
     caller = Caller(seed, 120000)
     lines = ["new 120000 = ok", *(caller.line() for _ in range(count - 2)), "files = " + caller.call_files()[1]]

@@ -3,17 +3,17 @@
 
 usage: tools/wire-vectors.py
 
-Writes `stdin` and `stdout` of crates/message_vectors. The bytes are made by `struct.pack` from the layouts of MS-SMB2 2.2,
+Writes its part of `stdin` and `stdout` of crates/message_vectors. The bytes are made by `struct.pack` from the layouts of MS-SMB2 2.2,
 MS-FSCC 2.4 and 2.5, and of the journal; nothing here is the output of the program. A line of `stdin` is the name of a table, a
 word and the hexadecimal digits of a body, which stands behind a header of 64 zero bytes where the word is a message; a number
 behind them cuts the message to so many bytes. `stdout` has the value that stands in it, by name, and its canonical spelling, or
 the refusal. A line `cuts` asks for the outcome at each length, and `stdout` has the lengths from which it is another; a line
 `only` asks for the value alone. Lines that begin with `#` are printed as they are.
 """
-import os
 import struct
 import sys
 
+import vector_parts
 import wire_classes as classes
 import wire_contexts as contexts
 import wire_layouts as layouts
@@ -41,12 +41,10 @@ class Table:
 
 
 def write(tables):
-    folder = os.path.join(os.path.dirname(os.path.dirname(os.path.abspath(__file__))), "crates", "message_vectors")
     asked = [line for table in tables for line in table.asked]
     answered = [line for table in tables for line in table.answered]
     for file, lines in (("stdin", asked), ("stdout", answered)):
-        with open(os.path.join(folder, file), "w", encoding="utf-8") as out:
-            out.write("# Written by tools/wire-vectors.py.\n" + "".join(line + "\n" for line in lines))
+        vector_parts.put("message_vectors", file, "wire-vectors.py", lines)
 
 
 # ---- messages
@@ -397,6 +395,8 @@ def chosen(messages, names):
 
 
 def main():
+    if len(sys.argv) > 1:
+        sys.exit(__doc__)
     session, file, info, record = (Table(name) for name in ("session", "file", "info", "record"))
     contexts.header_rows(session)
     contexts.frame_rows(session)

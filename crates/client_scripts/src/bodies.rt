@@ -1,30 +1,28 @@
 // What a success says.
-use crate::words::{u32_in, u64_in, word_in};
-use anyhow::{Result, bail};
+use crate::plays::{Fault, kept};
+use crate::words::{number, small, word};
 use command_values::{Body, CreateReply, Info, Named};
 use exchange_defs::values::Basic;
 use smb_bytes::{Bytes, Text};
-use std::alloc::Global;
-use std::str::SplitWhitespace;
-use vector_rows::bytes_of;
+use std::alloc::{AllocError, Global};
 
-/// The body that the words tell. `-`: one that no operation is answered.
-pub fn body_in(alloc: Global, words: &mut SplitWhitespace<'_>) -> Result<Body> {
-    match word_in(words)? {
+/// The body that the words from the fifth on tell. `-`: one that no operation is answered.
+pub fn body_of(alloc: Global, words: &[&str]) -> Result<Body, Fault> {
+    match word(words, 4) {
         "done" => Ok(Body::Empty),
-        "action" => created(words),
+        "action" => Ok(created(words)),
         "count" => Ok(Body::Count {
-            count: u32_in(words)?,
+            count: small(words, 5),
         }),
-        "content" => content(alloc, words),
-        "length" => file_info(alloc, words),
-        "names" => listing(alloc, words),
+        "content" => content(alloc, word(words, 5)),
+        "length" => Ok(file_info(alloc, number(words, 5))),
+        "names" => kept(listing(alloc, words)),
         "-" => Ok(Body::VolumeInfo {
             class: 7,
             room: 0,
             used: 0,
         }),
-        _ => bail!("an unknown body"),
+        _ => Err(Fault::Refused),
     }
 }
 
@@ -44,44 +42,54 @@ fn info_of(size: u64) -> Info {
     }
 }
 
-fn created(words: &mut SplitWhitespace<'_>) -> Result<Body> {
-    let action = u32_in(words)?;
-    let id = u64_in(words)?;
-    Ok(Body::Created(CreateReply {
-        id,
-        action,
+fn created(words: &[&str]) -> Body {
+    Body::Created(CreateReply {
+        id: number(words, 6),
+        action: small(words, 5),
         info: info_of(0),
         timeout: None,
         maximal: false,
         disk_id: false,
-    }))
-}
-
-fn content(alloc: Global, words: &mut SplitWhitespace<'_>) -> Result<Body> {
-    let bytes = bytes_of(alloc, word_in(words)?)?;
-    Ok(Body::Content {
-        bytes: Bytes::from_vec(bytes),
     })
 }
 
-fn file_info(alloc: Global, words: &mut SplitWhitespace<'_>) -> Result<Body> {
-    let size = u64_in(words)?;
-    Ok(Body::FileInfo {
+fn content(alloc: Global, digits: &str) -> Result<Body, Fault> {
+    if digits == "-" {
+        return Ok(Body::Content {
+            bytes: Bytes::new(alloc),
+        });
+    }
+    match hex::decode(alloc, digits) {
+        Ok(bytes) => Ok(Body::Content {
+            bytes: Bytes::from_vec(bytes),
+        }),
+        Err(_) => Err(Fault::Refused),
+    }
+}
+
+fn file_info(alloc: Global, size: u64) -> Body {
+    Body::FileInfo {
         class: 5,
         path: Text::new(alloc),
         info: info_of(size),
         access: 0,
         options: 0,
-    })
+    }
 }
 
-fn listing(alloc: Global, words: &mut SplitWhitespace<'_>) -> Result<Body> {
+fn push_name(entries: &mut Vec<Named>, alloc: Global, word: &str) -> Result<(), AllocError> {
+    let name = Text::from_str(alloc, word)?;
+    entries.push(Named {
+        name,
+        info: info_of(0),
+    })?;
+    Ok(())
+}
+
+fn listing(alloc: Global, words: &[&str]) -> Result<Body, AllocError> {
     let mut entries = Vec::new(alloc);
-    for word in words {
-        entries.push(Named {
-            name: Text::from_str(alloc, word)?,
-            info: info_of(0),
-        })?;
+    for word in words.iter().skip(5) {
+        push_name(&mut entries, alloc, word)?;
     }
     Ok(Body::Listing { class: 12, entries })
 }

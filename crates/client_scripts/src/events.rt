@@ -1,197 +1,212 @@
 // What a client does at the event of a row.
-use crate::bodies::body_in;
-use crate::operations::kind_in;
-use crate::plays::Plays;
+use crate::bodies::body_of;
+use crate::operations::kind_of;
+use crate::plays::{Fault, Plays, kept};
 use crate::script::Script;
-use crate::words::{status_in, u8_in, u32_in, u64_in, word_in};
+use crate::words::{number, small, status, tiny, word};
 use crate::{sent, telling};
-use anyhow::{Result, bail};
 use client_outcomes::Why;
 use client_played::{Act, Event};
 use command_values::Body;
 use msg_session::Refusal;
 use std::alloc::Global;
-use std::str::SplitWhitespace;
+use std::fmt::Write;
 
-/// What is answered to a row: what is done at its event, and what settles by it; at the end of a script all that stands.
-pub fn said_to<P: Plays>(alloc: Global, script: &mut Script<P>, given: &str) -> Result<String> {
-    let mut words = given.split_whitespace();
-    match word_in(&mut words)? {
+/// Puts what is answered to a row: what is done at its event, and what settles by it; at the end of a script all that stands.
+pub fn push_answer<P: Plays>(
+    said: &mut String,
+    alloc: Global,
+    script: &mut Script<P>,
+    given: &str,
+) -> Result<(), Fault> {
+    let words: Vec<&str> = given.split(' ').collect(alloc)?;
+    answer_words(said, alloc, script, &words)
+}
+
+fn answer_words<P: Plays>(
+    said: &mut String,
+    alloc: Global,
+    script: &mut Script<P>,
+    words: &[&str],
+) -> Result<(), Fault> {
+    match word(words, 0) {
         "script" => {
             *script = Script::new(alloc);
-            plain(alloc, "nothing")
+            kept(said.push_str("nothing"))
         }
-        "end" => telling::all(alloc, script.played.table()),
-        word => {
-            let done = done_at(alloc, &mut script.played, word, &mut words)?;
-            telling::with_news(alloc, script, done)
-        }
+        "end" => kept(telling::push_all(said, script.played.table())),
+        "wear" => wear(said, alloc, &mut script.played, words),
+        _ => answer_event(said, alloc, script, words),
     }
 }
 
-fn done_at<P: Plays>(
+fn answer_event<P: Plays>(
+    said: &mut String,
+    alloc: Global,
+    script: &mut Script<P>,
+    words: &[&str],
+) -> Result<(), Fault> {
+    push_done(said, alloc, &mut script.played, words)?;
+    kept(telling::push_news(said, script))
+}
+
+fn push_done<P: Plays>(
+    said: &mut String,
     alloc: Global,
     played: &mut P,
-    word: &str,
-    words: &mut SplitWhitespace<'_>,
-) -> Result<String> {
-    match word {
-        "submit" => submitted(alloc, played, words),
-        "push" => pushed(alloc, played, words),
-        "hear" => heard(alloc, played, words, false),
-        "join" => heard(alloc, played, words, true),
-        "cut" => cut(alloc, played, words),
-        "ready" => ready(alloc, played, words),
-        "wear" => worn(alloc, played, words),
-        "refused" => refused(alloc, played, words),
-        "finish" => finished(alloc, played, words),
-        _ => bail!("an unknown event"),
+    words: &[&str],
+) -> Result<(), Fault> {
+    let was_ready = played.table().session.is_ready(small(words, 1));
+    let event = event_of(alloc, words)?;
+    let act = played.at_event(event, alloc)?;
+    push_act(said, alloc, played, words, act, was_ready)
+}
+
+// What an event came to.
+fn push_act<P: Plays>(
+    said: &mut String,
+    alloc: Global,
+    played: &P,
+    words: &[&str],
+    act: Act,
+    was_ready: bool,
+) -> Result<(), Fault> {
+    match word(words, 0) {
+        "submit" => kept(write!(said, "{} taken", played.table().ops.len())),
+        "push" => sent::push_sent(said, alloc, played, act),
+        "ready" => kept(said.push_str(readied(act))),
+        "cut" => kept(said.push_str(cut(act, was_ready))),
+        _ => kept(said.push_str(heard(act))),
     }
 }
 
-fn plain(alloc: Global, word: &str) -> Result<String> {
-    Ok(String::from_str(alloc, word)?)
+fn readied(act: Act) -> &'static str {
+    match act {
+        Act::Nothing => "ready",
+        Act::CloseChannel => "apart",
+        _ => "a dialog asks for more",
+    }
 }
 
-fn submitted<P: Plays>(
-    alloc: Global,
-    played: &mut P,
-    words: &mut SplitWhitespace<'_>,
-) -> Result<String> {
-    let number = u32_in(words)?;
-    let kind = kind_in(alloc, words)?;
-    let _ = played.at_event(Event::Submit { number, kind }, alloc)?;
-    let taken = played.table().ops.len();
-    Ok(format!(in alloc; "{taken} taken")?)
+fn cut(act: Act, was_ready: bool) -> &'static str {
+    match act {
+        Act::CloseChannels => "ends",
+        Act::Nothing if was_ready => "lost",
+        Act::Nothing => "nothing",
+        _ => "a cut asks for more",
+    }
 }
 
-fn pushed<P: Plays>(
-    alloc: Global,
-    played: &mut P,
-    words: &mut SplitWhitespace<'_>,
-) -> Result<String> {
-    let channel = u8_in(words)?;
-    let credits = u32_in(words)?;
-    let act = played.at_event(Event::Push { channel, credits }, alloc)?;
-    sent::push(alloc, played, act)
+fn heard(act: Act) -> &'static str {
+    match act {
+        Act::CloseChannels => "closes all",
+        Act::CloseChannel | Act::Nothing => "nothing",
+        _ => "a response asks for more",
+    }
 }
 
-fn heard<P: Plays>(
-    alloc: Global,
-    played: &mut P,
-    words: &mut SplitWhitespace<'_>,
-    asking: bool,
-) -> Result<String> {
-    let channel = u8_in(words)?;
-    let number = u32_in(words)?;
-    let status = status_in(alloc, words)?;
-    let body = if status == 0 && !asking {
-        body_in(alloc, words)?
-    } else {
-        Body::Empty
-    };
-    let event = Event::Hear {
-        channel,
-        number,
+fn event_of(alloc: Global, words: &[&str]) -> Result<Event, Fault> {
+    let channel = tiny(words, 1);
+    match word(words, 0) {
+        "submit" => submit(alloc, words),
+        "push" => Ok(Event::Push {
+            channel,
+            credits: small(words, 2),
+        }),
+        "hear" => hear(alloc, words),
+        "join" => Ok(hear_of(words, true, Body::Empty)),
+        "cut" => Ok(Event::Cut { channel }),
+        "ready" => Ok(Event::Ready {
+            channel,
+            session: number(words, 2),
+            tree: small(words, 3),
+        }),
+        "refused" => refused(words),
+        "finish" => finish(words),
+        _ => Err(Fault::Refused),
+    }
+}
+
+fn refused(words: &[&str]) -> Result<Event, Fault> {
+    let why = refusal_of(words)?;
+    Ok(Event::Refused {
+        channel: tiny(words, 1),
+        why,
+    })
+}
+
+fn finish(words: &[&str]) -> Result<Event, Fault> {
+    let why = why_of(words)?;
+    Ok(Event::Finish { why })
+}
+
+fn submit(alloc: Global, words: &[&str]) -> Result<Event, Fault> {
+    let kind = kind_of(alloc, words)?;
+    Ok(Event::Submit {
+        number: small(words, 1),
+        kind,
+    })
+}
+
+fn hear_of(words: &[&str], asking: bool, body: Body) -> Event {
+    Event::Hear {
+        channel: tiny(words, 1),
+        number: small(words, 2),
         asking,
-        status,
+        status: status(words, 3),
         body,
-    };
-    match played.at_event(event, alloc)? {
-        Act::CloseChannels => plain(alloc, "closes all"),
-        Act::Nothing => plain(alloc, "nothing"),
-        _ => bail!("a response asks for more"),
     }
 }
 
-fn cut<P: Plays>(alloc: Global, played: &mut P, words: &mut SplitWhitespace<'_>) -> Result<String> {
-    let channel = u8_in(words)?;
-    let was_ready = played.table().session.is_ready(channel as u32);
-    match played.at_event(Event::Cut { channel }, alloc)? {
-        Act::CloseChannels => plain(alloc, "ends"),
-        Act::Nothing => plain(alloc, if was_ready { "lost" } else { "nothing" }),
-        _ => bail!("a cut asks for more"),
+fn hear(alloc: Global, words: &[&str]) -> Result<Event, Fault> {
+    if status(words, 3) != 0 {
+        return Ok(hear_of(words, false, Body::Empty));
     }
+    let body = body_of(alloc, words)?;
+    Ok(hear_of(words, false, body))
 }
 
-fn ready<P: Plays>(
-    alloc: Global,
-    played: &mut P,
-    words: &mut SplitWhitespace<'_>,
-) -> Result<String> {
-    let channel = u8_in(words)?;
-    let session = u64_in(words)?;
-    let tree = u32_in(words)?;
-    let event = Event::Ready {
+fn wear_once<P: Plays>(alloc: Global, played: &mut P, channel: u8) -> Result<Act, Fault> {
+    let session = played.table().session.id();
+    let tree = played.table().session.tree();
+    let ready = Event::Ready {
         channel,
         session,
         tree,
     };
-    match played.at_event(event, alloc)? {
-        Act::Nothing => plain(alloc, "ready"),
-        Act::CloseChannel => plain(alloc, "apart"),
-        _ => bail!("a dialog asks for more"),
-    }
+    let _ = played.at_event(ready, alloc)?;
+    played.at_event(Event::Cut { channel }, alloc)
 }
 
 /// A channel becomes ready in the session and is cut, so often.
-fn worn<P: Plays>(
+fn wear<P: Plays>(
+    said: &mut String,
     alloc: Global,
     played: &mut P,
-    words: &mut SplitWhitespace<'_>,
-) -> Result<String> {
-    let channel = u8_in(words)?;
-    let times = u32_in(words)?;
-    let session = played.table().session.id();
-    let tree = played.table().session.tree();
-    for _ in 0..times {
-        let ready = Event::Ready {
-            channel,
-            session,
-            tree,
-        };
-        let _ = played.at_event(ready, alloc)?;
-        let _ = played.at_event(Event::Cut { channel }, alloc)?;
+    words: &[&str],
+) -> Result<(), Fault> {
+    for _ in 0..small(words, 2) {
+        let _ = wear_once(alloc, played, tiny(words, 1))?;
     }
-    plain(alloc, "nothing")
+    kept(said.push_str("nothing"))
 }
 
-fn refusal_in(alloc: Global, words: &mut SplitWhitespace<'_>) -> Result<Refusal> {
-    match word_in(words)? {
+// Behind the channel, or behind `no-session`.
+fn refusal_of(words: &[&str]) -> Result<Refusal, Fault> {
+    match word(words, 2) {
         "bad-token" => Ok(Refusal::BadToken),
         "bad-signature" => Ok(Refusal::BadSignature),
         "no-sha512" => Ok(Refusal::NoSha512),
-        "status" => Ok(Refusal::Status(status_in(alloc, words)?)),
-        _ => bail!("an unknown refusal"),
+        "status" => Ok(Refusal::Status(status(words, 3))),
+        _ => Err(Fault::Refused),
     }
 }
 
-fn refused<P: Plays>(
-    alloc: Global,
-    played: &mut P,
-    words: &mut SplitWhitespace<'_>,
-) -> Result<String> {
-    let channel = u8_in(words)?;
-    let why = refusal_in(alloc, words)?;
-    let _ = played.at_event(Event::Refused { channel, why }, alloc)?;
-    plain(alloc, "nothing")
-}
-
-fn why_in(alloc: Global, words: &mut SplitWhitespace<'_>) -> Result<Why> {
-    match word_in(words)? {
-        "no-session" => Ok(Why::NoSession(refusal_in(alloc, words)?)),
-        "gave-up" => Ok(Why::GaveUp(u32_in(words)?)),
+fn why_of(words: &[&str]) -> Result<Why, Fault> {
+    match word(words, 1) {
+        "no-session" => Ok(Why::NoSession(refusal_of(words)?)),
+        "gave-up" => Ok(Why::GaveUp(small(words, 2))),
         "ended" => Ok(Why::Ended),
-        _ => bail!("an unknown end"),
+        _ => Err(Fault::Refused),
     }
-}
-
-fn finished<P: Plays>(
-    alloc: Global,
-    played: &mut P,
-    words: &mut SplitWhitespace<'_>,
-) -> Result<String> {
-    let why = why_in(alloc, words)?;
-    let _ = played.at_event(Event::Finish { why }, alloc)?;
-    plain(alloc, "nothing")
 }

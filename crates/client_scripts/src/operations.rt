@@ -1,104 +1,94 @@
 // What a row submits.
-use crate::words::{path_in, u32_in, u64_in, word_in};
-use anyhow::{Result, bail};
+use crate::plays::{Fault, kept};
+use crate::words::{number, path, small, word};
 use operation_values::OpKind;
 use smb_bytes::Bytes;
-use std::alloc::Global;
-use std::str::SplitWhitespace;
+use std::alloc::{AllocError, Global};
 
-/// The operation that the words ask for.
-pub fn kind_in(alloc: Global, words: &mut SplitWhitespace<'_>) -> Result<OpKind> {
-    match word_in(words)? {
-        "create" => create(alloc, words),
-        "write" => write(alloc, words),
-        "rename" => rename(alloc, words),
-        "read" => read(words),
-        "lock" => lock(words),
-        "unlock" => unlock(words),
-        "end" => end(words),
-        "time" => time(words),
-        word => bare(word, u32_in(words)?),
+/// The operation that the words from the third on ask for.
+pub fn kind_of(alloc: Global, words: &[&str]) -> Result<OpKind, Fault> {
+    match word(words, 2) {
+        "create" => kept(create(alloc, words)),
+        "write" => kept(write(alloc, words)),
+        "rename" => kept(rename(alloc, words)),
+        _ => plain(words),
     }
 }
 
-fn create(alloc: Global, words: &mut SplitWhitespace<'_>) -> Result<OpKind> {
-    let persist = word_in(words)? == "persist";
-    let path = path_in(alloc, words)?;
+fn create(alloc: Global, words: &[&str]) -> Result<OpKind, AllocError> {
+    let path = path(alloc, words, 4)?;
     Ok(OpKind::Create {
         path,
         access: 3,
         share: 7,
         disposition: 3,
-        persist,
+        persist: word(words, 3) == "persist",
         directory: false,
     })
 }
 
-fn write(alloc: Global, words: &mut SplitWhitespace<'_>) -> Result<OpKind> {
-    let create = u32_in(words)?;
-    let at = u64_in(words)?;
-    let length = u32_in(words)?;
-    let bytes = vec![in alloc; 0u8; length as usize]?;
+fn write(alloc: Global, words: &[&str]) -> Result<OpKind, AllocError> {
+    let bytes = vec![in alloc; 0u8; small(words, 5) as usize]?;
     Ok(OpKind::Write {
-        create,
-        at,
+        create: small(words, 3),
+        at: number(words, 4),
         bytes: Bytes::from_vec(bytes),
     })
 }
 
-fn rename(alloc: Global, words: &mut SplitWhitespace<'_>) -> Result<OpKind> {
-    let create = u32_in(words)?;
-    let path = path_in(alloc, words)?;
-    Ok(OpKind::Rename { create, path })
-}
-
-fn read(words: &mut SplitWhitespace<'_>) -> Result<OpKind> {
-    Ok(OpKind::Read {
-        create: u32_in(words)?,
-        at: u64_in(words)?,
-        length: u32_in(words)?,
+fn rename(alloc: Global, words: &[&str]) -> Result<OpKind, AllocError> {
+    let path = path(alloc, words, 4)?;
+    Ok(OpKind::Rename {
+        create: small(words, 3),
+        path,
     })
 }
 
-fn lock(words: &mut SplitWhitespace<'_>) -> Result<OpKind> {
-    Ok(OpKind::Lock {
-        create: u32_in(words)?,
-        at: u64_in(words)?,
-        length: u64_in(words)?,
-        exclusive: word_in(words)? == "exclusive",
-    })
-}
-
-fn unlock(words: &mut SplitWhitespace<'_>) -> Result<OpKind> {
-    Ok(OpKind::Unlock {
-        create: u32_in(words)?,
-        at: u64_in(words)?,
-        length: u64_in(words)?,
-    })
-}
-
-fn end(words: &mut SplitWhitespace<'_>) -> Result<OpKind> {
-    Ok(OpKind::SetEnd {
-        create: u32_in(words)?,
-        length: u64_in(words)?,
-    })
-}
-
-fn time(words: &mut SplitWhitespace<'_>) -> Result<OpKind> {
-    Ok(OpKind::SetTime {
-        create: u32_in(words)?,
-        time: u64_in(words)?,
-    })
-}
-
-/// An operation that asks no more than its open.
-fn bare(word: &str, create: u32) -> Result<OpKind> {
-    match word {
+// An operation that owns nothing.
+fn plain(words: &[&str]) -> Result<OpKind, Fault> {
+    let create = small(words, 3);
+    match word(words, 2) {
+        "read" => Ok(read(words)),
+        "lock" => Ok(lock(words)),
+        "unlock" => Ok(unlock(words)),
+        "end" => Ok(OpKind::SetEnd {
+            create,
+            length: number(words, 4),
+        }),
+        "time" => Ok(OpKind::SetTime {
+            create,
+            time: number(words, 4),
+        }),
         "remove" => Ok(OpKind::Remove { create }),
         "flush" => Ok(OpKind::Flush { create }),
         "stat" => Ok(OpKind::Stat { create }),
         "list" => Ok(OpKind::List { create }),
         "close" => Ok(OpKind::Close { create }),
-        _ => bail!("an unknown operation"),
+        _ => Err(Fault::Refused),
+    }
+}
+
+fn read(words: &[&str]) -> OpKind {
+    OpKind::Read {
+        create: small(words, 3),
+        at: number(words, 4),
+        length: small(words, 5),
+    }
+}
+
+fn lock(words: &[&str]) -> OpKind {
+    OpKind::Lock {
+        create: small(words, 3),
+        at: number(words, 4),
+        length: number(words, 5),
+        exclusive: word(words, 6) == "exclusive",
+    }
+}
+
+fn unlock(words: &[&str]) -> OpKind {
+    OpKind::Unlock {
+        create: small(words, 3),
+        at: number(words, 4),
+        length: number(words, 5),
     }
 }

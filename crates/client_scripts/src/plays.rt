@@ -1,11 +1,32 @@
 // What these scripts ask of a client. Their functions take any type that has it, so that their check knows no field of a client: each
 // function that owns one, or changes one in one of two ways, would join all that its tables may be then.
-use anyhow::Result;
 use client_played::{Act, Event, Played};
 use client_sent::Head;
 use client_table::Table;
 use command_values::Command;
-use std::alloc::Global;
+use std::alloc::{AllocError, Global};
+
+/// Why a row isn't answered.
+#[derive(Clone, Copy)]
+pub enum Fault {
+    Memory,
+    /// The client takes no such event now.
+    Refused,
+}
+
+impl From<AllocError> for Fault {
+    fn from(_error: AllocError) -> Fault {
+        Fault::Memory
+    }
+}
+
+/// The same with this program's error; in place of a `?`, which costs its caller more.
+pub fn kept<T>(given: Result<T, AllocError>) -> Result<T, Fault> {
+    match given {
+        Ok(value) => Ok(value),
+        Err(_) => Err(Fault::Memory),
+    }
+}
 
 /// A client that is played; each call is that of `Played`.
 pub trait Plays: Drop {
@@ -13,9 +34,9 @@ pub trait Plays: Drop {
 
     fn table(&self) -> &Table;
 
-    fn at_event(&mut self, event: Event, alloc: Global) -> Result<Act>;
+    fn at_event(&mut self, event: Event, alloc: Global) -> Result<Act, Fault>;
 
-    fn head_at(&self, index: usize, asking: bool) -> Result<Head>;
+    fn head_at(&self, index: usize, asking: bool) -> Result<Head, Fault>;
 
     fn request_at(
         &self,
@@ -23,7 +44,7 @@ pub trait Plays: Drop {
         index: usize,
         asking: bool,
         salt: u64,
-    ) -> Result<Command<'_>>;
+    ) -> Result<Command<'_>, Fault>;
 }
 
 impl Plays for Played {
@@ -35,12 +56,18 @@ impl Plays for Played {
         &self.client().table
     }
 
-    fn at_event(&mut self, event: Event, alloc: Global) -> Result<Act> {
-        self.step(event, alloc)
+    fn at_event(&mut self, event: Event, alloc: Global) -> Result<Act, Fault> {
+        match self.step(event, alloc) {
+            Ok(act) => Ok(act),
+            Err(_) => Err(Fault::Refused),
+        }
     }
 
-    fn head_at(&self, index: usize, asking: bool) -> Result<Head> {
-        self.head(index, asking)
+    fn head_at(&self, index: usize, asking: bool) -> Result<Head, Fault> {
+        match self.head(index, asking) {
+            Ok(head) => Ok(head),
+            Err(_) => Err(Fault::Refused),
+        }
     }
 
     fn request_at(
@@ -49,7 +76,10 @@ impl Plays for Played {
         index: usize,
         asking: bool,
         salt: u64,
-    ) -> Result<Command<'_>> {
-        self.request(alloc, index, asking, salt)
+    ) -> Result<Command<'_>, Fault> {
+        match self.request(alloc, index, asking, salt) {
+            Ok(command) => Ok(command),
+            Err(_) => Err(Fault::Refused),
+        }
     }
 }

@@ -1,7 +1,7 @@
 // A script that is played.
 use crate::plays::Plays;
-use anyhow::Result;
-use std::alloc::Global;
+use crate::telling::is_settled;
+use std::alloc::{AllocError, Global};
 
 /// Its client, and by place from 0, of which operations it was told how they settled.
 #[derive(Drop)]
@@ -12,21 +12,21 @@ pub struct Script<P: Plays> {
 
 impl<P: Plays> Script<P> {
     pub fn new(alloc: Global) -> Script<P> {
-        let played = P::begun(alloc);
         Script {
-            played,
+            played: P::begun(alloc),
             told: Vec::new(alloc),
         }
     }
 
     /// Whether an operation settled since the last look at it. Places are looked at in turn.
-    pub fn is_news(&mut self, place: usize, settled: bool) -> Result<bool> {
-        if self.told.len() <= place {
-            self.told.push(settled)?;
-            return Ok(settled);
+    pub fn is_news(&mut self, place: usize) -> Result<bool, AllocError> {
+        let settled = is_settled(self.played.table(), place);
+        if let Some(told) = self.told.get_mut(place) {
+            let is_news = settled && !*told;
+            *told = settled;
+            return Ok(is_news);
         }
-        let is_news = settled && !self.told[place];
-        self.told[place] = settled;
-        Ok(is_news)
+        self.told.push(settled)?;
+        Ok(settled)
     }
 }

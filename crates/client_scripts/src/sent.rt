@@ -1,71 +1,103 @@
 // What goes out at a push, as its request has it.
-use crate::plays::Plays;
-use anyhow::{Result, bail};
+use crate::plays::{Fault, Plays, kept};
 use client_played::Act;
 use client_sent::Head;
 use command_values::{Command, CreateRequest};
-use std::alloc::Global;
+use std::alloc::{AllocError, Global};
+use std::fmt::Write;
 
 /// The random bytes of a run, of which no row tells.
 const SALT: u64 = 7;
 
-/// What a push came to, with what goes out.
-pub fn push<P: Plays>(alloc: Global, played: &P, act: Act) -> Result<String> {
+/// Puts what a push came to, with what goes out.
+pub fn push_sent<P: Plays>(
+    said: &mut String,
+    alloc: Global,
+    played: &P,
+    act: Act,
+) -> Result<(), Fault> {
     match act {
-        Act::Sends(index) => sent(alloc, played, index, false),
-        Act::Asks(index) => sent(alloc, played, index, true),
-        Act::Nothing => Ok(String::from_str(alloc, "nothing")?),
-        Act::CloseChannels => Ok(String::from_str(alloc, "closes all")?),
-        Act::AllSettled => Ok(String::from_str(alloc, "done")?),
-        Act::CloseChannel => bail!("a push closes one channel"),
+        Act::Sends(index) => sends(said, alloc, played, index),
+        Act::Asks(index) => asks(said, alloc, played, index),
+        Act::Nothing => kept(said.push_str("nothing")),
+        Act::CloseChannels => kept(said.push_str("closes all")),
+        Act::AllSettled => kept(said.push_str("done")),
+        Act::CloseChannel => Err(Fault::Refused),
     }
 }
 
-fn sent<P: Plays>(alloc: Global, played: &P, index: usize, asking: bool) -> Result<String> {
+fn sends<P: Plays>(
+    said: &mut String,
+    alloc: Global,
+    played: &P,
+    index: usize,
+) -> Result<(), Fault> {
+    write!(said, "sends {index}")?;
+    push_request(said, alloc, played, index, false)
+}
+
+fn asks<P: Plays>(said: &mut String, alloc: Global, played: &P, index: usize) -> Result<(), Fault> {
+    write!(said, "asks {index}")?;
+    push_request(said, alloc, played, index, true)
+}
+
+fn push_request<P: Plays>(
+    said: &mut String,
+    alloc: Global,
+    played: &P,
+    index: usize,
+    asking: bool,
+) -> Result<(), Fault> {
     let head = played.head_at(index, asking)?;
+    push_command(said, alloc, played, index, asking, head)?;
+    kept(said.push_str(if head.replay { " replay" } else { "" }))
+}
+
+fn push_command<P: Plays>(
+    said: &mut String,
+    alloc: Global,
+    played: &P,
+    index: usize,
+    asking: bool,
+    head: Head,
+) -> Result<(), Fault> {
     let command = played.request_at(alloc, index, asking, SALT)?;
-    let said = said_of(alloc, &command, head)?;
-    let word = if asking { "asks" } else { "sends" };
-    let replay = if head.replay { " replay" } else { "" };
-    Ok(format!(in alloc; "{word} {index}{said}{replay}")?)
+    kept(push_named(said, &command, head))
 }
 
 /// The FileId that a request names, the ChannelSequence, and the lock slot.
-fn said_of(alloc: Global, command: &Command<'_>, head: Head) -> Result<String> {
+fn push_named(said: &mut String, command: &Command<'_>, head: Head) -> Result<(), AllocError> {
     match command {
-        Command::Create(request) => create_said(alloc, request, head),
-        Command::Write { file, .. } => file_said(alloc, *file, head),
-        Command::Read { file, .. } => file_said(alloc, *file, head),
-        Command::SetInfo { file, .. } => file_said(alloc, *file, head),
-        Command::Flush { file } => file_said(alloc, *file, head),
-        Command::QueryFile { file, .. } => file_said(alloc, *file, head),
-        Command::ListDirectory { file, .. } => file_said(alloc, *file, head),
-        Command::Close { file, .. } => file_said(alloc, *file, head),
+        Command::Create(request) => push_create(said, request, head),
+        Command::Write { file, .. }
+        | Command::Read { file, .. }
+        | Command::SetInfo { file, .. }
+        | Command::Flush { file }
+        | Command::QueryFile { file, .. }
+        | Command::ListDirectory { file, .. }
+        | Command::Close { file, .. } => push_file(said, *file, head),
         Command::Lock {
             file,
             index,
             number,
             ..
-        } => {
-            let said = file_said(alloc, *file, head)?;
-            Ok(format!(in alloc; "{said} slot {index} {number}")?)
-        }
-        _ => bail!("a request of no operation"),
+        } => write!(
+            said,
+            " file {file} sequence {} slot {index} {number}",
+            head.sequence
+        ),
+        _ => said.push_str(" a request of no operation"),
     }
 }
 
-fn file_said(alloc: Global, file: u64, head: Head) -> Result<String> {
-    let sequence = head.sequence;
-    Ok(format!(in alloc; " file {file} sequence {sequence}")?)
+fn push_file(said: &mut String, file: u64, head: Head) -> Result<(), AllocError> {
+    write!(said, " file {file} sequence {}", head.sequence)
 }
 
 /// A create names no open; a request to attach one does.
-fn create_said(alloc: Global, request: &CreateRequest, head: Head) -> Result<String> {
+fn push_create(said: &mut String, request: &CreateRequest, head: Head) -> Result<(), AllocError> {
     match &request.reconnect {
-        Some(reconnect) => file_said(alloc, reconnect.file, head),
-        None => {
-            let sequence = head.sequence;
-            Ok(format!(in alloc; " sequence {sequence}")?)
-        }
+        Some(reconnect) => push_file(said, reconnect.file, head),
+        None => write!(said, " sequence {}", head.sequence),
     }
 }

@@ -1,182 +1,208 @@
-// What a row tells of a client.
+// What a row tells of a client, put behind a text.
 use crate::plays::Plays;
 use crate::script::Script;
-use anyhow::{Context, Result};
 use client_outcomes::{Outcome, Why};
 use client_session::Session;
 use client_table::Table;
 use msg_session::Refusal;
 use operation_rows::Row;
 use operation_values::TextList;
-use std::alloc::Global;
-use vector_rows::digits_of;
+use std::alloc::AllocError;
+use std::fmt::Write;
 
-/// What was done, and behind it how each operation settled of which nothing was told yet.
-pub fn with_news<P: Plays>(alloc: Global, script: &mut Script<P>, done: String) -> Result<String> {
-    let mut said = done;
+/// How each operation settled of which nothing was told yet.
+pub fn push_news<P: Plays>(said: &mut String, script: &mut Script<P>) -> Result<(), AllocError> {
     for place in 0..script.played.table().ops.len() {
-        let settled = is_settled(script.played.table(), place)?;
-        if script.is_news(place, settled)? {
-            let outcome = outcome_at(alloc, script.played.table(), place)?;
-            said.push_str(&format!(in alloc; "; {outcome}")?)?;
+        if script.is_news(place)? {
+            said.push_str("; ")?;
+            push_outcome(said, script.played.table(), place)?;
         }
     }
-    Ok(said)
+    Ok(())
 }
 
-fn row_at(table: &Table, place: usize) -> Result<&Row> {
-    table.rows.get(place.saturating_add(1)).context("no row")
+fn row_at(table: &Table, place: usize) -> Option<&Row> {
+    table.rows.get(place.saturating_add(1))
 }
 
-fn is_settled(table: &Table, place: usize) -> Result<bool> {
-    Ok(!row_at(table, place)?.unsettled)
+pub fn is_settled(table: &Table, place: usize) -> bool {
+    match row_at(table, place) {
+        Some(row) => !row.unsettled,
+        None => false,
+    }
+}
+
+fn outcome_at(table: &Table, place: usize) -> Option<&Outcome> {
+    if is_settled(table, place) {
+        table.settled.get(place)
+    } else {
+        None
+    }
 }
 
 /// An operation's number, and how it settled.
-fn outcome_at(alloc: Global, table: &Table, place: usize) -> Result<String> {
-    let number = place.saturating_add(1);
-    if !is_settled(table, place)? {
-        return Ok(format!(in alloc; "{number} unsettled")?);
+fn push_outcome(said: &mut String, table: &Table, place: usize) -> Result<(), AllocError> {
+    write!(said, "{} ", place.saturating_add(1))?;
+    match outcome_at(table, place) {
+        Some(outcome) => push_settled(said, outcome),
+        None => said.push_str("unsettled"),
     }
-    let outcome = table.settled.get(place).context("no outcome")?;
-    let said = outcome_said(alloc, outcome)?;
-    Ok(format!(in alloc; "{number} {said}")?)
 }
 
-fn outcome_said(alloc: Global, outcome: &Outcome) -> Result<String> {
+fn push_settled(said: &mut String, outcome: &Outcome) -> Result<(), AllocError> {
     match outcome {
-        Outcome::Done => Ok(String::from_str(alloc, "ok")?),
-        Outcome::Action(action) => Ok(format!(in alloc; "ok {action}")?),
-        Outcome::Count(count) => Ok(format!(in alloc; "ok {count}")?),
-        Outcome::Length(length) => Ok(format!(in alloc; "ok {length}")?),
-        Outcome::Content(bytes) => {
-            let digits = digits_of(alloc, bytes.as_slice())?;
-            Ok(format!(in alloc; "ok {digits}")?)
-        }
-        Outcome::Names(names) => names_said(alloc, names),
-        Outcome::Refused(status) => Ok(format!(in alloc; "refused {status:08x}")?),
-        Outcome::NoSlot(create) => Ok(format!(in alloc; "noslot {create}")?),
-        Outcome::NoOpen(create) => Ok(format!(in alloc; "noopen {create}")?),
-        Outcome::Unknown(why) => why_said(alloc, why),
+        Outcome::Done => said.push_str("ok"),
+        Outcome::Action(action) => write!(said, "ok {action}"),
+        Outcome::Count(count) => write!(said, "ok {count}"),
+        Outcome::Length(length) => write!(said, "ok {length}"),
+        Outcome::Content(bytes) => push_content(said, bytes.as_slice()),
+        Outcome::Names(names) => push_names(said, names),
+        Outcome::Refused(status) => write!(said, "refused {status:08x}"),
+        Outcome::NoSlot(create) => write!(said, "noslot {create}"),
+        Outcome::NoOpen(create) => write!(said, "noopen {create}"),
+        Outcome::Unknown(why) => push_why(said, why),
     }
 }
 
-fn names_said(alloc: Global, names: &TextList) -> Result<String> {
-    let mut said = String::from_str(alloc, "ok")?;
+fn push_content(said: &mut String, bytes: &[u8]) -> Result<(), AllocError> {
+    if bytes.is_empty() {
+        return said.push_str("ok -");
+    }
+    said.push_str("ok ")?;
+    for byte in bytes {
+        write!(said, "{byte:02x}")?;
+    }
+    Ok(())
+}
+
+fn push_names(said: &mut String, names: &TextList) -> Result<(), AllocError> {
+    said.push_str("ok")?;
     for name in names.as_slice() {
-        let name = name.as_str();
-        said.push_str(&format!(in alloc; " {name}")?)?;
+        write!(said, " {}", name.as_str())?;
     }
-    Ok(said)
+    Ok(())
 }
 
-fn why_said(alloc: Global, why: &Why) -> Result<String> {
+fn push_why(said: &mut String, why: &Why) -> Result<(), AllocError> {
     match why {
-        Why::SessionLost(number) => Ok(format!(in alloc; "unknown session-lost {number}")?),
-        Why::Status(status) => Ok(format!(in alloc; "unknown status {status:08x}")?),
+        Why::SessionLost(number) => write!(said, "unknown session-lost {number}"),
+        Why::Status(status) => write!(said, "unknown status {status:08x}"),
         Why::NoSession(refusal) => {
-            let refusal = refusal_said(alloc, refusal)?;
-            Ok(format!(in alloc; "unknown no-session {refusal}")?)
+            said.push_str("unknown no-session ")?;
+            push_refusal(said, refusal)
         }
-        Why::GaveUp(tries) => Ok(format!(in alloc; "unknown gave-up {tries}")?),
-        Why::Ended => Ok(String::from_str(alloc, "unknown ended")?),
+        Why::GaveUp(tries) => write!(said, "unknown gave-up {tries}"),
+        Why::Ended => said.push_str("unknown ended"),
     }
 }
 
-fn refusal_said(alloc: Global, refusal: &Refusal) -> Result<String> {
+fn push_refusal(said: &mut String, refusal: &Refusal) -> Result<(), AllocError> {
     match refusal {
-        Refusal::BadChoice(_) => Ok(String::from_str(alloc, "bad-choice")?),
-        Refusal::BadToken => Ok(String::from_str(alloc, "bad-token")?),
-        Refusal::BadSignature => Ok(String::from_str(alloc, "bad-signature")?),
-        Refusal::Status(status) => Ok(format!(in alloc; "status {status:08x}")?),
-        Refusal::NoSha512 => Ok(String::from_str(alloc, "no-sha512")?),
+        Refusal::BadChoice(_) => said.push_str("bad-choice"),
+        Refusal::BadToken => said.push_str("bad-token"),
+        Refusal::BadSignature => said.push_str("bad-signature"),
+        Refusal::Status(status) => write!(said, "status {status:08x}"),
+        Refusal::NoSha512 => said.push_str("no-sha512"),
     }
 }
 
 /// All that stands at the end of a script.
-pub fn all(alloc: Global, table: &Table) -> Result<String> {
-    let outcomes = outcomes(alloc, table)?;
-    let out = outstanding(alloc, table)?;
-    let order = order(alloc, table)?;
-    let session = session_said(alloc, &table.session)?;
-    let dialogs = dialogs(alloc, table)?;
-    Ok(format!(in alloc; "{outcomes}; out {out}; order {order}; {session}{dialogs}")?)
+pub fn push_all(said: &mut String, table: &Table) -> Result<(), AllocError> {
+    push_outcomes(said, table)?;
+    push_outstanding(said, table)?;
+    push_order(said, table.order.as_slice())?;
+    push_session(said, &table.session)?;
+    push_dialogs(said, table)
 }
 
-/// A text, or `-` where it is empty.
-fn or_none(alloc: Global, said: String) -> Result<String> {
-    if said.is_empty() {
-        return Ok(String::from_str(alloc, "-")?);
+// What stands between a part and those that began at a place.
+fn between(said: &str, front: usize) -> &'static str {
+    if said.len() == front { "" } else { ", " }
+}
+
+// A list that is empty is `-`.
+fn end_list(said: &mut String, front: usize) -> Result<(), AllocError> {
+    if said.len() == front {
+        said.push_str("-")
+    } else {
+        Ok(())
     }
-    Ok(said)
 }
 
-/// Puts a part behind others.
-fn join(alloc: Global, said: &mut String, between: &str, part: &str) -> Result<()> {
-    let between = if said.is_empty() { "" } else { between };
-    said.push_str(&format!(in alloc; "{between}{part}")?)?;
-    Ok(())
-}
-
-fn outcomes(alloc: Global, table: &Table) -> Result<String> {
-    let mut said = String::new(alloc);
+fn push_outcomes(said: &mut String, table: &Table) -> Result<(), AllocError> {
+    let front = said.len();
     for place in 0..table.ops.len() {
-        let outcome = outcome_at(alloc, table, place)?;
-        join(alloc, &mut said, ", ", outcome.as_str())?;
+        let between = between(said.as_str(), front);
+        said.push_str(between)?;
+        push_outcome(said, table, place)?;
     }
-    or_none(alloc, said)
+    end_list(said, front)
+}
+
+fn push_one_out(
+    said: &mut String,
+    front: usize,
+    table: &Table,
+    place: usize,
+) -> Result<(), AllocError> {
+    let Some(row) = row_at(table, place) else {
+        return Ok(());
+    };
+    let Some(channel) = row.outstanding_on else {
+        return Ok(());
+    };
+    let between = between(said.as_str(), front);
+    let number = place.saturating_add(1);
+    let asks = if row.asking { " asks" } else { "" };
+    write!(said, "{between}{number}{asks} on {channel}")
 }
 
 /// What is outstanding, and on which channel.
-fn outstanding(alloc: Global, table: &Table) -> Result<String> {
-    let mut said = String::new(alloc);
+fn push_outstanding(said: &mut String, table: &Table) -> Result<(), AllocError> {
+    said.push_str("; out ")?;
+    let front = said.len();
     for place in 0..table.ops.len() {
-        let row = row_at(table, place)?;
-        if let Some(channel) = row.outstanding_on {
-            let number = place.saturating_add(1);
-            let asks = if row.asking { " asks" } else { "" };
-            let part = format!(in alloc; "{number}{asks} on {channel}")?;
-            join(alloc, &mut said, ", ", part.as_str())?;
-        }
+        push_one_out(said, front, table, place)?;
     }
-    or_none(alloc, said)
+    end_list(said, front)
 }
 
 /// Those that a reply settled.
-fn order(alloc: Global, table: &Table) -> Result<String> {
-    let mut said = String::new(alloc);
-    for number in table.order.as_slice() {
-        let part = format!(in alloc; "{number}")?;
-        join(alloc, &mut said, " ", part.as_str())?;
+fn push_order(said: &mut String, order: &[u32]) -> Result<(), AllocError> {
+    said.push_str("; order")?;
+    for number in order {
+        write!(said, " {number}")?;
     }
-    or_none(alloc, said)
+    if order.is_empty() {
+        return said.push_str(" -");
+    }
+    Ok(())
 }
 
-fn session_said(alloc: Global, session: &Session) -> Result<String> {
+fn push_session(said: &mut String, session: &Session) -> Result<(), AllocError> {
     if !session.is_live() {
-        return Ok(String::from_str(alloc, "no session")?);
+        return said.push_str("; no session");
     }
     let number = session.number();
     let id = session.id();
     let tree = session.tree();
     let sequence = session.sequence();
-    let mut said = format!(in alloc;
-        "session {number} {id} tree {tree} sequence {sequence} ready"
+    write!(
+        said,
+        "; session {number} {id} tree {tree} sequence {sequence} ready"
     )?;
     for channel in 0..256u32 {
         if session.is_ready(channel) {
-            said.push_str(&format!(in alloc; " {channel}")?)?;
+            write!(said, " {channel}")?;
         }
     }
-    Ok(said)
+    Ok(())
 }
 
-fn dialogs(alloc: Global, table: &Table) -> Result<String> {
-    let mut said = String::new(alloc);
+fn push_dialogs(said: &mut String, table: &Table) -> Result<(), AllocError> {
     for dialog in table.dialogs.as_slice() {
-        let connection = dialog.connection;
-        let refusal = refusal_said(alloc, &dialog.refusal)?;
-        said.push_str(&format!(in alloc; "; dialog {connection} {refusal}")?)?;
+        write!(said, "; dialog {} ", dialog.connection)?;
+        push_refusal(said, &dialog.refusal)?;
     }
-    Ok(said)
+    Ok(())
 }

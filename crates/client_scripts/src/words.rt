@@ -1,42 +1,33 @@
-// Words of a row, taken one after the other.
-use anyhow::{Context, Result, ensure};
+// Words of a row, by their places. One that is missing is empty, and one that is no number is read as 0.
 use smb_bytes::Text;
-use std::alloc::Global;
-use std::str::SplitWhitespace;
-use vector_rows::bytes_of;
+use std::alloc::{AllocError, Global};
 
-pub fn word_in<'a>(words: &mut SplitWhitespace<'a>) -> Result<&'a str> {
-    words.next().context("a word is missing")
+pub fn word<'a>(words: &[&'a str], i: usize) -> &'a str {
+    words.get(i).copied().unwrap_or("")
 }
 
-pub fn u8_in(words: &mut SplitWhitespace<'_>) -> Result<u8> {
-    Ok(word_in(words)?.parse::<u8>()?)
+pub fn tiny(words: &[&str], i: usize) -> u8 {
+    word(words, i).parse::<u8>().unwrap_or(0)
 }
 
-pub fn u32_in(words: &mut SplitWhitespace<'_>) -> Result<u32> {
-    Ok(word_in(words)?.parse::<u32>()?)
+pub fn small(words: &[&str], i: usize) -> u32 {
+    word(words, i).parse::<u32>().unwrap_or(0)
 }
 
-pub fn u64_in(words: &mut SplitWhitespace<'_>) -> Result<u64> {
-    Ok(word_in(words)?.parse::<u64>()?)
+pub fn number(words: &[&str], i: usize) -> u64 {
+    word(words, i).parse::<u64>().unwrap_or(0)
 }
 
 /// A status: eight hexadecimal digits.
-pub fn status_in(alloc: Global, words: &mut SplitWhitespace<'_>) -> Result<u32> {
-    let bytes = bytes_of(alloc, word_in(words)?)?;
-    ensure!(bytes.len() == 4, "no status");
-    let mut status = 0u32;
-    for byte in bytes {
-        status = status.wrapping_mul(256).wrapping_add(u32::from(byte));
-    }
-    Ok(status)
+pub fn status(words: &[&str], i: usize) -> u32 {
+    u32::from_str_radix(word(words, i), 16).unwrap_or(0)
 }
 
 /// A path of so many letters.
-pub fn path_in(alloc: Global, words: &mut SplitWhitespace<'_>) -> Result<Text> {
-    let mut path = String::new(alloc);
-    for _ in 0..u32_in(words)? {
-        path.push_str("a")?;
+pub fn path(alloc: Global, words: &[&str], i: usize) -> Result<Text, AllocError> {
+    let mut path = Text::new(alloc);
+    for _ in 0..small(words, i) {
+        path.push('a')?;
     }
-    Ok(Text::from_string(path))
+    Ok(path)
 }

@@ -4,12 +4,14 @@
 
 mod counting;
 mod envelope;
+mod fault;
 mod logon;
 mod server;
 mod tokens;
 
 pub use counting::CountingDisk;
 pub use envelope::Envelope;
+pub use fault::{Fault, kept};
 pub use logon::{keys_behind, setup_heard, setup_message};
 pub use server::{config, disk_of};
 pub use tokens::{check_last, first_token, second_token};

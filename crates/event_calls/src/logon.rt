@@ -1,17 +1,17 @@
 //! SESSION_SETUP requests (MS-SMB2 2.2.5) with their signatures, and the keys that a client has behind them (3.2.5.3).
 
 use crate::envelope::Envelope;
+use crate::fault::{Fault, kept};
 use crate::tokens::KEY;
-use anyhow::{Result, bail, ensure};
 use command_reading::request_of;
-use command_values::Request;
+use command_values::{Request, SetupForm};
 use msg_session::{SessionSetupRequest, write_session_setup_request};
 use server_events::SetupHeard;
 use session_defs::{Chosen, Keys, Signer};
 use session_keys::{bind, derive, sign};
 use smb_bytes::Bytes;
 use smb_header::{read_header, write_header};
-use std::alloc::Global;
+use std::alloc::{AllocError, Global};
 use wire_defs::Header;
 
 const SIGNED: u32 = 8;
@@ -65,23 +65,34 @@ fn header_in(around: &Envelope) -> Header {
     }
 }
 
-fn spelled(alloc: Global, header: &Header, body: &Bytes) -> Result<Bytes> {
+fn spelled(alloc: Global, header: &Header, body: &[u8]) -> Result<Bytes, AllocError> {
     let mut message = Bytes::from_slice(alloc, &write_header(header))?;
-    message.extend(body.as_slice())?;
+    message.extend(body)?;
     Ok(message)
 }
 
-fn signature_of(signer: &Signer, message: &[u8]) -> Result<[u8; 16]> {
-    ensure!(
-        message.len() >= 64 && message.len() < 1_000_000,
-        "a message of another length"
-    );
+fn signature_of(signer: &Signer, message: &[u8]) -> Result<[u8; 16], Fault> {
+    if message.len() < 64 || message.len() >= 1_000_000 {
+        return Err(Fault::Other);
+    }
     Ok(sign(signer, message))
 }
 
-/// The bytes of a SESSION_SETUP.
-pub fn setup_message(alloc: Global, around: &Envelope, token: &[u8]) -> Result<Bytes> {
-    ensure!(token.len() < 65_536, "a long token");
+// The signature of the message that this header and this body are without one.
+fn signature_by(
+    alloc: Global,
+    signer: &Signer,
+    header: &Header,
+    body: &[u8],
+) -> Result<[u8; 16], Fault> {
+    let message = spelled(alloc, header, body)?;
+    signature_of(signer, message.as_slice())
+}
+
+fn body_of(alloc: Global, around: &Envelope, token: &[u8]) -> Result<Bytes, Fault> {
+    if token.len() >= 65_536 {
+        return Err(Fault::Other);
+    }
     let request = SessionSetupRequest {
         flags: if around.binding { 1 } else { 0 },
         security_mode: 1,
@@ -90,29 +101,30 @@ pub fn setup_message(alloc: Global, around: &Envelope, token: &[u8]) -> Result<B
         security: token,
         previous_session_id: around.previous,
     };
-    let body = write_session_setup_request(alloc, &request)?;
-    let mut header = header_in(around);
-    let message = spelled(alloc, &header, &body)?;
-    match around.signed_by {
-        None => Ok(message),
-        Some(connection) => {
-            header.signature = signature_of(&signer_by(around, connection), message.as_slice())?;
-            spelled(alloc, &header, &body)
-        }
-    }
+    kept(write_session_setup_request(alloc, &request))
 }
 
-/// A SESSION_SETUP as it is heard.
-pub fn setup_heard<'a>(
-    alloc: Global,
+fn message_of(alloc: Global, around: &Envelope, body: &[u8]) -> Result<Bytes, Fault> {
+    let mut header = header_in(around);
+    if let Some(connection) = around.signed_by {
+        header.signature = signature_by(alloc, &signer_by(around, connection), &header, body)?;
+    }
+    kept(spelled(alloc, &header, body))
+}
+
+/// The bytes of a SESSION_SETUP.
+pub fn setup_message(alloc: Global, around: &Envelope, token: &[u8]) -> Result<Bytes, Fault> {
+    let body = body_of(alloc, around, token)?;
+    message_of(alloc, around, body.as_slice())
+}
+
+fn heard<'a>(
     around: &Envelope,
+    header: &Header,
+    form: SetupForm<'a>,
     message: &'a [u8],
-) -> Result<SetupHeard<'a>> {
-    let header = read_header(message)?;
-    let Some(Request::Setup(form)) = request_of(alloc, &header, message)? else {
-        bail!("no SESSION_SETUP");
-    };
-    Ok(SetupHeard {
+) -> SetupHeard<'a> {
+    SetupHeard {
         connection: around.connection,
         client_guid: around.client,
         session_id: header.session,
@@ -126,5 +138,20 @@ pub fn setup_heard<'a>(
         chosen: chosen(around),
         chain: chain_on(around.connection),
         fresh: [7; 8],
-    })
+    }
+}
+
+/// A SESSION_SETUP as it is heard.
+pub fn setup_heard<'a>(
+    alloc: Global,
+    around: &Envelope,
+    message: &'a [u8],
+) -> Result<SetupHeard<'a>, Fault> {
+    let Ok(header) = read_header(message) else {
+        return Err(Fault::Other);
+    };
+    match request_of(alloc, &header, message)? {
+        Some(Request::Setup(form)) => Ok(heard(around, &header, form, message)),
+        _ => Err(Fault::Other),
+    }
 }

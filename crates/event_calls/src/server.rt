@@ -1,27 +1,33 @@
-use anyhow::Result;
 use command_values::Address;
 use ntlmv2::Users;
 use server_checks::Config;
 use smb_bytes::{Bytes, Text};
 use smb_io::MemDisk;
-use std::alloc::Global;
+use std::alloc::{AllocError, Global};
 
-fn users(alloc: Global) -> Result<Users> {
+fn push_user(
+    users: &mut Users,
+    alloc: Global,
+    name: &str,
+    password: &str,
+) -> Result<(), AllocError> {
+    let name = Text::from_str(alloc, name)?;
+    users.push(name, Text::from_str(alloc, password)?)
+}
+
+fn users(alloc: Global) -> Result<Users, AllocError> {
     let mut users = Users::new(alloc);
-    users.push(text(alloc, "User")?, text(alloc, "Password")?)?;
-    users.push(text(alloc, "other")?, text(alloc, "word")?)?;
+    push_user(&mut users, alloc, "User", "Password")?;
+    push_user(&mut users, alloc, "other", "word")?;
     Ok(users)
 }
 
-fn text(alloc: Global, text: &str) -> Result<Text> {
-    Ok(Text::from_str(alloc, text)?)
-}
-
 /// What a server is told, with so many bytes for all files.
-pub fn config(alloc: Global, room: u64, encrypts: bool) -> Result<Config> {
+pub fn config(alloc: Global, room: u64, encrypts: bool) -> Result<Config, AllocError> {
+    let share = Text::from_str(alloc, "data")?;
     Ok(Config {
         users: users(alloc)?,
-        share: text(alloc, "data")?,
+        share,
         room,
         encrypts,
         address: Address {
@@ -32,7 +38,7 @@ pub fn config(alloc: Global, room: u64, encrypts: bool) -> Result<Config> {
 }
 
 /// A disk of these bytes whose call k fails where byte k of the plan is 1.
-pub fn disk_of(alloc: Global, bytes: &[u8], plan: &[u8]) -> Result<MemDisk> {
+pub fn disk_of(alloc: Global, bytes: &[u8], plan: &[u8]) -> Result<MemDisk, AllocError> {
     let bytes = Bytes::from_slice(alloc, bytes)?;
-    Ok(MemDisk::new(alloc, bytes, Bytes::from_slice(alloc, plan)?)?)
+    MemDisk::new(alloc, bytes, Bytes::from_slice(alloc, plan)?)
 }

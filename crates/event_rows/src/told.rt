@@ -1,162 +1,207 @@
 // The answer to an event: `ok` or the status, ` acts` where it acted, the ids that aren't its request's, and what a success tells.
-use anyhow::{Context, Result, ensure};
-use command_values::{Address, Body, CreateReply, Info, Named, Reply};
-use event_calls::{Envelope, check_last, keys_behind};
+use command_values::{Body, CreateReply, Info, Named, Reply};
+use event_calls::{Envelope, Fault, check_last, kept, keys_behind};
 use server_effects::Answer;
-use std::alloc::Global;
-use vector_rows::digits_of;
+use std::alloc::{AllocError, Global};
+use std::fmt::Write;
 
-/// `EPOCH.COUNTER`, or 0.
-fn id(alloc: Global, id: u64) -> Result<String> {
-    if id == 0 {
-        return Ok(String::from_str(alloc, "0")?);
+/// Hexadecimal digits, `-` for no bytes.
+pub fn push_digits(said: &mut String, bytes: &[u8]) -> Result<(), AllocError> {
+    if bytes.is_empty() {
+        return said.push_str("-");
     }
-    Ok(format!(in alloc; "{}.{}", id >> 32, id & 0xffff_ffff)?)
+    for byte in bytes {
+        write!(said, "{:02x}", *byte)?;
+    }
+    Ok(())
 }
 
-// `FILE KIND SIZE TIMES ATTRIBUTES`, with `pending` where it goes with its last open. The four times stand with commas
-// between them, or once where they are the same.
-fn info(alloc: Global, info: &Info) -> Result<String> {
+/// `EPOCH.COUNTER`, or 0.
+fn push_id(said: &mut String, id: u64) -> Result<(), AllocError> {
+    if id == 0 {
+        return said.push_str("0");
+    }
+    write!(said, "{}.{}", id >> 32, id & 0xffff_ffff)
+}
+
+// The four times stand with commas between them, or once where they are the same.
+fn push_times(said: &mut String, info: &Info) -> Result<(), AllocError> {
+    let b = info.times;
+    if b.accessed == b.created && b.written == b.created && b.changed == b.created {
+        return write!(said, "{}", b.created);
+    }
+    write!(
+        said,
+        "{},{},{},{}",
+        b.created, b.accessed, b.written, b.changed
+    )
+}
+
+// `FILE KIND SIZE TIMES ATTRIBUTES`, with `pending` where it goes with its last open.
+fn push_info(said: &mut String, info: &Info) -> Result<(), AllocError> {
     let kind = if info.is_directory { "dir" } else { "file" };
+    write!(said, "{} {kind} {} at ", info.file, info.size)?;
+    push_times(said, info)?;
     let pending = if info.is_delete_pending {
         " pending"
     } else {
         ""
     };
-    let b = info.times;
-    let mut times = format!(in alloc; "{}", b.created)?;
-    if b.accessed != b.created || b.written != b.created || b.changed != b.created {
-        times.push_str(&format!(in alloc; ",{},{},{}", b.accessed, b.written, b.changed)?)?;
-    }
-    let number = info.file;
-    let size = info.size;
-    Ok(format!(in alloc;
-        "{number} {kind} {size} at {times} {:x}{pending}",
-        b.attributes
-    )?)
+    write!(said, " {:x}{pending}", info.times.attributes)
 }
 
-// `ID ACTION INFO`, then `timeout MS`, `maximal` and `disk`.
-fn created(alloc: Global, reply: &CreateReply) -> Result<String> {
-    let id = id(alloc, reply.id)?;
-    let action = match reply.action {
+fn action_of(reply: &CreateReply) -> &'static str {
+    match reply.action {
         0 => "superseded",
         1 => "opened",
         2 => "created",
         _ => "overwritten",
-    };
-    let info = info(alloc, &reply.info)?;
+    }
+}
+
+// `timeout MS`, `maximal` and `disk`.
+fn push_contexts(said: &mut String, reply: &CreateReply) -> Result<(), AllocError> {
+    if let Some(timeout) = reply.timeout {
+        write!(said, " timeout {timeout}")?;
+    }
     let maximal = if reply.maximal { " maximal" } else { "" };
     let disk = if reply.disk_id { " disk" } else { "" };
-    let mut text = format!(in alloc; "{id} {action} {info}")?;
-    if let Some(timeout) = reply.timeout {
-        text.push_str(&format!(in alloc; " timeout {timeout}")?)?;
-    }
-    text.push_str(maximal)?;
-    text.push_str(disk)?;
-    Ok(text)
+    write!(said, "{maximal}{disk}")
+}
+
+// `ID ACTION INFO`, and what its contexts tell.
+fn push_created(said: &mut String, reply: &CreateReply) -> Result<(), AllocError> {
+    push_id(said, reply.id)?;
+    write!(said, " {} ", action_of(reply))?;
+    push_info(said, &reply.info)?;
+    push_contexts(said, reply)
 }
 
 // `NAME:FILE` for each entry.
-fn listing(alloc: Global, class: u8, entries: &[Named]) -> Result<String> {
-    let mut text = format!(in alloc; "class {class}")?;
+fn push_listing(said: &mut String, class: u8, entries: &[Named]) -> Result<(), AllocError> {
+    write!(said, "class {class}")?;
     for entry in entries {
-        let file = entry.info.file;
-        text.push_str(&format!(in alloc; " {}:{file}", entry.name.as_str())?)?;
+        write!(said, " {}:{}", entry.name.as_str(), entry.info.file)?;
     }
-    Ok(text)
+    Ok(())
 }
 
 fn path(path: &str) -> &str {
     if path.is_empty() { "-" } else { path }
 }
 
-fn interfaces(alloc: Global, address: &Address) -> Result<String> {
-    Ok(format!(in alloc; "{:08x}:{}", address.ip, address.port)?)
+fn push_file_info(
+    said: &mut String,
+    class: u8,
+    name: &str,
+    about: &Info,
+    access: u32,
+    options: u32,
+) -> Result<(), AllocError> {
+    write!(said, "class {class} {} ", path(name))?;
+    push_info(said, about)?;
+    write!(said, " access {access:x} options {options:x}")
 }
 
-fn file_info(alloc: Global, body: &Body) -> Result<String> {
-    let Body::FileInfo {
-        class,
-        path: name,
-        info: about,
-        access,
-        options,
-    } = body
-    else {
-        return Ok(String::new(alloc));
-    };
-    let about = info(alloc, about)?;
-    let name = path(name.as_str());
-    Ok(format!(in alloc; "class {class} {name} {about} access {access:x} options {options:x}")?)
-}
-
-fn body(alloc: Global, body: &Body) -> Result<String> {
+fn push_body(said: &mut String, body: &Body) -> Result<(), AllocError> {
     match body {
-        Body::Empty => Ok(String::new(alloc)),
-        Body::Created(reply) => created(alloc, reply),
-        Body::Closed { info: about } => info(alloc, about),
-        Body::Content { bytes } => digits_of(alloc, bytes.as_slice()),
-        Body::Count { count } => Ok(format!(in alloc; "{count}")?),
-        Body::Interfaces { address } => interfaces(alloc, address),
-        Body::Listing { class, entries } => listing(alloc, *class, entries),
-        Body::FileInfo { .. } => file_info(alloc, body),
+        Body::Empty => Ok(()),
+        Body::Created(reply) => push_created(said, reply),
+        Body::Closed { info } => push_info(said, info),
+        Body::Content { bytes } => push_digits(said, bytes.as_slice()),
+        Body::Count { count } => write!(said, "{count}"),
+        Body::Interfaces { address } => write!(said, "{:08x}:{}", address.ip, address.port),
+        Body::Listing { class, entries } => push_listing(said, *class, entries.as_slice()),
+        Body::FileInfo {
+            class,
+            path,
+            info,
+            access,
+            options,
+        } => push_file_info(said, *class, path.as_str(), info, *access, *options),
         Body::VolumeInfo { class, room, used } => {
-            Ok(format!(in alloc; "class {class} room {room} used {used}")?)
+            write!(said, "class {class} room {room} used {used}")
         }
         Body::SetUp { sealed, channel } => {
             let kind = if *sealed { "sealed" } else { "signed" };
-            Ok(format!(in alloc; "{kind} channel {channel}")?)
+            write!(said, "{kind} channel {channel}")
         }
         Body::Connected {
             kind,
             capabilities,
             access,
-        } => Ok(format!(in alloc; "share {kind} {capabilities:x} {access:x}")?),
+        } => write!(said, "share {kind} {capabilities:x} {access:x}"),
     }
 }
 
-fn reply(alloc: Global, around: &Envelope, reply: &Reply, acted: bool) -> Result<String> {
-    let mut text = if reply.status == 0 {
-        String::from_str(alloc, "ok")?
+fn push_status(said: &mut String, reply: &Reply, acted: bool) -> Result<(), AllocError> {
+    if reply.status == 0 {
+        said.push_str("ok")?;
     } else {
-        format!(in alloc; "{:08x}", reply.status)?
-    };
-    if acted {
-        text.push_str(" acts")?;
+        write!(said, "{:08x}", reply.status)?;
     }
+    if acted {
+        said.push_str(" acts")?;
+    }
+    Ok(())
+}
+
+// The ids that aren't the request's.
+fn push_ids(said: &mut String, around: &Envelope, reply: &Reply) -> Result<(), AllocError> {
     if reply.session_id != around.session {
-        text.push_str(" session ")?;
-        text.push_str(&id(alloc, reply.session_id)?)?;
+        said.push_str(" session ")?;
+        push_id(said, reply.session_id)?;
     }
     if reply.tree_id != around.tree {
-        text.push_str(&format!(in alloc; " tree {}", reply.tree_id)?)?;
+        write!(said, " tree {}", reply.tree_id)?;
     }
-    let told = body(alloc, &reply.body)?;
-    if !told.is_empty() {
-        text.push(' ')?;
-        text.push_str(&told)?;
+    Ok(())
+}
+
+fn push_reply(
+    said: &mut String,
+    around: &Envelope,
+    reply: &Reply,
+    acted: bool,
+) -> Result<(), AllocError> {
+    push_status(said, reply, acted)?;
+    push_ids(said, around, reply)?;
+    if let Body::Empty = reply.body {
+        return Ok(());
     }
-    Ok(text)
+    said.push_str(" ")?;
+    push_body(said, &reply.body)
+}
+
+// The number of a channel that a reply tells.
+fn channel_told(reply: &Reply) -> u32 {
+    match reply.body {
+        Body::SetUp { channel, .. } => channel,
+        _ => 0,
+    }
 }
 
 // A channel has the keys that its client has, the number that its reply tells, and a token that ends its logon.
-fn check_channel(alloc: Global, around: &Envelope, answer: &Answer) -> Result<()> {
+fn check_channel(alloc: Global, around: &Envelope, answer: &Answer) -> Result<(), Fault> {
     let Some(keys) = answer.keys else {
         return Ok(());
     };
-    ensure!(keys == keys_behind(around), "other keys");
-    let number = answer.channel.context("no number of a channel")?;
-    let told = match answer.reply.body {
-        Body::SetUp { channel, .. } => channel,
-        _ => 0,
+    let Some(number) = answer.channel else {
+        return Err(Fault::Other);
     };
-    ensure!(told == number as u32, "another number of a channel");
+    if keys != keys_behind(around) || channel_told(&answer.reply) != number as u32 {
+        return Err(Fault::Other);
+    }
     check_last(alloc, answer.token.as_slice())
 }
 
-/// The answer to a request that came in such an envelope.
-pub fn answer(alloc: Global, around: &Envelope, answer: &Answer) -> Result<String> {
+/// Puts the answer to a request that came in such an envelope.
+pub fn push_answer(
+    said: &mut String,
+    alloc: Global,
+    around: &Envelope,
+    answer: &Answer,
+) -> Result<(), Fault> {
     check_channel(alloc, around, answer)?;
-    reply(alloc, around, &answer.reply, answer.acted)
+    kept(push_reply(said, around, &answer.reply, answer.acted))
 }

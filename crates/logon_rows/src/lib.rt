@@ -1,4 +1,4 @@
-//! The answers to the rows of the program `logon_vectors`: tokens read and written, keys derived, messages signed and sealed.
+//! The answers to rows of the program `message_vectors`: tokens read and written, keys derived, messages signed and sealed.
 #![tactic(auto)]
 
 mod keys;

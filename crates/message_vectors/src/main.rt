@@ -1,6 +1,6 @@
-//! Reads headers, frames, texts, messages, contexts, classes, listings and the journal's records, and writes again what they hold. A row
-//! begins with the name of its table; one that begins with `#` stands in the output as it is. The rows and the expected output were
-//! written by tools/wire-vectors.py.
+//! Reads headers, frames, texts, messages, contexts, classes, listings and the journal's records, and writes again what they hold; answers
+//! tokens, keys, signatures and sealed messages. A row begins with the name of its table; one that begins with `#` stands in the output as
+//! it is. The rows and the expected output were written by tools/wire-vectors.py and tools/session-vectors.py.
 #![tactic(auto)]
 
 use anyhow::{Context, Result, bail};
@@ -16,6 +16,7 @@ fn answer(alloc: Global, line: &str) -> Result<String> {
         "file" => file_rows::answer(alloc, row),
         "info" => info_rows::answer(alloc, row),
         "record" => record_rows::answer(alloc, row),
+        "logon" => logon_rows::answer(alloc, row),
         _ => bail!("an unknown table"),
     }
 }

@@ -1,6 +1,7 @@
-//! Prints the runs and the refused lines of a table. A row is a kind, `|`, values, `|` and what is due, its line ends written out: of
-//! `run` the text of these values, of `line` that of a refused line, of `has` whether an operation that settled so has an order. The
-//! first row that is answered otherwise ends the program. Rows that begin with `#` are remarks. What is due was worked by hand.
+//! Prints the runs and the refused lines of a table, and reads scripts and settings. A row is a kind, `|`, values, `|` and what is due, its
+//! line ends written out: of `run` the text of these values, of `line` that of a refused line, of `has` whether an operation that settled
+//! so has an order, of `script COMMAND` what the command reads of a text, or the line that is refused. The first row that is answered
+//! otherwise ends the program. Rows that begin with `#` are remarks. What is due was worked by hand.
 #![tactic(auto)]
 
 mod run;
@@ -16,6 +17,9 @@ use script_lines::Refusal;
 use std::alloc::Global;
 
 fn said(alloc: Global, kind: &str, values: &str) -> Result<String> {
+    if let Some(command) = kind.strip_prefix("script ") {
+        return script_rows::answer(alloc, command, values);
+    }
     match kind {
         "run" => run::text_of(alloc, values),
         "line" => line_of(alloc, values),
@@ -63,6 +67,6 @@ fn main(rt: HostRuntime) -> Result<()> {
         tally.count(is_right(rt.alloc(), line.as_str()))?;
     }
     let right = tally.right();
-    println!(rt; "{right} rows are printed as they say")?;
+    println!(rt; "{right} rows are answered as they say")?;
     Ok(())
 }

@@ -1,17 +1,16 @@
 //! `drill` and `gen` over both ends of the connections in code, as a program: `drill` runs the script on its standard input, `gen SEED OPS`
-//! one that a seed gives. Three words more are for whoever works on it: `steps` runs a script and prints each step before its outcomes,
-//! `flips` tells what becomes of a logon of which one byte is changed, and `rows` answers a table of such calls.
+//! one that a seed gives. Two words more are for whoever works on it: `steps` runs a script and prints each step before its outcomes, and
+//! `rows` answers a table of such calls.
 #![tactic(auto)]
 
-mod flips;
+mod calls;
 mod rows;
 
 use anyhow::{Result, bail};
-use drill_command::{Ending, smb311_drill, steps_of};
+use calls::{drilled, stepped};
+use drill_command::Ending;
+use due_rows::Tally;
 use outside_calls::{read_script, write_all};
-use rand_chacha::ChaCha20Rng;
-use rand_core::SeedableRng;
-use script_words::Fault;
 use smb_io::{Sink, Source, StdSink, StdSource};
 use std::alloc::{AllocError, Global};
 use std::env;
@@ -24,14 +23,16 @@ fn main(rt: HostRuntime) -> Result<ExitCode> {
     let Ok(words) = words(&rt) else {
         return Ok(ExitCode::from(Ending::Memory as u8));
     };
+    if word_of(words.as_slice()) == "rows" {
+        let right = right_rows(&rt)?;
+        println!(rt; "{right} rows are answered as they say")?;
+        return Ok(ExitCode::from(0));
+    }
     let mut seed = [0; 32];
     if rt.fill_bytes(&mut seed).is_err() {
         return Ok(ExitCode::from(1));
     }
-    let mut source = StdSource::new(rt.stdin());
-    let mut sink = StdSink::new(rt.stdout());
-    let status = done(rt.alloc(), words.as_slice(), &mut source, &mut sink, seed)?;
-    Ok(ExitCode::from(status))
+    Ok(ExitCode::from(called(&rt, words.as_slice(), seed)))
 }
 
 // The words behind the program's name. Where one is not UTF-8 there are none, since no command has such a word.
@@ -50,38 +51,34 @@ fn word_of(words: &[String]) -> &str {
     }
 }
 
-fn done<S: Source, O: Sink>(
-    alloc: Global,
-    words: &[String],
-    source: &mut S,
-    sink: &mut O,
-    seed: [u8; 32],
-) -> Result<u8> {
-    match word_of(words) {
-        "rows" => write(sink, rows::answered(alloc, source)?.as_str()),
-        "flips" => write(sink, flips::table(alloc, seed)?.as_str()),
-        "steps" => write(sink, steps(alloc, source, seed)?.as_str()),
-        _ => {
-            let mut random = ChaCha20Rng::from_seed(seed);
-            Ok(smb311_drill(alloc, words, source, sink, &mut random))
-        }
+// How many rows of the standard input are answered as they say.
+fn right_rows(rt: &HostRuntime) -> Result<u64> {
+    let mut tally = Tally::new();
+    for line in rt.lines(rt.alloc()) {
+        let line = line?;
+        tally.count(rows::is_right(rt.alloc(), line.as_str()))?;
     }
+    Ok(tally.right())
 }
 
-fn write<O: Sink>(sink: &mut O, text: &str) -> Result<u8> {
-    match write_all(sink, text.as_bytes()) {
-        Ok(()) => Ok(0),
-        Err(_) => bail!("the sink failed"),
+fn called(rt: &HostRuntime, words: &[String], seed: [u8; 32]) -> u8 {
+    let mut source = StdSource::new(rt.stdin());
+    let mut sink = StdSink::new(rt.stdout());
+    if word_of(words) == "steps" {
+        return steps(rt.alloc(), &mut source, &mut sink, seed);
     }
+    drilled(rt.alloc(), words, &mut source, &mut sink, seed)
 }
 
-fn steps<S: Source>(alloc: Global, source: &mut S, seed: [u8; 32]) -> Result<String> {
+fn steps<S: Source, O: Sink>(alloc: Global, source: &mut S, sink: &mut O, seed: [u8; 32]) -> u8 {
     let Ok(script) = read_script(alloc, source) else {
-        bail!("the source failed");
+        return Ending::SourceFailed as u8;
     };
-    match steps_of(alloc, script.as_slice(), seed) {
-        Ok(text) => Ok(text),
-        Err(Fault::Refused(line)) => Ok(line),
-        Err(Fault::Memory) => bail!("memory ran out"),
+    let Ok(text) = stepped(alloc, script.as_slice(), seed) else {
+        return Ending::Memory as u8;
+    };
+    match write_all(sink, text.as_bytes()) {
+        Ok(()) => Ending::Done as u8,
+        Err(_) => Ending::SinkFailed as u8,
     }
 }

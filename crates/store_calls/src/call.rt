@@ -1,112 +1,102 @@
-use anyhow::Error;
 use exchange_defs::values::Basic;
-use file_store::{Entry, Gone, StoreError, Tree};
+use file_store::{Entry, Gone, StoreError, StoredFile, Tree};
 use std::alloc::{AllocError, Global};
+use std::fmt::Write;
 
-/// The answer to a call, as the calls' file spells it.
-pub fn answer(alloc: Global, tree: &mut Tree, call: &str) -> Result<String, Error> {
+/// Puts the answer to a call, as the calls' file spells it.
+pub fn push_answer(
+    said: &mut String,
+    alloc: Global,
+    tree: &mut Tree,
+    call: &str,
+) -> Result<(), AllocError> {
     let words: Vec<&str> = call.split(' ').collect(alloc)?;
-    told(alloc, given(alloc, tree, &words))
-}
-
-fn told(alloc: Global, given: Result<String, StoreError>) -> Result<String, Error> {
-    match given {
-        Ok(text) => Ok(text),
-        Err(StoreError::Status(status)) => Ok(format!(in alloc; "{status:08x}")?),
-        Err(StoreError::Memory) => Err(AllocError.into()),
+    match given(said, alloc, tree, &words) {
+        Ok(()) => Ok(()),
+        Err(StoreError::Status(status)) => write!(said, "{status:08x}"),
+        Err(StoreError::Memory) => Err(AllocError),
     }
 }
 
 // Each call stands in a function of its own, so that its contract isn't in the way of the others' proofs.
-fn given(alloc: Global, tree: &mut Tree, words: &[&str]) -> Result<String, StoreError> {
+fn given(
+    said: &mut String,
+    alloc: Global,
+    tree: &mut Tree,
+    words: &[&str],
+) -> Result<(), StoreError> {
     match word(words, 0) {
-        "new" => anew(alloc, tree, number(words, 1)),
-        "room" => room(alloc, tree, number(words, 1)),
-        "try" => given_up(alloc, tree, words.get(1..).unwrap_or(&[])),
-        "coded" => coded(alloc, tree, word(words, 1)),
-        "make" => make(alloc, tree, words),
-        "write" => write(alloc, tree, words),
-        "end" => end(alloc, tree, words),
-        "rename" => rename(alloc, tree, words),
-        "remove" => remove(alloc, tree, number(words, 1)),
-        "gone" => gone(alloc, tree, words),
-        "mark" => mark(alloc, tree, words),
-        "basic" => set_basic(alloc, tree, words),
-        _ => look(alloc, tree, words),
+        "make" => make(said, tree, words),
+        "coded" => coded(said, alloc, tree, word(words, 1)),
+        "find" => Ok(find(said, tree, path(words, 1))?),
+        "used" => Ok(write!(said, "{}", tree.used())?),
+        "held" => Ok(write!(said, "{}", tree.held())?),
+        "next" => Ok(write!(said, "{}", tree.next_file())?),
+        "path" => Ok(said.push_str(shown(tree.path(number(words, 1))))?),
+        "info" => Ok(info(said, tree, number(words, 1))?),
+        "files" => files(said, tree),
+        "list" => list(said, tree, words),
+        "more" => more(said, tree, words),
+        "below" => below(said, tree, number(words, 1)),
+        "read" => read(said, tree, words),
+        "holds" => holds(said, alloc, tree, words),
+        _ => {
+            change(alloc, tree, words)?;
+            Ok(said.push_str("ok")?)
+        }
     }
 }
 
-fn look(alloc: Global, tree: &Tree, words: &[&str]) -> Result<String, StoreError> {
+// A call that tells nothing.
+fn change(alloc: Global, tree: &mut Tree, words: &[&str]) -> Result<(), StoreError> {
     match word(words, 0) {
-        "find" => find(alloc, tree, path(words, 1)),
-        "used" => digits(alloc, tree.used()),
-        "next" => digits(alloc, tree.next_file()),
-        "path" => text(alloc, shown(tree.path(number(words, 1)))),
-        "files" => files(alloc, tree),
-        "list" => list(alloc, tree, words),
-        "more" => more(alloc, tree, words),
-        "below" => below(alloc, tree, number(words, 1)),
-        "info" => info(alloc, tree, number(words, 1)),
-        "read" => read(alloc, tree, words),
-        "holds" => holds(alloc, tree, words),
-        _ => text(alloc, "unknown"),
+        "new" => {
+            *tree = Tree::new(alloc, number(words, 1));
+            Ok(())
+        }
+        "room" => {
+            tree.set_room(number(words, 1));
+            Ok(())
+        }
+        "write" => write_bytes(alloc, tree, words),
+        "end" => tree.set_end(number(words, 1), number(words, 2), number(words, 3)),
+        "rename" => rename(tree, words),
+        "remove" => tree.remove(number(words, 1)),
+        "gone" => gone(tree, words),
+        "mark" => {
+            tree.mark(number(words, 1), word(words, 2) == "marked");
+            Ok(())
+        }
+        "basic" => {
+            tree.set_basic(number(words, 1), basic_in(words));
+            Ok(())
+        }
+        _ => given_up(alloc, tree, words.get(1..).unwrap_or(&[])),
     }
 }
 
-fn anew(alloc: Global, tree: &mut Tree, room: u64) -> Result<String, StoreError> {
-    *tree = Tree::new(alloc, room);
-    done(alloc)
-}
-
-fn room(alloc: Global, tree: &mut Tree, room: u64) -> Result<String, StoreError> {
-    tree.set_room(room);
-    done(alloc)
-}
-
-fn find(alloc: Global, tree: &Tree, path: &str) -> Result<String, StoreError> {
+fn find(said: &mut String, tree: &Tree, path: &str) -> Result<(), AllocError> {
     match tree.find(path) {
-        Some(file) => digits(alloc, file),
-        None => text(alloc, "none"),
+        Some(file) => write!(said, "{file}"),
+        None => said.push_str("none"),
     }
 }
 
-fn make(alloc: Global, tree: &mut Tree, words: &[&str]) -> Result<String, StoreError> {
+fn make(said: &mut String, tree: &mut Tree, words: &[&str]) -> Result<(), StoreError> {
     let directory = word(words, 2) == "dir";
     let attributes = attributes(words, 3);
     let made = tree.make(path(words, 1), directory, attributes, number(words, 4))?;
-    digits(alloc, made)
+    Ok(write!(said, "{made}")?)
 }
 
-fn write(alloc: Global, tree: &mut Tree, words: &[&str]) -> Result<String, StoreError> {
+fn write_bytes(alloc: Global, tree: &mut Tree, words: &[&str]) -> Result<(), StoreError> {
     let bytes = bytes_of(alloc, word(words, 3))?;
-    tree.write(number(words, 1), number(words, 2), &bytes, number(words, 4))?;
-    done(alloc)
+    tree.write(number(words, 1), number(words, 2), &bytes, number(words, 4))
 }
 
-fn end(alloc: Global, tree: &mut Tree, words: &[&str]) -> Result<String, StoreError> {
-    tree.set_end(number(words, 1), number(words, 2), number(words, 3))?;
-    done(alloc)
-}
-
-fn rename(alloc: Global, tree: &mut Tree, words: &[&str]) -> Result<String, StoreError> {
+fn rename(tree: &mut Tree, words: &[&str]) -> Result<(), StoreError> {
     let replace = word(words, 3) == "replace";
-    tree.rename(number(words, 1), path(words, 2), replace)?;
-    done(alloc)
-}
-
-fn remove(alloc: Global, tree: &mut Tree, file: u64) -> Result<String, StoreError> {
-    tree.remove(file)?;
-    done(alloc)
-}
-
-fn mark(alloc: Global, tree: &mut Tree, words: &[&str]) -> Result<String, StoreError> {
-    tree.mark(number(words, 1), word(words, 2) == "marked");
-    done(alloc)
-}
-
-fn set_basic(alloc: Global, tree: &mut Tree, words: &[&str]) -> Result<String, StoreError> {
-    tree.set_basic(number(words, 1), basic_in(words));
-    done(alloc)
+    tree.rename(number(words, 1), path(words, 2), replace)
 }
 
 fn basic_in(words: &[&str]) -> Basic {
@@ -120,18 +110,16 @@ fn basic_in(words: &[&str]) -> Basic {
 }
 
 // Makes a file whose path is written as hexadecimal digits.
-fn coded(alloc: Global, tree: &mut Tree, path: &str) -> Result<String, StoreError> {
+fn coded(said: &mut String, alloc: Global, tree: &mut Tree, path: &str) -> Result<(), StoreError> {
     let path = bytes_of(alloc, path)?;
-    match std::str::from_utf8(&path) {
-        Ok(path) => digits(alloc, tree.make(path, false, 0, 1)?),
-        Err(_) => text(alloc, "unknown"),
-    }
+    let made = tree.make(std::str::from_utf8(&path).unwrap_or(""), false, 0, 1)?;
+    Ok(write!(said, "{made}")?)
 }
 
-fn holds(alloc: Global, tree: &Tree, words: &[&str]) -> Result<String, StoreError> {
+fn holds(said: &mut String, alloc: Global, tree: &Tree, words: &[&str]) -> Result<(), StoreError> {
     let bytes = bytes_of(alloc, word(words, 3))?;
     let same = tree.holds(number(words, 1), number(words, 2), &bytes)?;
-    text(alloc, if same { "same" } else { "other" })
+    Ok(said.push_str(if same { "same" } else { "other" })?)
 }
 
 fn word<'a>(words: &[&'a str], i: usize) -> &'a str {
@@ -157,34 +145,26 @@ fn shown(path: &str) -> &str {
     if path.is_empty() { "-" } else { path }
 }
 
-fn done(alloc: Global) -> Result<String, StoreError> {
-    text(alloc, "ok")
-}
-
-fn text(alloc: Global, text: &str) -> Result<String, StoreError> {
-    Ok(String::from_str(alloc, text)?)
-}
-
-fn digits(alloc: Global, n: u64) -> Result<String, StoreError> {
-    match format!(in alloc; "{n}") {
-        Ok(text) => Ok(text),
-        Err(_) => Err(StoreError::Memory),
-    }
-}
-
-// Hexadecimal digits, or COUNT*FIRST: byte i is (7 i + FIRST) mod 256.
-fn bytes_of(alloc: Global, word: &str) -> Result<Vec<u8>, AllocError> {
+// Byte i is (7 i + FIRST) mod 256.
+fn counted_bytes(alloc: Global, count: u64, first: u64) -> Result<Vec<u8>, AllocError> {
     let mut bytes = Vec::new(alloc);
+    for i in 0..count {
+        bytes.push((i.wrapping_mul(7).wrapping_add(first) % 256) as u8)?;
+    }
+    Ok(bytes)
+}
+
+// Hexadecimal digits, or COUNT*FIRST.
+fn bytes_of(alloc: Global, word: &str) -> Result<Vec<u8>, AllocError> {
     if word == "-" {
-        return Ok(bytes);
+        return Ok(Vec::new(alloc));
     }
     if let Some((count, first)) = word.split_once('*') {
-        let count: u64 = count.parse().unwrap_or(0);
-        let first: u64 = first.parse().unwrap_or(0);
-        for i in 0..count {
-            bytes.push((i.wrapping_mul(7).wrapping_add(first) % 256) as u8)?;
-        }
-        return Ok(bytes);
+        return counted_bytes(
+            alloc,
+            count.parse().unwrap_or(0),
+            first.parse().unwrap_or(0),
+        );
     }
     match hex::decode(alloc, word) {
         Ok(bytes) => Ok(bytes),
@@ -193,7 +173,7 @@ fn bytes_of(alloc: Global, word: &str) -> Result<Vec<u8>, AllocError> {
 }
 
 // The sum of (i + 1) times byte i, modulo 2^32, from a place on.
-#[derive(Drop)]
+#[derive(Clone, Copy)]
 struct Sum {
     place: u32,
     sum: u32,
@@ -208,86 +188,92 @@ impl Sum {
     }
 }
 
-fn read(alloc: Global, tree: &Tree, words: &[&str]) -> Result<String, StoreError> {
+fn push_digits(said: &mut String, bytes: &[u8]) -> Result<(), AllocError> {
+    for byte in bytes {
+        write!(said, "{:02x}", *byte)?;
+    }
+    Ok(())
+}
+
+fn push_bytes(said: &mut String, bytes: &[u8]) -> Result<(), AllocError> {
+    if bytes.is_empty() {
+        return said.push_str("-");
+    }
+    if bytes.len() <= 24 {
+        return push_digits(said, bytes);
+    }
+    let mut sum = Sum { place: 0, sum: 0 };
+    sum.add(bytes);
+    write!(said, "{}#{}", bytes.len(), sum.sum)
+}
+
+fn read(said: &mut String, tree: &Tree, words: &[&str]) -> Result<(), StoreError> {
     let bytes = tree.read(
         number(words, 1),
         number(words, 2),
         (number(words, 3) % 65_537) as u32,
     )?;
-    if bytes.is_empty() {
-        return text(alloc, "-");
-    }
-    if bytes.len() <= 24 {
-        return Ok(hex::encode(alloc, bytes.as_slice())?);
-    }
-    let mut sum = Sum { place: 0, sum: 0 };
-    sum.add(bytes.as_slice());
-    counted(alloc, bytes.len(), sum.sum)
+    Ok(push_bytes(said, bytes.as_slice())?)
 }
 
-fn counted(alloc: Global, count: usize, sum: u32) -> Result<String, StoreError> {
-    match format!(in alloc; "{count}#{sum}") {
-        Ok(text) => Ok(text),
-        Err(_) => Err(StoreError::Memory),
-    }
-}
-
-fn files(alloc: Global, tree: &Tree) -> Result<String, StoreError> {
-    let files = tree.files()?;
+fn sum_of(files: &[StoredFile]) -> u32 {
     let mut sum = Sum { place: 0, sum: 0 };
-    for file in &files {
+    for file in files {
         sum.add(file.path.as_bytes());
         sum.add(&[0]);
         sum.add(&(file.bytes.len() as u64).to_le_bytes());
         sum.add(file.bytes.as_slice());
     }
-    counted(alloc, files.len(), sum.sum)
+    sum.sum
+}
+
+fn files(said: &mut String, tree: &Tree) -> Result<(), StoreError> {
+    let files = tree.files()?;
+    Ok(write!(said, "{}#{}", files.len(), sum_of(files.as_slice()))?)
 }
 
 // A file is taken out, and put back or dropped.
-fn gone(alloc: Global, tree: &mut Tree, words: &[&str]) -> Result<String, StoreError> {
-    let gone = tree.take_out(number(words, 1))?;
-    if word(words, 2) == "back" {
-        put_back(tree, gone)?;
-    }
-    done(alloc)
-}
-
-fn put_back(tree: &mut Tree, gone: Option<Gone>) -> Result<(), StoreError> {
-    match gone {
-        Some(gone) => came_back(tree.put_back(gone)),
-        None => Ok(()),
+fn gone(tree: &mut Tree, words: &[&str]) -> Result<(), StoreError> {
+    match tree.take_out(number(words, 1))? {
+        Some(gone) if word(words, 2) == "back" => put_back(tree, gone),
+        _ => Ok(()),
     }
 }
 
-fn came_back(is_back: bool) -> Result<(), StoreError> {
-    if is_back {
+fn put_back(tree: &mut Tree, gone: Gone) -> Result<(), StoreError> {
+    if tree.put_back(gone) {
         Ok(())
     } else {
         Err(StoreError::Memory)
     }
 }
 
-fn list(alloc: Global, tree: &Tree, words: &[&str]) -> Result<String, StoreError> {
-    let entries = tree.list(number(words, 1), path(words, 2))?;
-    let mut names = String::new(alloc);
-    for entry in &entries {
-        if !names.is_empty() {
-            names.push(' ')?;
-        }
-        push_entry(alloc, &mut names, entry)?;
-    }
-    Ok(names)
+fn push_entry(said: &mut String, between: &str, entry: &Entry) -> Result<(), AllocError> {
+    write!(said, "{between}{}/{}", entry.name.as_str(), entry.info.file)
 }
 
-fn push_entry(alloc: Global, names: &mut String, entry: &Entry) -> Result<(), StoreError> {
-    names.push_str(entry.name.as_str())?;
-    names.push('/')?;
-    names.push_str(&digits(alloc, entry.info.file)?)?;
+fn push_entries(said: &mut String, entries: &[Entry]) -> Result<(), AllocError> {
+    for entry in entries {
+        let between = if said.is_empty() { "" } else { " " };
+        push_entry(said, between, entry)?;
+    }
     Ok(())
 }
 
-fn more(alloc: Global, tree: &Tree, words: &[&str]) -> Result<String, StoreError> {
+fn list(said: &mut String, tree: &Tree, words: &[&str]) -> Result<(), StoreError> {
+    let entries = tree.list(number(words, 1), path(words, 2))?;
+    Ok(push_entries(said, entries.as_slice())?)
+}
+
+fn push_listed(said: &mut String, any: bool, entries: &[Entry]) -> Result<(), AllocError> {
+    if !any {
+        return said.push_str("none");
+    }
+    said.push_str("some")?;
+    push_entries(said, entries)
+}
+
+fn more(said: &mut String, tree: &Tree, words: &[&str]) -> Result<(), StoreError> {
     let last = match word(words, 3) {
         "+" => None,
         name => Some(name),
@@ -296,74 +282,65 @@ fn more(alloc: Global, tree: &Tree, words: &[&str]) -> Result<String, StoreError
     let room = (number(words, 5) % 65_537) as u32;
     let single = word(words, 6) == "one";
     let listed = tree.list_from(number(words, 1), path(words, 2), last, class, room, single)?;
-    if !listed.any {
-        return text(alloc, "none");
-    }
-    let mut names = String::from_str(alloc, "some")?;
-    for entry in &listed.entries {
-        names.push(' ')?;
-        push_entry(alloc, &mut names, entry)?;
-    }
-    Ok(names)
+    Ok(push_listed(said, listed.any, listed.entries.as_slice())?)
 }
 
-fn below(alloc: Global, tree: &Tree, directory: u64) -> Result<String, StoreError> {
-    let mut numbers = String::new(alloc);
-    for file in &tree.below(directory)? {
-        if !numbers.is_empty() {
-            numbers.push(' ')?;
-        }
-        numbers.push_str(&digits(alloc, *file)?)?;
-    }
+fn push_numbers(said: &mut String, numbers: &[u64]) -> Result<(), AllocError> {
     if numbers.is_empty() {
-        return text(alloc, "none");
+        return said.push_str("none");
     }
-    Ok(numbers)
+    for number in numbers {
+        let between = if said.is_empty() { "" } else { " " };
+        write!(said, "{between}{number}")?;
+    }
+    Ok(())
+}
+
+fn below(said: &mut String, tree: &Tree, directory: u64) -> Result<(), StoreError> {
+    let numbers = tree.below(directory)?;
+    Ok(push_numbers(said, numbers.as_slice())?)
 }
 
 // A call whose memory is taken, and which is then given up.
-fn given_up(alloc: Global, tree: &mut Tree, words: &[&str]) -> Result<String, StoreError> {
+fn given_up(alloc: Global, tree: &mut Tree, words: &[&str]) -> Result<(), StoreError> {
     match word(words, 0) {
-        "make" => make_given_up(alloc, tree, words),
-        "rename" => rename_given_up(alloc, tree, words),
+        "make" => make_given_up(tree, words),
+        "rename" => rename_given_up(tree, words),
         _ => write_given_up(alloc, tree, words),
     }
 }
 
-fn make_given_up(alloc: Global, tree: &mut Tree, words: &[&str]) -> Result<String, StoreError> {
+fn make_given_up(tree: &mut Tree, words: &[&str]) -> Result<(), StoreError> {
     let directory = word(words, 2) == "dir";
     let attributes = attributes(words, 3);
     let new = tree.prepare_make(path(words, 1), directory, attributes, number(words, 4))?;
     tree.cancel_make(new);
-    done(alloc)
+    Ok(())
 }
 
-fn rename_given_up(alloc: Global, tree: &mut Tree, words: &[&str]) -> Result<String, StoreError> {
+fn rename_given_up(tree: &mut Tree, words: &[&str]) -> Result<(), StoreError> {
     let replace = word(words, 3) == "replace";
     let moved = tree.prepare_rename(number(words, 1), path(words, 2), replace)?;
     tree.cancel_rename(moved);
-    done(alloc)
+    Ok(())
 }
 
-fn write_given_up(alloc: Global, tree: &mut Tree, words: &[&str]) -> Result<String, StoreError> {
+fn write_given_up(alloc: Global, tree: &mut Tree, words: &[&str]) -> Result<(), StoreError> {
     let bytes = bytes_of(alloc, word(words, 3))?;
     if !bytes.is_empty() {
         let _ = tree.prepare_write(number(words, 1), number(words, 2), &bytes)?;
     }
-    done(alloc)
+    Ok(())
 }
 
-fn info(alloc: Global, tree: &Tree, file: u64) -> Result<String, StoreError> {
+fn info(said: &mut String, tree: &Tree, file: u64) -> Result<(), AllocError> {
     let info = tree.info(file);
     let kind = if info.directory { "dir" } else { "file" };
     let mark = if info.marked { "marked" } else { "kept" };
     let b = info.basic;
-    let written = format!(in alloc;
+    write!(
+        said,
         "{kind} {} {mark} {} {} {} {} {}",
         info.length, b.created, b.accessed, b.written, b.changed, b.attributes
-    );
-    match written {
-        Ok(text) => Ok(text),
-        Err(_) => Err(StoreError::Memory),
-    }
+    )
 }

@@ -1,0 +1,57 @@
+//! What a command reads of a text, scripts and settings: what is answered to a row, which is what was read, or the line that is refused.
+#![tactic(auto)]
+
+mod spelling;
+
+use crate::spelling::{code_text, settings_text, statement_text};
+use anyhow::{Result, bail};
+use row_escapes::unescaped;
+use script_lines::{Line, Refusal, Script, script, with_defaults};
+use script_words::{Command, Fault};
+use std::alloc::Global;
+
+fn command_named(name: &str) -> Result<Command> {
+    match name {
+        "drill" => Ok(Command::Drill),
+        "serve" => Ok(Command::Serve),
+        "run" => Ok(Command::Run),
+        _ => bail!("an unknown command"),
+    }
+}
+
+fn said(alloc: Global, command: Command, text: &[u8]) -> Result<String> {
+    match script(alloc, command, text) {
+        Ok(script) => told(alloc, script),
+        Err(Fault::Refused(refusal)) => refused(alloc, refusal),
+        Err(Fault::Memory) => bail!("memory ran out"),
+    }
+}
+
+// The settings, and then each line with its number.
+fn told(alloc: Global, script: Script) -> Result<String> {
+    let settings = with_defaults(alloc, script.given)?;
+    let mut text = settings_text(alloc, &settings)?;
+    for line in &script.lines {
+        push_line(alloc, &mut text, line)?;
+    }
+    Ok(text)
+}
+
+fn push_line(alloc: Global, text: &mut String, line: &Line) -> Result<()> {
+    let number = line.number;
+    let says = statement_text(alloc, &line.statement)?;
+    text.push_str(&format!(in alloc; "; {number} {says}")?)?;
+    Ok(())
+}
+
+fn refused(alloc: Global, refusal: Refusal) -> Result<String> {
+    let line = refusal.line;
+    let code = code_text(refusal.code);
+    Ok(format!(in alloc; "line {line} {code}")?)
+}
+
+/// What is answered to a command that reads a text with its line ends written out.
+pub fn answer(alloc: Global, command: &str, text: &str) -> Result<String> {
+    let text = unescaped(alloc, text)?;
+    said(alloc, command_named(command)?, text.as_slice())
+}
