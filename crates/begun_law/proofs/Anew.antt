@@ -11,10 +11,10 @@ use Rattle.server_begun.specs.Begun.{Begins}
 use Rattle.server_checks.specs.Shown.{TablesShown}
 use Rattle.server_checks.specs.declared.tables.Config.{Config}
 use Rattle.server_checks.specs.declared.tables.Tables.{Tables}
-use Rattle.server_holds.specs.Holds.{Holds}
-use Rattle.server_holds.specs.declared.state.ServerState.{ServerState}
+use Rattle.server_begun.specs.ServerHolds.Holds.{Holds}
+use Rattle.server_begun.specs.ServerHolds.declared.state.ServerState.{ServerState}
 use Rattle.server_recovery.specs.Reading.{BodiesSpell}
-use Rattle.server_restart.specs.Restart.{configuration_of}
+use Rattle.restart_law.specs.ServerRestart.Restart.{configuration_of}
 use Rattle.world_defs.specs.Ends.{Logons}
 
 abbrev pub MeansOne : Type 0

@@ -8,9 +8,9 @@ ghost use Rattle.exchange_defs.specs.Fold.{recovered, recovered_from, recovery_r
 ghost use Rattle.exchange_defs.specs.State as model;
 ghost use Rattle.server_begun.specs.Begun.{Begins};
 ghost use Rattle.server_checks.specs.declared.tables.Config.{Config};
-ghost use Rattle.server_holds.specs.Holds.{Holds};
-ghost use Rattle.server_holds.specs.declared.state.ServerState.{ServerState};
-ghost use Rattle.server_restart.specs.Restart.{configuration_of};
+ghost use Rattle.server_begun.specs.ServerHolds.Holds.{Holds};
+ghost use Rattle.server_begun.specs.ServerHolds.declared.state.ServerState.{ServerState};
+ghost use Rattle.restart_law.specs.ServerRestart.Restart.{configuration_of};
 ghost use Rattle.world_defs.specs.Ends.{Logons};
 
 use persist_journal::one_meaning;

@@ -1,1 +1,2 @@
 pub mod Told
+pub use Rattle.conn_served.specs as ConnServed

@@ -4,5 +4,6 @@
 mod progress;
 mod told;
 
+pub use conn_served::{Reply, Serve, ServeError};
 pub use progress::Logon;
 pub use told::reply_from;

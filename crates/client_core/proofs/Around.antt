@@ -18,17 +18,17 @@ use Rattle.client_opens.proofs.Settled.{settled_open}
 use Rattle.client_choice.specs.declared.finding.Attached.{Attached}
 use Rattle.client_table.specs.declared.parts.Table.{Table}
 use Rattle.client_table.specs.Shown.{Fits, ShowsTable}
-use Rattle.client_attached.specs.declared.opened.Opened.{Opened}
-use Rattle.client_attached.specs.Known.{ShowsOpened}
-use Rattle.client_attached.specs.Opens.{FitsOpens, ShowsAttached}
-use Rattle.client_attached.specs.Places.{KeepsPlaces}
-use Rattle.client_attached.proofs.Kept.{places_none}
-use Rattle.client_attached.proofs.Known.{known_moved}
-use Rattle.client_attached.proofs.Moved.{fits_moved, shown_moved}
-use Rattle.client_hearing.proofs.Noted.{ascends_moved, note_any}
+use Rattle.client_pushing.specs.ClientAttached.declared.opened.Opened.{Opened}
+use Rattle.client_pushing.specs.ClientAttached.Known.{ShowsOpened}
+use Rattle.client_pushing.specs.ClientAttached.Opens.{FitsOpens, ShowsAttached}
+use Rattle.client_pushing.specs.ClientAttached.Places.{KeepsPlaces}
+use Rattle.client_pushing.proofs.ClientAttached.Kept.{places_none}
+use Rattle.client_pushing.proofs.ClientAttached.Known.{known_moved}
+use Rattle.client_pushing.proofs.ClientAttached.Moved.{fits_moved, shown_moved}
+use Rattle.client_replies.proofs.ClientHearing.Noted.{ascends_moved, note_any}
 use Rattle.client_replies.proofs.Heard.{highest_moved}
-use Rattle.client_submitting.specs.Marked.{FitsMarks, IsBounded, IsMarkedAt, ShowsMarks}
-use Rattle.client_submitting.specs.Whole.{ShowsWhole}
+use Rattle.client_creating.specs.ClientSubmitting.Marked.{FitsMarks, IsBounded, IsMarkedAt, ShowsMarks}
+use Rattle.client_creating.specs.ClientSubmitting.Whole.{ShowsWhole}
 use Rattle.client_core.specs.Shown.{FitsAll}
 
 pub same_places : (rows new : List Row) → new ≡ rows → KeepsPlaces rows new

@@ -5,8 +5,8 @@ use Rattle.client_opens.specs.declared.opening.Open.{Open}
 use Rattle.client_choice.specs.declared.finding.Attached.{Attached}
 use Rattle.client_table.specs.declared.parts.Table.{Table}
 use Rattle.client_table.specs.Shown.{Fits, ShowsTable}
-use Rattle.client_attached.specs.declared.opened.Opened.{Opened}
-use Rattle.client_submitting.specs.Whole.{ShowsWhole}
+use Rattle.client_pushing.specs.ClientAttached.declared.opened.Opened.{Opened}
+use Rattle.client_creating.specs.ClientSubmitting.Whole.{ShowsWhole}
 use Rattle.client_core.specs.Shown.{FitsAll}
 
 none_in : {X : Type 0} (xs : List X) (i : ℕ) → xs ≡ [] → i < length xs → ⊥

@@ -9,14 +9,14 @@ use Rattle.client_opens.specs.declared.opening.Open.{Open}
 use Rattle.client_choice.specs.declared.finding.Attached.{Attached}
 use Rattle.client_table.specs.declared.parts.Table.{Table}
 use Rattle.client_table.specs.Shown.{Fits, ShowsTable}
-use Rattle.client_attached.specs.declared.opened.Opened.{Opened}
-use Rattle.client_attached.specs.Known.{ShowsOpened}
-use Rattle.client_attached.specs.Opens.{FitsOpens, IsRoomy, ShowsAttached}
-use Rattle.client_attached.proofs.Locks.{locks_first}
-use Rattle.client_gone.specs.Ascending.{Ascends}
-use Rattle.client_taking.specs.Taken.{KeepsOrBegins}
-use Rattle.client_submitting.specs.Marked.{FitsMarks, ShowsMarks}
-use Rattle.client_submitting.specs.Whole.{ShowsWhole}
+use Rattle.client_pushing.specs.ClientAttached.declared.opened.Opened.{Opened}
+use Rattle.client_pushing.specs.ClientAttached.Known.{ShowsOpened}
+use Rattle.client_pushing.specs.ClientAttached.Opens.{FitsOpens, IsRoomy, ShowsAttached}
+use Rattle.client_pushing.proofs.ClientAttached.Locks.{locks_first}
+use Rattle.client_replies.specs.ClientGone.Ascending.{Ascends}
+use Rattle.client_creating.specs.ClientTaking.Taken.{KeepsOrBegins}
+use Rattle.client_creating.specs.ClientSubmitting.Marked.{FitsMarks, ShowsMarks}
+use Rattle.client_creating.specs.ClientSubmitting.Whole.{ShowsWhole}
 use Rattle.client_core.specs.Shown.{FitsAll}
 
 none_in : (g : ℕ) → 0 < g → g < 1 → ⊥

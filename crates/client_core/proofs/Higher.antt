@@ -6,8 +6,8 @@ use Rattle.operation_rows.specs.declared.row.Row.{Row}
 use Rattle.operation_rows.specs.Rows.{owner}
 use Rattle.client_marks.specs.Marks.{IsHighest, is_create_kind}
 use Rattle.client_table.specs.Shown.{AreOwned}
-use Rattle.client_gone.specs.Ascending.{Ascends}
-use Rattle.client_submitting.specs.Marked.{AddsOne}
+use Rattle.client_replies.specs.ClientGone.Ascending.{Ascends}
+use Rattle.client_creating.specs.ClientSubmitting.Marked.{AddsOne}
 
 within_zero : (n : ℕ) → zero ≤ n
 within_zero n = omega arith

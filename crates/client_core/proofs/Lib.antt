@@ -2,5 +2,6 @@ pub mod Around
 pub mod Begun
 pub mod FirstRow
 pub mod Higher
-pub mod Pushed
+pub mod StillAsked
 pub mod Taken
+pub use Rattle.client_replies.proofs as ClientReplies

@@ -4,9 +4,9 @@ use Rattle.exchange_defs.specs.Client.{Client}
 use Rattle.client_opens.specs.declared.opening.Open.{Open}
 use Rattle.client_choice.specs.declared.finding.Attached.{Attached}
 use Rattle.client_table.specs.declared.parts.Table.{Table}
-use Rattle.client_attached.specs.declared.opened.Opened.{Opened}
-use Rattle.client_gone.specs.Ascending.{Ascends}
-use Rattle.client_submitting.specs.Whole.{FitsWhole, ShowsWhole}
+use Rattle.client_pushing.specs.ClientAttached.declared.opened.Opened.{Opened}
+use Rattle.client_replies.specs.ClientGone.Ascending.{Ascends}
+use Rattle.client_creating.specs.ClientSubmitting.Whole.{FitsWhole, ShowsWhole}
 use Rattle.client_core.specs.declared.client.Client.{Client as Core}
 
 -- whatever client of the model it shows: table and opens, and by operation the next higher one of its open

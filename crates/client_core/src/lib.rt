@@ -5,3 +5,5 @@ mod client;
 mod telling;
 
 pub use client::Client;
+pub use client_pushing::Pushed;
+pub use client_replies::{Response, is_awaited};

@@ -20,8 +20,8 @@ use Rattle.client_settles.specs.Shown.{outcome_by}
 use Rattle.client_submits.specs.Taken.{IsRowOf}
 use Rattle.client_opens.specs.Opened.{IsOn}
 use Rattle.client_table.specs.Shown.{Bounds}
-use Rattle.client_joining.specs.Rows.{fresh_row}
-use Rattle.client_joining.proofs.Onto.{at_below, clash, next_is}
+use Rattle.client_submitting.specs.ClientJoining.Rows.{fresh_row}
+use Rattle.client_submitting.proofs.ClientJoining.Onto.{at_below, clash, next_is}
 
 ways : (x y : ℕ) → (x ≡ y) ⊎ (x ≡ y → ⊥)
 ways x y = grind arith

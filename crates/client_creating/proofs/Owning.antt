@@ -16,10 +16,10 @@ use Rattle.client_choice.specs.Shown.{IsAt}
 use Rattle.client_opens.specs.declared.opening.Open.{Open}
 use Rattle.client_table.specs.declared.parts.Table.{Table}
 use Rattle.client_table.specs.Shown.{Fits, ShowsTable}
-use Rattle.client_attached.specs.declared.opened.Opened.{Opened}
-use Rattle.client_attached.specs.Known.{IsKnownAt, ShowsOpened}
-use Rattle.client_attached.specs.Opens.{FitsOpens, HasSlots, ShowsAttached}
-use Rattle.client_joining.specs.Keeping.{Keeps}
+use Rattle.client_submitting.specs.ClientAttached.declared.opened.Opened.{Opened}
+use Rattle.client_submitting.specs.ClientAttached.Known.{IsKnownAt, ShowsOpened}
+use Rattle.client_submitting.specs.ClientAttached.Opens.{FitsOpens, HasSlots, ShowsAttached}
+use Rattle.client_submitting.specs.ClientJoining.Keeping.{Keeps}
 use Rattle.client_submitting.specs.Marked.{FitsMarks, IsBounded, ShowsMarks}
 use Rattle.client_submitting.specs.Whole.{FitsWhole, ShowsWhole}
 use Rattle.client_submitting.proofs.Grown.{Pair, fits_grown, known_grown, shown_grown}

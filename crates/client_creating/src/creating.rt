@@ -11,18 +11,16 @@ ghost use Rattle.client_marks.specs.Marks.{AreBelow};
 ghost use Rattle.client_opens.specs.declared.opening.Open.{Open as Mark};
 ghost use Rattle.client_opens.specs.Opened.{AreTopped};
 ghost use Rattle.client_table.specs.Shown.{Fits, ShowsTable};
-ghost use Rattle.client_taking.specs.Taken.{HasRooms};
-ghost use Rattle.client_joining.specs.Keeping.{IsMore, Keeps};
+ghost use Rattle.client_submitting.specs.ClientTaking.Taken.{HasRooms};
+ghost use Rattle.client_submitting.specs.ClientJoining.Keeping.{IsMore, Keeps};
 ghost use Rattle.client_submitting.specs.Marked.{AddsOne};
 ghost use Rattle.client_submitting.specs.Whole.{FitsWhole, ShowsWhole};
 
-use client_attached::Opened;
 use client_choice::Attached;
-use client_joining::new_row;
 use client_opens::Open;
 use client_outcomes::{Outcome, Why};
+use client_submitting::{Opened, new_row, take_row};
 use client_table::Table;
-use client_taking::take_row;
 use operation_values::{OpKind, Shape};
 use std::alloc::{AllocError, Global};
 

@@ -3,4 +3,5 @@
 
 mod creating;
 
+pub use client_submitting::{make_room, may_take, take_more};
 pub use creating::take_first;

@@ -1,2 +1,3 @@
 pub mod Kept
 pub mod Told
+pub use Rattle.client_attached.proofs as ClientAttached

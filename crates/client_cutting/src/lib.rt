@@ -4,5 +4,6 @@
 mod cutting;
 mod ending;
 
+pub use client_attached::Opened;
 pub use cutting::cut;
 pub use ending::end_table;

@@ -14,7 +14,7 @@ use Rattle.operation_values.specs.Meaning.{op_of}
 use Rattle.client_outcomes.specs.Meaning.{refusal_of, why_of}
 use Rattle.client_session.specs.declared.session.Cut.{Cut}
 use Rattle.client_session.specs.declared.session.Cut.TheVariants as cuts
-use Rattle.client_pushing.specs.Acts.{chosen_with}
+use Rattle.client_core.specs.ClientPushing.Acts.{chosen_with}
 use Rattle.client_core.specs.declared.client.Client.{Client as Core}
 use Rattle.client_core.specs.Shown.{ShowsClient}
 use Rattle.client_event.specs.declared.steps.Act.{Act as Told}

@@ -2,16 +2,15 @@
 ghost use Rattle.std.specs.Prelude.{◌≡◌, ◌==◌, true, if◌then◌else◌, IfOk, OnErr, OnOk};
 ghost use Rattle.exchange_defs.specs.Client.{Client as Model};
 ghost use Rattle.exchange_defs.specs.ClientStep.{CloseChannel, CloseChannels, Nothing};
-ghost use Rattle.client_pushing.specs.Acts.{act_of as pushed_act};
+ghost use Rattle.client_core.specs.ClientPushing.Acts.{act_of as pushed_act};
 ghost use Rattle.client_core.specs.Shown.{FitsClient, ShowsClient};
 ghost use Rattle.client_session.specs.Shown.{ready_at};
 ghost use Rattle.client_event.specs.declared.steps.Event.TheVariants as events;
 ghost use Rattle.client_event.specs.Events.{KeepsShown, Lacks, ShowsOne, TellsOne, act_at_cut, act_of};
 
 use crate::steps::Act;
-use client_core::Client;
+use client_core::{Client, Pushed};
 use client_outcomes::Why;
-use client_pushing::Pushed;
 use client_session::Cut;
 use msg_session::Refusal;
 use operation_values::OpKind;

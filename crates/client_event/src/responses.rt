@@ -14,8 +14,7 @@ ghost use Rattle.client_event.specs.declared.steps.Event.TheVariants as events;
 ghost use Rattle.client_event.specs.Events.{KeepsShown, Lacks, ShowsStep, Tells, act_of};
 
 use crate::steps::Act;
-use client_core::Client;
-use client_replies::{Response, is_awaited};
+use client_core::{Client, Response, is_awaited};
 use command_values::Body;
 use operation_commands::{id_in, value_in};
 use operation_values::{OpKind, OpReply};

@@ -1,8 +1,8 @@
 -- What is read of an open.
 use Rattle.std.proofs.Common.{◌≡◌, ℕ, ◌<◌, false, List, length, get_or, ap, ◌∙◌}
 use Rattle.std.proofs.lemmas.List.{get_or_default}
-use Rattle.client_attached.specs.declared.opened.Opened.{Opened}
-use Rattle.client_attached.specs.Known.{IsKnownAt}
+use Rattle.client_noting.specs.ClientAttached.declared.opened.Opened.{Opened}
+use Rattle.client_noting.specs.ClientAttached.Known.{IsKnownAt}
 
 -- what a read past the end would give
 abbrev pub none_known : Opened

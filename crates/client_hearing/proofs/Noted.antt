@@ -23,7 +23,7 @@ use Rattle.client_rows.specs.Shown.{ShowsRows}
 use Rattle.client_pushes.proofs.Picked.{lock_kind}
 use Rattle.client_session.specs.declared.session.Session.{Session}
 use Rattle.client_table.specs.Shown.{ShowsParts}
-use Rattle.client_attached.specs.Places.{KeepsPlaces}
+use Rattle.client_noting.specs.ClientAttached.Places.{KeepsPlaces}
 use Rattle.client_gone.specs.Ascending.{Ascends}
 
 ways : (x y : ℕ) → (x ≡ y) ⊎ (x ≡ y → ⊥)

@@ -8,14 +8,14 @@ ghost use Rattle.operation_rows.specs.Rows.{row_at, owner, stands};
 ghost use Rattle.client_outcomes.specs.declared.outcome.Outcome.TheVariants as outcomes;
 ghost use Rattle.client_outcomes.specs.Meaning.{outcome_of};
 ghost use Rattle.client_table.specs.Shown.{Fits, ShowsTable};
-ghost use Rattle.client_attached.specs.Known.{ShowsOpened};
-ghost use Rattle.client_attached.specs.Opens.{FitsOpens, ShowsAttached};
-ghost use Rattle.client_attached.specs.Places.{KeepsPlaces};
+ghost use Rattle.client_noting.specs.ClientAttached.Known.{ShowsOpened};
+ghost use Rattle.client_noting.specs.ClientAttached.Opens.{FitsOpens, ShowsAttached};
+ghost use Rattle.client_noting.specs.ClientAttached.Places.{KeepsPlaces};
 ghost use Rattle.client_gone.specs.Ascending.{Ascends};
 
-use client_attached::Opened;
 use client_choice::Attached;
 use client_gone::give_up_opened;
+use client_noting::Opened;
 use client_outcomes::{Outcome, is_gone};
 use client_table::Table;
 

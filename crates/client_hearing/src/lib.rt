@@ -5,4 +5,6 @@
 mod giving;
 mod settling;
 
+pub use client_gone::add_later;
+pub use client_noting::{answer_at, join_at};
 pub use settling::settle_heard;

@@ -6,5 +6,8 @@ mod fresh;
 mod joining;
 mod standing;
 
+pub use client_attached::Opened;
+pub use client_table::Table;
+pub use client_taking::{make_room, may_take, take_row};
 pub use fresh::new_row;
 pub use joining::take_onto;

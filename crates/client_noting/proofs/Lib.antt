@@ -1,3 +1,4 @@
 pub mod Filled
 pub mod Joined
 pub mod Noted
+pub use Rattle.client_attached.proofs as ClientAttached

@@ -7,5 +7,7 @@ mod filling;
 mod noting;
 
 pub use attaching::join_at;
+pub use client_attached::Opened;
+pub use client_steps::answer_at;
 pub use filling::fill_at;
 pub use noting::note_ok;

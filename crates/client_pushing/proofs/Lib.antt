@@ -1,1 +1,2 @@
 pub mod Told
+pub use Rattle.client_attached.proofs as ClientAttached

@@ -1,1 +1,2 @@
 pub mod Acts
+pub use Rattle.client_attached.specs as ClientAttached

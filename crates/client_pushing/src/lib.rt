@@ -4,4 +4,5 @@
 
 mod pushing;
 
+pub use client_attached::Opened;
 pub use pushing::{Pushed, push};

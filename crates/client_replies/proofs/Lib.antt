@@ -1,1 +1,2 @@
 pub mod Heard
+pub use Rattle.client_hearing.proofs as ClientHearing

@@ -6,7 +6,7 @@ use Rattle.exchange_defs.specs.Operations.{id_in, value_in}
 use Rattle.exchange_defs.specs.Client.{Client, end_session}
 use Rattle.exchange_defs.specs.Settling.{Attaches, EndsSession, GoesAgain, Heard, Settles, settle}
 use Rattle.operation_values.specs.Meaning.{reply_of}
-use Rattle.client_noting.specs.Columns.{attached_now}
+use Rattle.client_hearing.specs.ClientNoting.Columns.{attached_now}
 use Rattle.client_replies.specs.declared.hearing.Response.{Response}
 
 -- of operation g, or of the request to attach its open in its place (asking); of what it says of the operation only a success of the

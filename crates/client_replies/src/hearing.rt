@@ -15,19 +15,16 @@ ghost use Rattle.operation_rows.specs.Rows.{row_at, owner, stands};
 ghost use Rattle.client_marks.specs.Marks.{IsHighest};
 ghost use Rattle.client_outcomes.specs.Hearing.{heard_by, hearing_of};
 ghost use Rattle.client_table.specs.Shown.{Fits, ShowsTable};
-ghost use Rattle.client_attached.specs.Known.{ShowsOpened};
-ghost use Rattle.client_attached.specs.Opens.{FitsOpens, ShowsAttached};
-ghost use Rattle.client_attached.specs.Places.{KeepsPlaces};
-ghost use Rattle.client_gone.specs.Ascending.{Ascends};
+ghost use Rattle.client_cutting.specs.ClientAttached.Known.{ShowsOpened};
+ghost use Rattle.client_cutting.specs.ClientAttached.Opens.{FitsOpens, ShowsAttached};
+ghost use Rattle.client_cutting.specs.ClientAttached.Places.{KeepsPlaces};
+ghost use Rattle.client_hearing.specs.ClientGone.Ascending.{Ascends};
 ghost use Rattle.client_replies.specs.Reading.{Reads, ends, heard_then};
 
-use client_attached::Opened;
 use client_choice::Attached;
-use client_cutting::end_table;
-use client_hearing::settle_heard;
-use client_noting::join_at;
+use client_cutting::{Opened, end_table};
+use client_hearing::{answer_at, join_at, settle_heard};
 use client_outcomes::{Asked, Hearing, weigh};
-use client_steps::answer_at;
 use client_table::Table;
 use operation_values::{OpKind, OpReply};
 

@@ -3,4 +3,6 @@
 
 mod hearing;
 
+pub use client_cutting::cut;
+pub use client_hearing::add_later;
 pub use hearing::{Response, hear, is_awaited};

@@ -17,11 +17,11 @@ use Rattle.client_marks.specs.Marks.{IsHighest}
 use Rattle.client_choice.specs.declared.finding.Attached.{Attached}
 use Rattle.client_choice.specs.Shown.{IsAt}
 use Rattle.client_opens.specs.declared.opening.Open.{Open}
-use Rattle.client_attached.specs.declared.opened.Opened.{Opened}
-use Rattle.client_attached.specs.Known.{IsKnownAt, ShowsOpened}
-use Rattle.client_attached.specs.Locks.{locks_on}
-use Rattle.client_attached.specs.Opens.{FitsOpens, HasSlots, HaveUsers, IsRoomy, ShowsAttached}
-use Rattle.client_attached.proofs.Changed.{fits_set, shown_set}
+use Rattle.client_joining.specs.ClientAttached.declared.opened.Opened.{Opened}
+use Rattle.client_joining.specs.ClientAttached.Known.{IsKnownAt, ShowsOpened}
+use Rattle.client_joining.specs.ClientAttached.Locks.{locks_on}
+use Rattle.client_joining.specs.ClientAttached.Opens.{FitsOpens, HasSlots, HaveUsers, IsRoomy, ShowsAttached}
+use Rattle.client_joining.proofs.ClientAttached.Changed.{fits_set, shown_set}
 use Rattle.client_joining.specs.Keeping.{Keeps}
 use Rattle.client_submitting.specs.Marked.{FitsMarks, IsBounded, IsMarkedAt, ShowsMarks}
 use Rattle.client_submitting.proofs.Grown.{Pair, fits_grown, known_grown, shown_grown}

@@ -14,12 +14,12 @@ use Rattle.operation_rows.proofs.Walking.{put_off}
 use Rattle.client_marks.specs.Marks.{is_lock_kind}
 use Rattle.client_choice.specs.declared.finding.Attached.{Attached}
 use Rattle.client_choice.specs.Shown.{IsAt}
-use Rattle.client_attached.specs.declared.opened.Opened.{Opened}
-use Rattle.client_attached.specs.Known.{IsKnownAt, ShowsKnown}
-use Rattle.client_attached.specs.Locks.{locks_on}
-use Rattle.client_attached.specs.Opens.{FitsOpens, HasSlots, HaveRoom, IsRoomy, ShowsSlotsOf}
-use Rattle.client_attached.proofs.Locks.{lock_is, locks_grown, locks_same}
-use Rattle.client_attached.proofs.Roomy.{roomy_less}
+use Rattle.client_joining.specs.ClientAttached.declared.opened.Opened.{Opened}
+use Rattle.client_joining.specs.ClientAttached.Known.{IsKnownAt, ShowsKnown}
+use Rattle.client_joining.specs.ClientAttached.Locks.{locks_on}
+use Rattle.client_joining.specs.ClientAttached.Opens.{FitsOpens, HasSlots, HaveRoom, IsRoomy, ShowsSlotsOf}
+use Rattle.client_joining.proofs.ClientAttached.Locks.{lock_is, locks_grown, locks_same}
+use Rattle.client_joining.proofs.ClientAttached.Roomy.{roomy_less}
 
 ways : (x y : ℕ) → (x ≡ y) ⊎ (x ≡ y → ⊥)
 ways x y = grind arith

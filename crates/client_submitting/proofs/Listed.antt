@@ -10,12 +10,12 @@ use Rattle.operation_rows.specs.Rows.{row_at}
 use Rattle.operation_rows.specs.Slots.{slot_at}
 use Rattle.client_choice.specs.declared.finding.Attached.{Attached}
 use Rattle.client_choice.specs.Shown.{IsAt}
-use Rattle.client_attached.specs.declared.opened.Opened.{Opened}
-use Rattle.client_attached.specs.Known.{IsKnownAt, ShowsKnown}
-use Rattle.client_attached.specs.Locks.{locks_on}
-use Rattle.client_attached.specs.Opens.{FitsOpens, HaveUsers, IsRoomy, ShowsSlotsOf}
-use Rattle.client_attached.proofs.Locks.{locks_none}
-use Rattle.client_attached.proofs.Roomy.{roomy_none}
+use Rattle.client_joining.specs.ClientAttached.declared.opened.Opened.{Opened}
+use Rattle.client_joining.specs.ClientAttached.Known.{IsKnownAt, ShowsKnown}
+use Rattle.client_joining.specs.ClientAttached.Locks.{locks_on}
+use Rattle.client_joining.specs.ClientAttached.Opens.{FitsOpens, HaveUsers, IsRoomy, ShowsSlotsOf}
+use Rattle.client_joining.proofs.ClientAttached.Locks.{locks_none}
+use Rattle.client_joining.proofs.ClientAttached.Roomy.{roomy_none}
 
 ways : (x y : ℕ) → (x ≡ y) ⊎ (x ≡ y → ⊥)
 ways x y = grind arith

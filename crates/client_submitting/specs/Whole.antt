@@ -5,11 +5,11 @@ use Rattle.operation_values.specs.declared.shapes.Kind.TheVariants as kinds
 use Rattle.operation_rows.specs.Rows.{kind, owner}
 use Rattle.client_choice.specs.declared.finding.Attached.{Attached}
 use Rattle.client_opens.specs.declared.opening.Open.{Open}
-use Rattle.client_table.specs.declared.parts.Table.{Table}
-use Rattle.client_table.specs.Shown.{Fits, ShowsTable}
-use Rattle.client_attached.specs.declared.opened.Opened.{Opened}
-use Rattle.client_attached.specs.Known.{ShowsOpened}
-use Rattle.client_attached.specs.Opens.{FitsOpens, ShowsAttached}
+use Rattle.client_joining.specs.ClientTable.declared.parts.Table.{Table}
+use Rattle.client_joining.specs.ClientTable.Shown.{Fits, ShowsTable}
+use Rattle.client_joining.specs.ClientAttached.declared.opened.Opened.{Opened}
+use Rattle.client_joining.specs.ClientAttached.Known.{ShowsOpened}
+use Rattle.client_joining.specs.ClientAttached.Opens.{FitsOpens, ShowsAttached}
 use Rattle.client_submitting.specs.Marked.{FitsMarks, ShowsMarks}
 
 pub record FitsWhole (t : Table) (attached : List Attached) (opened : List Opened) (marks : List Open) : Type 0 where

@@ -3,4 +3,5 @@
 
 mod more;
 
+pub use client_joining::{Opened, make_room, may_take, new_row, take_row};
 pub use more::take_more;

@@ -6,16 +6,14 @@ ghost use Rattle.client_law.specs.Kept.{Kept};
 ghost use Rattle.operation_values.specs.declared.shapes.Kind.TheVariants as kinds;
 ghost use Rattle.operation_values.specs.Meaning.{op_of};
 ghost use Rattle.operation_rows.specs.Rows.{row_at};
-ghost use Rattle.client_attached.specs.Known.{IsKnownAt};
-ghost use Rattle.client_taking.specs.Taken.{HasRooms};
+ghost use Rattle.client_joining.specs.ClientAttached.Known.{IsKnownAt};
+ghost use Rattle.client_joining.specs.ClientTaking.Taken.{HasRooms};
 ghost use Rattle.client_submitting.specs.Marked.{AddsOne};
 ghost use Rattle.client_submitting.specs.Whole.{FitsWhole, ShowsWhole};
 
-use client_attached::Opened;
 use client_choice::Attached;
-use client_joining::take_onto;
+use client_joining::{Opened, Table, take_onto};
 use client_opens::Open;
-use client_table::Table;
 use operation_values::OpKind;
 use std::alloc::AllocError;
 

@@ -18,9 +18,9 @@ use Rattle.conn_ends.specs.declared.conn.Conn.{Conn}
 use Rattle.conn_ends.specs.declared.end.ConnEnd.{ConnEnd}
 use Rattle.conn_ends.specs.declared.end.ConnEnd.TheVariants as causes
 use Rattle.conn_served.specs.Serving.{Showing}
-use Rattle.conn_dealt.specs.Dealing.{taken_records}
-use Rattle.conn_dealt.specs.Written.{AreWritten}
-use Rattle.conn_answers.specs.Replying.{EndsAs, Goes}
+use Rattle.conn_core.specs.ConnDealt.Dealing.{taken_records}
+use Rattle.conn_core.specs.ConnDealt.Written.{AreWritten}
+use Rattle.conn_core.specs.ConnAnswers.Replying.{EndsAs, Goes}
 use Rattle.conn_core.specs.declared.end.Ended.{Ended}
 use Rattle.conn_core.specs.declared.taking.Taken.{Taken}
 use Rattle.conn_core.specs.Taking.{EndsAt, EndsBy, IsLeft, IsOwned, Takes, TakesOn, note_of}

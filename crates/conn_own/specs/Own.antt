@@ -9,8 +9,8 @@ use Rattle.conn_ends.specs.declared.conn.Conn.{Conn}
 use Rattle.conn_ends.specs.declared.end.ConnEnd.{ConnEnd}
 use Rattle.conn_ends.specs.declared.end.ConnEnd.TheVariants.{Memory, Stopped}
 use Rattle.conn_served.specs.Serving.{Showing}
-use Rattle.conn_dealt.specs.Dealing.{taken_records}
-use Rattle.conn_answers.specs.Replying.{EndsAs, Goes}
+use Rattle.conn_core.specs.ConnDealt.Dealing.{taken_records}
+use Rattle.conn_core.specs.ConnAnswers.Replying.{EndsAs, Goes}
 use Rattle.conn_core.specs.declared.end.Ended.{Ended}
 use Rattle.conn_core.specs.declared.taking.Taken.{Taken}
 use Rattle.conn_core.specs.Taking.{note_of}

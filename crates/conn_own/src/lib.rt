@@ -3,4 +3,5 @@
 
 mod taking;
 
+pub use conn_core::{Ended, Taken};
 pub use taking::take_own;

@@ -33,3 +33,5 @@ pub fn dated_effects_law()
     ensures room { (t : Tables) (u : Opens) (a : Asked) (p : Prepared) → HasRoomYet t.opens u → RoomToCarry t a p
         → RoomToCarry (record t { opens = u }) a p }
 {}
+
+pub use server_prepared::Prepared;

@@ -1,1 +1,2 @@
 pub mod Made
+pub use Rattle.plain_law.specs as PlainLaw

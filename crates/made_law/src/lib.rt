@@ -7,6 +7,7 @@ ghost use Rattle.made_law.specs.Made.{PlainRunsAreMade};
 
 use credit_law::nothing_is_refused_law;
 use logon_facts::wire_facts_law;
+pub use plain_law::plain_runs_law;
 use run_law::runs_law;
 
 /// Each final response of a SESSION_SETUP on which the client accepted a session or a channel is noted among those that servers signed,

@@ -42,10 +42,10 @@ use Rattle.nonce_law.proofs.Drawing.{same_draws, accept_numbers, end_numbers}
 use Rattle.sending_law.specs.Sent.{HasNumber, HasRoom}
 use Rattle.run_law.specs.Bounds.{RunsGoInStep}
 use Rattle.run_law.proofs.Supplied.{Supplies}
-use Rattle.plain_law.proofs.Prefix.{restarts_part, submits_part}
-use Rattle.plain_law.proofs.Plain.{in_step}
-use Rattle.made_law.proofs.Takes.{one_comes}
-use Rattle.made_law.proofs.Runs.{bytes_more, nothing_happened, part_by, on_plain_runs}
+use Rattle.seals_law.proofs.PlainLaw.Prefix.{restarts_part, submits_part}
+use Rattle.seals_law.proofs.PlainLaw.Plain.{in_step}
+use Rattle.seals_law.proofs.MadeLaw.Takes.{one_comes}
+use Rattle.seals_law.proofs.MadeLaw.Runs.{bytes_more, nothing_happened, part_by, on_plain_runs}
 use Rattle.seals_law.proofs.Serves.{Shuts}
 use Rattle.seals_law.proofs.Runs.{shuts}
 use Rattle.room_law.specs.Room.{PlainRunsHaveRoom}

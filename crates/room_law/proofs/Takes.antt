@@ -21,7 +21,7 @@ use Rattle.world_defs.specs.World.{channel_bound, dialog_reply, dialog_wires, di
 use Rattle.step_law.specs.Links.{is_lined, IsTied, shared_of}
 use Rattle.step_law.proofs.Taking.{put_same, end_is}
 use Rattle.negotiation_law.proofs.Tables.{by_key}
-use Rattle.made_law.proofs.Takes.{one_comes}
+use Rattle.seals_law.proofs.MadeLaw.Takes.{one_comes}
 use Rattle.room_law.proofs.Few.{IsFew, few_by, few_none, few_less}
 use Rattle.room_law.proofs.Rooms.{Comes, none_comes, not_second, RoomsOf, same_low, one, one_closed, closed, off_closed, line, moved}
 

@@ -27,7 +27,7 @@ use Rattle.negotiation_law.proofs.Making.{FaultFine}
 use Rattle.nonce_law.specs.Numbering.{AreTables, Draws, next_drawn, DrawsOn, names_of, Keeps}
 use Rattle.nonce_law.proofs.Drawing.{DrewBy, drew}
 use Rattle.run_law.proofs.Supplied.{Supplies}
-use Rattle.made_law.proofs.Serves.{tied_alone, alone_up}
+use Rattle.seals_law.proofs.MadeLaw.Serves.{tied_alone, alone_up}
 use Rattle.seals_law.proofs.Serves.{At, front_at, none_comes, Shuts}
 use Rattle.room_law.proofs.Rooms.{RoomsOf, Rooms}
 use Rattle.room_law.proofs.Serves.{next_grown, next_low, Given, given_behind, given_more, no_more, closed_few, line_few, dialog_few}

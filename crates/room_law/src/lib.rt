@@ -9,6 +9,7 @@ ghost use Rattle.room_law.specs.Room.{PlainRunsHaveRoom};
 use credit_law::nothing_is_refused_law;
 use logon_facts::wire_facts_law;
 use run_law::runs_law;
+pub use seals_law::{accepted_is_made_law, plain_runs_law, seals_are_kept_law};
 
 /// The channels that a client has bound, and those whose success is on its way, are no more than the server numbered, which are 65,535 of a
 /// session at most (MS-SMB2 3.3.5.5.2).

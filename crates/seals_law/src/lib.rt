@@ -7,6 +7,7 @@ ghost use Rattle.seals_law.specs.Kept.{PlainSealsAreKept};
 
 use credit_law::nothing_is_refused_law;
 use logon_facts::wire_facts_law;
+pub use made_law::{accepted_is_made_law, plain_runs_law};
 use run_law::runs_law;
 
 /// Each frame that waits on a connection and begins as a sealed one is spelled by a seal that is noted, of the session and the direction,

@@ -1,1 +1,2 @@
 pub mod Acts
+pub use Rattle.server_carrying.specs as ServerCarrying

@@ -3,7 +3,7 @@ use Rattle.std.proofs.Common.{refl, arith}
 use Rattle.std.specs.Prelude.{IfOk, Result, Ok, Err}
 use Rattle.persist_journal.specs.Journal.{JournalState, OnlyRoom}
 use Rattle.server_checks.specs.declared.tables.Tables.{Tables}
-use Rattle.server_ready.specs.Readies.{TablesKeep}
+use Rattle.server_room.specs.ServerReady.Readies.{TablesKeep}
 
 pub if_ok_by : {X Y : Type 0} {P Q : X → Type 0} (r : Result X Y) → IfOk r P → ((x : X) → P x → Q x) → IfOk r Q
 if_ok_by (Ok x) p f = f x p

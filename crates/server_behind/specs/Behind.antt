@@ -6,10 +6,10 @@ use Rattle.exchange_defs.specs.Step.{carried_out, ruling}
 use Rattle.server_behind.specs.declared.behind.Both.{Both}
 use Rattle.server_body.specs.Body.{IsBodyOf}
 use Rattle.server_checks.specs.Shown.{TablesShown}
-use Rattle.server_holds.specs.declared.state.ServerState.{ServerState}
-use Rattle.server_prepared.specs.Prepared.{IsPrepared, prepared_ruling}
-use Rattle.server_rulings.specs.Rulings.{ruling_of}
-use Rattle.server_rulings.specs.declared.ruling.Ruling.{Ruling}
+use Rattle.server_room.specs.ServerHolds.declared.state.ServerState.{ServerState}
+use Rattle.server_room.specs.ServerPrepared.Prepared.{IsPrepared, prepared_ruling}
+use Rattle.server_room.specs.ServerRulings.Rulings.{ruling_of}
+use Rattle.server_room.specs.ServerRulings.declared.ruling.Ruling.{Ruling}
 
 -- the ruling on an event, with the body of its records behind those in front
 abbrev pub IsPlannedBehind : Ruling → List ℕ → model.Server → ℕ → model.ServerEvent → List model.Record → Type 0

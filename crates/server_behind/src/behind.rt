@@ -8,14 +8,14 @@ ghost use Rattle.server_asked.specs.Heard.{AskedAgrees, event_of};
 ghost use Rattle.server_behind.specs.Behind.{BothReady, IsPlannedBehind};
 ghost use Rattle.server_body.specs.Body.{IsBodyOf, fits_by};
 ghost use Rattle.server_checks.specs.Shown.{TablesShown};
-ghost use Rattle.server_holds.specs.Counted.{front_of};
-ghost use Rattle.server_holds.specs.Rooms.{HasRoomToWrite};
+ghost use Rattle.server_room.specs.ServerHolds.Counted.{front_of};
+ghost use Rattle.server_room.specs.ServerHolds.Rooms.{HasRoomToWrite};
 ghost use Rattle.server_law.specs.Fits.{Fits};
-ghost use Rattle.server_plan.specs.Plans.{OwingOf};
-ghost use Rattle.server_prepared.specs.Prepared.{RoomToCarry};
-ghost use Rattle.server_ready.specs.Readies.{TablesKeep};
-ghost use Rattle.server_rulings.specs.Rulings.{ruling_of};
-ghost use Rattle.server_steps.specs.Steps.{PreparedStep};
+ghost use Rattle.server_room.specs.ServerPlan.Plans.{OwingOf};
+ghost use Rattle.server_room.specs.ServerPrepared.Prepared.{RoomToCarry};
+ghost use Rattle.server_room.specs.ServerReady.Readies.{TablesKeep};
+ghost use Rattle.server_room.specs.ServerRulings.Rulings.{ruling_of};
+ghost use Rattle.server_room.specs.ServerSteps.Steps.{PreparedStep};
 ghost use Rattle.server_writing.specs.Bodies.{IsLack};
 ghost use Rattle.session_bind.specs.Logons.{LogonsShown};
 ghost use Rattle.world_defs.specs.Ends.{Logons};
@@ -25,12 +25,11 @@ use server_asked::Asked;
 use server_body::{body_law, spelled};
 use server_checks::Tables;
 use server_events::EventError;
-use server_holds::ServerState;
 use server_leaving::expire_records;
-use server_plan::{Plan, body_of, fits, plan_law};
-use server_prepared::Prepared;
-use server_room::make_room;
-use server_rulings::{Ruling, at_connection, rule, ruling_law};
+use server_room::{
+    Plan, Prepared, Ruling, ServerState, at_connection, body_of, fits, make_room, plan_law, rule,
+    ruling_law,
+};
 use smb_bytes::Bytes;
 use smb_io::Disk;
 use std::alloc::AllocError;

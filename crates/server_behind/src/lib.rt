@@ -4,4 +4,4 @@
 mod behind;
 
 pub use behind::{Both, front_body, ready_behind};
-pub use server_room::make_room;
+pub use server_room::{Plan, ServerState, fits, make_room, plan_event, plan_law, ruling_law};

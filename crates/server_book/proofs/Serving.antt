@@ -10,10 +10,10 @@ use Rattle.command_values.specs.declared.command.Command.{Command}
 use Rattle.command_values.specs.declared.request.Message.{Message}
 use Rattle.conn_ends.specs.declared.conn.Progress.{Progress}
 use Rattle.conn_ends.specs.declared.conn.Progress.TheVariants as goes
-use Rattle.conn_served.specs.Serving.{Halts, IsNamed, IsPlain, IsProgress, IsServed, IsShort, Lacks, Loses, Replies, Serves, Showing}
-use Rattle.conn_served.specs.declared.error.ServeError.{ServeError}
-use Rattle.conn_served.specs.declared.error.ServeError.TheVariants as errors
-use Rattle.conn_served.specs.declared.serve.Reply.{Reply}
+use Rattle.book_replies.specs.ConnServed.Serving.{Halts, IsNamed, IsPlain, IsProgress, IsServed, IsShort, Lacks, Loses, Replies, Serves, Showing}
+use Rattle.book_replies.specs.ConnServed.declared.error.ServeError.{ServeError}
+use Rattle.book_replies.specs.ConnServed.declared.error.ServeError.TheVariants as errors
+use Rattle.book_replies.specs.ConnServed.declared.serve.Reply.{Reply}
 use Rattle.exchange_defs.specs.Check.{check, has_session, owed}
 use Rattle.exchange_defs.specs.Commands as asks
 use Rattle.exchange_defs.specs.Network.{answer_to}
@@ -36,9 +36,9 @@ use Rattle.server_events.specs.Setups.{keys_behind, progress_of, request_of, set
 use Rattle.server_events.specs.declared.error.EventError.{EventError}
 use Rattle.server_events.specs.declared.error.EventError.TheVariants.{Memory, DiskFault, Stopped}
 use Rattle.server_events.specs.declared.setup.SetupHeard.{SetupHeard}
-use Rattle.server_holds.specs.Beside.{BesideReply, SetupAnswers, logons_behind}
-use Rattle.server_holds.specs.Holds.{EventRefused, ExpiredAlone, Holds, StepAnswers}
-use Rattle.server_holds.specs.declared.state.ServerState.{ServerState}
+use Rattle.server_core.specs.ServerHolds.Beside.{BesideReply, SetupAnswers, logons_behind}
+use Rattle.server_core.specs.ServerHolds.Holds.{EventRefused, ExpiredAlone, Holds, StepAnswers}
+use Rattle.server_core.specs.ServerHolds.declared.state.ServerState.{ServerState}
 use Rattle.session_defs.specs.declared.material.Keys.{Keys}
 use Rattle.session_defs.specs.declared.material.Signer.{Signer}
 use Rattle.token_defs.specs.Acceptor.{User}

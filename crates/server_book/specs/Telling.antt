@@ -3,9 +3,9 @@ use Rattle.std.specs.Prelude.{◌≡◌, ℕ, Option, Some, None, Result, Ok, Er
 use Rattle.book_replies.specs.Told.{IsTold}
 use Rattle.book_replies.specs.declared.progress.Logon.{Logon}
 use Rattle.command_values.specs.declared.command.Command.{Command}
-use Rattle.conn_served.specs.declared.error.ServeError.{ServeError}
-use Rattle.conn_served.specs.declared.error.ServeError.TheVariants.{Memory, Stopped, Unanswered}
-use Rattle.conn_served.specs.declared.serve.Reply.{Reply}
+use Rattle.book_replies.specs.ConnServed.declared.error.ServeError.{ServeError}
+use Rattle.book_replies.specs.ConnServed.declared.error.ServeError.TheVariants.{Memory, Stopped, Unanswered}
+use Rattle.book_replies.specs.ConnServed.declared.serve.Reply.{Reply}
 use Rattle.server_effects.specs.declared.answering.Answer.{Answer}
 
 -- the reply, or whether the event acted, whose reply is lost

@@ -4,9 +4,8 @@ ghost use Rattle.server_book.specs.Telling.{TellsAnswer, refusal};
 ghost use Rattle.server_core.specs.Shown.{stopped_of};
 
 use crate::asked::{logon_in, shape_in};
-use book_replies::{Logon, reply_from};
+use book_replies::{Logon, Reply, Serve, ServeError, reply_from};
 use command_values::Command;
-use conn_served::{Reply, Serve, ServeError};
 use reply_shapes::room_for;
 use server_asked::ServerEvent;
 use server_core::Server;
@@ -53,8 +52,8 @@ fn refused_by<D: Disk>(server: &Server<D>) -> ServeError
 
 impl<D: Disk> Book<D> {
     ghost use Rattle.std.specs.Prelude.{◌≡◌, ℕ, Err, IfOk, List, None, Some};
-    ghost use Rattle.conn_served.specs.Serving.{Halts, IsServed, IsShort, Serves};
-    ghost use Rattle.conn_served.specs.declared.error.ServeError.TheVariants as errors;
+    ghost use Rattle.book_replies.specs.ConnServed.Serving.{Halts, IsServed, IsShort, Serves};
+    ghost use Rattle.book_replies.specs.ConnServed.declared.error.ServeError.TheVariants as errors;
     ghost use Rattle.exchange_defs.specs.State as model;
     ghost use Rattle.server_book.specs.Asked.{HasShape, LogonIs};
     ghost use Rattle.server_book.specs.Shown.{ShowsBook};

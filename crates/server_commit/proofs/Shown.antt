@@ -3,10 +3,10 @@ use Rattle.std.proofs.Common.{◌≡◌, ℕ, ◌∙◌}
 use Rattle.exchange_defs.specs.State.{Accept, End, Heard, Server, ServerEvent, Stop}
 use Rattle.server_checks.specs.Shown.{TablesShown}
 use Rattle.server_checks.specs.declared.tables.Tables.{Tables}
-use Rattle.server_holds.specs.Counted.{counting}
-use Rattle.server_prepared.specs.Prepared.{IsPrepared}
-use Rattle.server_prepared.specs.declared.prepared.Prepared.{Prepared}
-use Rattle.server_prepared.specs.declared.prepared.Prepared.TheVariants as prepared
+use Rattle.server_dating.specs.ServerHolds.Counted.{counting}
+use Rattle.server_dating.specs.ServerPrepared.Prepared.{IsPrepared}
+use Rattle.server_dating.specs.ServerPrepared.declared.prepared.Prepared.{Prepared}
+use Rattle.server_dating.specs.ServerPrepared.declared.prepared.Prepared.TheVariants as prepared
 
 pub counted_shown : (t : Tables) (s : Server) (n used : ℕ) → TablesShown t s → n ≡ used
     → TablesShown (record t { journal = used }) (counting s n)

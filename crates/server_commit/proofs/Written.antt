@@ -5,7 +5,7 @@ use Rattle.server_checks.specs.declared.tables.Tables.{Tables}
 use Rattle.server_effects.specs.declared.answering.Answer.{Answer}
 use Rattle.server_events.specs.declared.error.EventError.{EventError}
 use Rattle.server_events.specs.declared.error.EventError.TheVariants.{DiskFault, Memory, Stopped}
-use Rattle.server_holds.specs.declared.state.ServerState.{ServerState}
+use Rattle.server_dating.specs.ServerHolds.declared.state.ServerState.{ServerState}
 use Rattle.server_recording.specs.Writes.{WritesBut}
 
 pub failed : {D : Type 0} (faults : D → ℕ) (old new : ServerState D) (t : Tables) (body : List ℕ) (x : EventError)

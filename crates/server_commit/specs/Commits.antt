@@ -7,9 +7,9 @@ use Rattle.server_body.specs.Body.{added_by}
 use Rattle.server_checks.specs.Shown.{TablesShown}
 use Rattle.server_effects.specs.declared.answering.Answer.{Answer}
 use Rattle.server_events.specs.declared.error.EventError.{EventError}
-use Rattle.server_holds.specs.Counted.{counting}
-use Rattle.server_holds.specs.Beside.{BesideCarried, logons_behind}
-use Rattle.server_holds.specs.declared.state.ServerState.{ServerState}
+use Rattle.server_dating.specs.ServerHolds.Counted.{counting}
+use Rattle.server_dating.specs.ServerHolds.Beside.{BesideCarried, logons_behind}
+use Rattle.server_dating.specs.ServerHolds.declared.state.ServerState.{ServerState}
 use Rattle.session_bind.specs.Logons.{LogonsShown}
 use Rattle.token_defs.specs.Acceptor.{User}
 use Rattle.world_defs.specs.Ends.{Logons}

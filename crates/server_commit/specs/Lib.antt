@@ -1,2 +1,4 @@
 pub mod Commits
-pub use Rattle.server_steps.specs as ServerSteps
+pub use Rattle.server_dating.specs.ServerSteps
+pub use Rattle.server_dating.specs.DatedEffects
+pub use Rattle.server_dating.specs.ServerReadied

@@ -4,3 +4,4 @@
 mod committing;
 
 pub use committing::commit;
+pub use server_dating::dated_effects_law;

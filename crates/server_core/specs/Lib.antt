@@ -1,1 +1,2 @@
 pub mod Shown
+pub use Rattle.server_event.specs.ServerHolds

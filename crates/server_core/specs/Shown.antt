@@ -4,8 +4,8 @@ use Rattle.exchange_defs.specs.State as model
 use Rattle.persist_journal.specs.Journal.{JournalState}
 use Rattle.server_checks.specs.declared.tables.Config.{Config}
 use Rattle.server_core.specs.declared.server.Server.{Server}
-use Rattle.server_holds.specs.Holds.{Holds}
-use Rattle.server_holds.specs.declared.state.ServerState.{ServerState}
+use Rattle.server_event.specs.ServerHolds.Holds.{Holds}
+use Rattle.server_event.specs.ServerHolds.declared.state.ServerState.{ServerState}
 use Rattle.world_defs.specs.Ends.{Logons}
 
 abbrev pub state_of : {D : Type 0} → Server D → ServerState D

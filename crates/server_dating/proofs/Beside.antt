@@ -25,7 +25,7 @@ use Rattle.server_asked.specs.declared.asked.Asked.TheVariants as askings
 use Rattle.server_asked.specs.declared.asked.LogonPart.{LogonPart}
 use Rattle.server_asked.specs.declared.event.ServerEvent.{ServerEvent}
 use Rattle.server_asked.specs.declared.event.ServerEvent.TheVariants as events
-use Rattle.server_carrying.specs.Beside.{Beside}
+use Rattle.server_acts.specs.ServerCarrying.Beside.{Beside}
 use Rattle.server_checks.specs.Shown.{TablesShown}
 use Rattle.server_checks.specs.declared.tables.Tables.{Tables}
 use Rattle.server_effects.specs.Able.{Able}
@@ -35,17 +35,17 @@ use Rattle.server_events.specs.Setups.{in_the_making, keys_behind, setup_message
 use Rattle.server_events.specs.declared.setup.SetupHeard.{SetupHeard}
 use Rattle.server_holds.specs.Beside.{BesideCarried}
 use Rattle.server_holds.specs.Heard.{IsHeard}
-use Rattle.server_prepared.specs.Prepared.{IsPrepared, prepared_ruling}
-use Rattle.server_prepared.specs.declared.prepared.Prepared.{Prepared}
-use Rattle.server_prepared.specs.declared.prepared.Prepared.TheVariants as prepared
-use Rattle.server_readied.specs.Readied.{readied}
-use Rattle.server_readied.specs.declared.ready.Ready.{Ready}
-use Rattle.server_readied.specs.declared.ready.Ready.TheVariants as readies
-use Rattle.server_readied.specs.declared.ready.SetupReady.{SetupReady}
-use Rattle.server_readied.specs.declared.ready.SetupReady.TheVariants as steps
-use Rattle.server_readied.specs.Room.{IsReadied}
+use Rattle.dated_effects.specs.ServerPrepared.Prepared.{IsPrepared, prepared_ruling}
+use Rattle.dated_effects.specs.ServerPrepared.declared.prepared.Prepared.{Prepared}
+use Rattle.dated_effects.specs.ServerPrepared.declared.prepared.Prepared.TheVariants as prepared
+use Rattle.dated_effects.specs.ServerReadied.Readied.{readied}
+use Rattle.dated_effects.specs.ServerReadied.declared.ready.Ready.{Ready}
+use Rattle.dated_effects.specs.ServerReadied.declared.ready.Ready.TheVariants as readies
+use Rattle.dated_effects.specs.ServerReadied.declared.ready.SetupReady.{SetupReady}
+use Rattle.dated_effects.specs.ServerReadied.declared.ready.SetupReady.TheVariants as steps
+use Rattle.dated_effects.specs.ServerReadied.Room.{IsReadied}
 use Rattle.server_rulings.specs.Rulings.{AbleToRule}
-use Rattle.server_ready.specs.Logons.{ChallengeOf, EndOf, ReadyStep, StepBy, StepFor}
+use Rattle.server_steps.specs.ServerReady.Logons.{ChallengeOf, EndOf, ReadyStep, StepBy, StepFor}
 use Rattle.server_steps.specs.Steps.{PreparedStep}
 use Rattle.carried_law.specs.Making.{EndsMaking}
 use Rattle.progress_law.specs.Progress.{ruled_progress}

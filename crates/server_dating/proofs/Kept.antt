@@ -7,12 +7,12 @@ use Rattle.open_table.specs.Shown.{ShowsOpens}
 use Rattle.server_checks.specs.Shown.{TablesShown}
 use Rattle.server_checks.specs.declared.tables.Tables.{Tables}
 use Rattle.server_effects.specs.Able.{Able}
-use Rattle.server_prepared.specs.Prepared.{AbleToCarry, IsPrepared, prepared_ruling}
-use Rattle.server_prepared.specs.declared.prepared.Prepared.{Prepared}
-use Rattle.server_prepared.specs.declared.prepared.Prepared.TheVariants as prepared
-use Rattle.server_readied.specs.Room.{IsReadied}
-use Rattle.server_readied.specs.declared.ready.Ready.TheVariants as readies
-use Rattle.server_readied.specs.declared.ready.SetupReady.{SetupReady}
+use Rattle.dated_effects.specs.ServerPrepared.Prepared.{AbleToCarry, IsPrepared, prepared_ruling}
+use Rattle.dated_effects.specs.ServerPrepared.declared.prepared.Prepared.{Prepared}
+use Rattle.dated_effects.specs.ServerPrepared.declared.prepared.Prepared.TheVariants as prepared
+use Rattle.dated_effects.specs.ServerReadied.Room.{IsReadied}
+use Rattle.dated_effects.specs.ServerReadied.declared.ready.Ready.TheVariants as readies
+use Rattle.dated_effects.specs.ServerReadied.declared.ready.SetupReady.{SetupReady}
 use Rattle.server_rulings.specs.Rulings.{AbleToRule}
 
 pub prepared_opens : (t : Tables) (s : Server) (now : ℕ) (e : ServerEvent) (p : Prepared) → IsPrepared t s now e p → ShowsOpens t.opens s

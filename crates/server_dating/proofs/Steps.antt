@@ -4,7 +4,7 @@ use Rattle.std.proofs.lemmas.List.{take_all}
 use Rattle.exchange_defs.specs.State as model
 use Rattle.ntlmv2.specs.Judging.{AcceptorState}
 use Rattle.server_events.specs.Setups.{in_the_making}
-use Rattle.server_ready.specs.Logons.{ChallengeOf, EndOf}
+use Rattle.server_steps.specs.ServerReady.Logons.{ChallengeOf, EndOf}
 use Rattle.session_bind.specs.Logons.{pending_made}
 use Rattle.token_defs.specs.Acceptor.{User}
 use Rattle.token_defs.specs.Tokens as tokens

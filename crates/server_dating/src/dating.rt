@@ -11,7 +11,7 @@ ghost use Rattle.server_holds.specs.Beside.{BesideCarried};
 ghost use Rattle.server_holds.specs.Heard.{IsHeard};
 ghost use Rattle.server_holds.specs.Rulings.{MayRule};
 ghost use Rattle.server_law.specs.Fits.{Fits};
-ghost use Rattle.server_prepared.specs.Prepared.{IsPrepared, RoomToCarry, prepared_ruling};
+ghost use Rattle.dated_effects.specs.ServerPrepared.Prepared.{IsPrepared, RoomToCarry, prepared_ruling};
 ghost use Rattle.server_rulings.specs.Rulings.{AbleToRule};
 ghost use Rattle.server_steps.specs.Steps.{PreparedStep};
 ghost use Rattle.session_bind.specs.Logons.{LogonsShown};
@@ -19,14 +19,13 @@ ghost use Rattle.token_defs.specs.Acceptor.{User};
 ghost use Rattle.world_defs.specs.Ends.{Logons};
 
 use carried_law::making_law;
-use dated_effects::dated_effects_law;
+use dated_effects::{Prepared, dated_effects_law};
 use dated_law::dated_law;
 use progress_law::progress_law;
 use server_acts::carry_event;
 use server_asked::Asked;
 use server_checks::Tables;
 use server_effects::Answer;
-use server_prepared::Prepared;
 
 /// Gives each open that a recovery found its first deadline, and carries out what was prepared of the event, at `now` (100 ns since
 /// 1601). None of it takes memory, and none of it can fail.

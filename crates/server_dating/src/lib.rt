@@ -3,4 +3,6 @@
 
 mod dating;
 
+pub use dated_effects::{Prepared, dated_effects_law};
 pub use dating::carry_dated;
+pub use server_holds::ServerState;

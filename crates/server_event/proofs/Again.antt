@@ -13,13 +13,13 @@ use Rattle.server_effects.specs.declared.changing.ChangeReady.{ChangeReady}
 use Rattle.server_effects.specs.declared.changing.ChangeReady.TheVariants as changes
 use Rattle.server_effects.specs.declared.making.FileReady.{FileReady}
 use Rattle.server_effects.specs.declared.making.FileReady.TheVariants as files
-use Rattle.server_prepared.specs.Prepared.{IsPrepared}
-use Rattle.server_prepared.specs.declared.prepared.Prepared.{Prepared}
-use Rattle.server_prepared.specs.declared.prepared.Prepared.TheVariants as prepared
-use Rattle.server_readied.specs.Readied.{changed, found_of}
-use Rattle.server_readied.specs.Room.{FilesReady, Stands}
-use Rattle.server_readied.specs.declared.ready.Ready.{Ready}
-use Rattle.server_readied.specs.declared.ready.Ready.TheVariants as readies
+use Rattle.server_behind.specs.ServerPrepared.Prepared.{IsPrepared}
+use Rattle.server_behind.specs.ServerPrepared.declared.prepared.Prepared.{Prepared}
+use Rattle.server_behind.specs.ServerPrepared.declared.prepared.Prepared.TheVariants as prepared
+use Rattle.server_commit.specs.ServerReadied.Readied.{changed, found_of}
+use Rattle.server_commit.specs.ServerReadied.Room.{FilesReady, Stands}
+use Rattle.server_commit.specs.ServerReadied.declared.ready.Ready.{Ready}
+use Rattle.server_commit.specs.ServerReadied.declared.ready.Ready.TheVariants as readies
 use Rattle.server_verdicts.specs.Views.{create_in}
 
 abbrev pub opened : Tables → Opens → Tables

@@ -21,13 +21,13 @@ use Rattle.server_event.specs.Apart.{Apart}
 use Rattle.server_event.specs.Behind.{MayExpire}
 use Rattle.server_events.specs.declared.error.EventError.{EventError}
 use Rattle.server_expiry.specs.declared.expiry.Expired.{Expired}
-use Rattle.server_holds.specs.Counted.{front_of}
-use Rattle.server_holds.specs.Heard.{IsHeard}
-use Rattle.server_holds.specs.Holds.{EventAnswers}
-use Rattle.server_holds.specs.declared.state.ServerState.{ServerState}
+use Rattle.server_behind.specs.ServerHolds.Counted.{front_of}
+use Rattle.server_behind.specs.ServerHolds.Heard.{IsHeard}
+use Rattle.server_behind.specs.ServerHolds.Holds.{EventAnswers}
+use Rattle.server_behind.specs.ServerHolds.declared.state.ServerState.{ServerState}
 use Rattle.server_lone.proofs.Shown.{no_deadline}
-use Rattle.server_prepared.specs.Prepared.{IsPrepared, prepared_ruling}
-use Rattle.server_rulings.specs.Rulings.{AbleToRule}
+use Rattle.server_behind.specs.ServerPrepared.Prepared.{IsPrepared, prepared_ruling}
+use Rattle.server_behind.specs.ServerRulings.Rulings.{AbleToRule}
 use Rattle.session_bind.specs.Logons.{LogonsShown}
 use Rattle.session_bind.specs.declared.table.Sessions.{Sessions}
 use Rattle.token_defs.specs.Acceptor.{User}

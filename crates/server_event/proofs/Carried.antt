@@ -4,8 +4,8 @@ use Rattle.exchange_defs.specs.State as model
 use Rattle.holds_law.proofs.Behind.{held_still, holds_shown}
 use Rattle.persist_journal.specs.Journal.{JournalState, OnlyRoom}
 use Rattle.server_checks.specs.Shown.{TablesShown}
-use Rattle.server_holds.specs.Holds.{Held, Holds}
-use Rattle.server_holds.specs.declared.state.ServerState.{ServerState}
+use Rattle.server_behind.specs.ServerHolds.Holds.{Held, Holds}
+use Rattle.server_behind.specs.ServerHolds.declared.state.ServerState.{ServerState}
 use Rattle.session_bind.specs.Logons.{LogonsShown}
 use Rattle.session_bind.specs.declared.table.Sessions.{Sessions}
 use Rattle.world_defs.specs.Ends.{Logons}

@@ -16,17 +16,17 @@ use Rattle.server_commit.specs.Commits.{BesideCommitted, Commits}
 use Rattle.server_effects.specs.declared.answering.Answer.{Answer}
 use Rattle.server_events.specs.Setups.{progress_of}
 use Rattle.server_events.specs.declared.error.EventError.{EventError}
-use Rattle.server_holds.specs.Beside.{logons_behind}
-use Rattle.server_holds.specs.Counted.{counting}
-use Rattle.server_holds.specs.Heard.{IsHeard}
-use Rattle.server_holds.specs.Holds.{EventAnswers, Held}
-use Rattle.server_holds.specs.Rulings.{MayRule}
-use Rattle.server_holds.specs.declared.state.ServerState.{ServerState}
+use Rattle.server_behind.specs.ServerHolds.Beside.{logons_behind}
+use Rattle.server_behind.specs.ServerHolds.Counted.{counting}
+use Rattle.server_behind.specs.ServerHolds.Heard.{IsHeard}
+use Rattle.server_behind.specs.ServerHolds.Holds.{EventAnswers, Held}
+use Rattle.server_behind.specs.ServerHolds.Rulings.{MayRule}
+use Rattle.server_behind.specs.ServerHolds.declared.state.ServerState.{ServerState}
 use Rattle.server_law.specs.Fits.{Fits}
-use Rattle.server_prepared.specs.Prepared.{IsPrepared, prepared_ruling}
-use Rattle.server_prepared.specs.declared.prepared.Prepared.{Prepared}
-use Rattle.server_recording.specs.Writes.{WritesBut}
-use Rattle.server_rulings.specs.Rulings.{AbleToRule}
+use Rattle.server_behind.specs.ServerPrepared.Prepared.{IsPrepared, prepared_ruling}
+use Rattle.server_behind.specs.ServerPrepared.declared.prepared.Prepared.{Prepared}
+use Rattle.server_lone.specs.ServerRecording.Writes.{WritesBut}
+use Rattle.server_behind.specs.ServerRulings.Rulings.{AbleToRule}
 use Rattle.server_commit.specs.ServerSteps.Steps.{PreparedStep}
 use Rattle.session_bind.specs.Logons.{LogonsShown}
 use Rattle.token_defs.specs.Acceptor.{User}

@@ -12,11 +12,11 @@ use Rattle.server_asked.specs.declared.event.ServerEvent.TheVariants as events
 use Rattle.server_event.specs.Early.{HasMemory, is_refused_early}
 use Rattle.server_events.specs.declared.error.EventError.{EventError}
 use Rattle.server_events.specs.declared.error.EventError.TheVariants.{Memory, DiskFault, Stopped}
-use Rattle.server_holds.specs.declared.state.ServerState.{ServerState}
-use Rattle.server_plan.specs.Plans.{is_early}
+use Rattle.server_behind.specs.ServerHolds.declared.state.ServerState.{ServerState}
+use Rattle.server_behind.specs.ServerPlan.Plans.{is_early}
 use Rattle.server_behind.specs.ServerPreparing.Preparing.{wants_memory_by}
-use Rattle.server_ready.specs.Readies.{wants_memory}
-use Rattle.server_recording.specs.Writes.{WritesBut}
+use Rattle.server_behind.specs.ServerReady.Readies.{wants_memory}
+use Rattle.server_lone.specs.ServerRecording.Writes.{WritesBut}
 use Rattle.token_defs.specs.Acceptor.{User}
 use Rattle.world_defs.specs.Ends.{Logons}
 

@@ -5,9 +5,9 @@ use Rattle.holds_law.proofs.Behind.{held_still, holds_shown}
 use Rattle.persist_journal.specs.Journal.{OnlyRoom}
 use Rattle.server_events.specs.declared.error.EventError.{EventError}
 use Rattle.server_events.specs.declared.error.EventError.TheVariants.{Memory, DiskFault, Stopped}
-use Rattle.server_holds.specs.Holds.{EventRefused, Held}
-use Rattle.server_holds.specs.Shown.{ServerShown}
-use Rattle.server_holds.specs.declared.state.ServerState.{ServerState}
+use Rattle.server_behind.specs.ServerHolds.Holds.{EventRefused, Held}
+use Rattle.server_behind.specs.ServerHolds.Shown.{ServerShown}
+use Rattle.server_behind.specs.ServerHolds.declared.state.ServerState.{ServerState}
 use Rattle.server_writing.specs.Bodies.{IsLack}
 use Rattle.world_defs.specs.Ends.{Logons}
 

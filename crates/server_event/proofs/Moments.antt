@@ -6,7 +6,7 @@ use Rattle.journal_defs.specs.Grammar.{StandsFor}
 use Rattle.journal_defs.specs.Moments.{LeavesOnly}
 use Rattle.persist_journal.specs.Journal.{JournalState, OnlyRoom, Settled}
 use Rattle.server_body.specs.Body.{IsBodyOf, bodies_of}
-use Rattle.server_holds.specs.Holds.{EventLeaves}
+use Rattle.server_behind.specs.ServerHolds.Holds.{EventLeaves}
 use Rattle.server_writing.specs.Bodies.{LeavesOf}
 use Rattle.world_defs.specs.Lacking.{Expires, alone_records}
 

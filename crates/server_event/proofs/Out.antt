@@ -1,6 +1,6 @@
 -- An event behind an open that was taken out in front of it.
 use Rattle.std.proofs.Common.{◌≡◌, ℕ, true, false, List, ◌++◌, Some, refl, sym, ap, subst, ◌∙◌}
-use Rattle.dated_effects.specs.Dated.{HasRoomYet}
+use Rattle.server_commit.specs.DatedEffects.Dated.{HasRoomYet}
 use Rattle.exchange_defs.specs.Records.{fits, origin_at}
 use Rattle.exchange_defs.specs.State as model
 use Rattle.exchange_defs.specs.Step.{Ruling, carried_out, connection_of, due, expire, expire_records, max_expired_guids, ruling}
@@ -18,7 +18,7 @@ use Rattle.server_event.specs.Behind.{HasFront, MayExpire, both_from}
 use Rattle.server_events.specs.Setups.{in_the_making}
 use Rattle.server_expiry.specs.Expired.{IsExpired}
 use Rattle.server_expiry.specs.declared.expiry.Expired.{Expired}
-use Rattle.server_holds.specs.Counted.{front_of}
+use Rattle.server_behind.specs.ServerHolds.Counted.{front_of}
 use Rattle.std.specs.Prelude.{nat_le}
 use Rattle.token_defs.specs.Acceptor.{User}
 use Rattle.world_defs.specs.Ends.{Logons}

@@ -26,9 +26,9 @@ use Rattle.server_event.specs.declared.expiring.Behind.TheVariants.{Answered, No
 use Rattle.server_events.specs.Setups.{progress_of}
 use Rattle.server_events.specs.declared.error.EventError.{EventError}
 use Rattle.server_events.specs.declared.error.EventError.TheVariants.{Memory, DiskFault, Stopped}
-use Rattle.server_holds.specs.Beside.{logons_behind}
-use Rattle.server_holds.specs.Holds.{EventAnswers, EventLeaves, EventRefused, Held, Holds, Stands}
-use Rattle.server_holds.specs.declared.state.ServerState.{ServerState}
+use Rattle.server_behind.specs.ServerHolds.Beside.{logons_behind}
+use Rattle.server_behind.specs.ServerHolds.Holds.{EventAnswers, EventLeaves, EventRefused, Held, Holds, Stands}
+use Rattle.server_behind.specs.ServerHolds.declared.state.ServerState.{ServerState}
 use Rattle.server_writing.specs.Bodies.{IsLack}
 use Rattle.smb_io.specs.Faults.{Rose}
 use Rattle.token_defs.specs.Acceptor.{User}

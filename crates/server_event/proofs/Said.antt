@@ -12,9 +12,9 @@ use Rattle.server_asked.specs.declared.event.ServerEvent.{ServerEvent}
 use Rattle.server_asked.specs.declared.event.ServerEvent.TheVariants.{Accept, End, Message, Setup, Stop}
 use Rattle.server_event.specs.Behind.{Asks}
 use Rattle.server_events.specs.Setups.{in_the_making, setup_message}
-use Rattle.server_holds.specs.Heard.{IsHeard}
-use Rattle.server_holds.specs.Holds.{Holds}
-use Rattle.server_holds.specs.declared.state.ServerState.{ServerState}
+use Rattle.server_behind.specs.ServerHolds.Heard.{IsHeard}
+use Rattle.server_behind.specs.ServerHolds.Holds.{Holds}
+use Rattle.server_behind.specs.ServerHolds.declared.state.ServerState.{ServerState}
 use Rattle.server_events.specs.declared.setup.SetupHeard.{SetupHeard}
 use Rattle.token_defs.specs.Acceptor.{User}
 use Rattle.world_defs.specs.Ends.{Logons}

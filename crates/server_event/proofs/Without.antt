@@ -22,13 +22,13 @@ use Rattle.server_checks.specs.declared.tables.Tables.{Tables}
 use Rattle.persist_journal.specs.Journal.{OnlyRoom}
 use Rattle.server_event.proofs.Out.{expired_still}
 use Rattle.server_event.proofs.Refused.{held_tables}
-use Rattle.server_ready.specs.Readies.{TablesKeep}
+use Rattle.server_behind.specs.ServerReady.Readies.{TablesKeep}
 use Rattle.server_event.specs.Apart.{Apart}
 use Rattle.server_event.specs.Behind.{Asks, TakenOut, Without}
 use Rattle.server_expiry.specs.Expired.{IsExpired}
 use Rattle.server_expiry.specs.declared.expiry.Expired.{Expired}
-use Rattle.server_holds.specs.Counted.{front_of}
-use Rattle.server_holds.specs.declared.state.ServerState.{ServerState}
+use Rattle.server_behind.specs.ServerHolds.Counted.{front_of}
+use Rattle.server_behind.specs.ServerHolds.declared.state.ServerState.{ServerState}
 use Rattle.server_law.specs.Fits.{Fits}
 use Rattle.server_commit.specs.ServerSteps.Steps.{PreparedStep}
 use Rattle.holds_law.proofs.Behind.{held, held_still}

@@ -8,10 +8,10 @@ use Rattle.server_asked.specs.declared.event.ServerEvent.{ServerEvent}
 use Rattle.server_behind.specs.Behind.{BothReady}
 use Rattle.server_behind.specs.declared.behind.Both.{Both}
 use Rattle.server_expiry.specs.declared.expiry.Expired.{Expired}
-use Rattle.server_holds.specs.Counted.{front_of}
-use Rattle.server_holds.specs.Heard.{IsHeard}
-use Rattle.server_holds.specs.Holds.{Held}
-use Rattle.server_holds.specs.declared.state.ServerState.{ServerState}
+use Rattle.server_behind.specs.ServerHolds.Counted.{front_of}
+use Rattle.server_behind.specs.ServerHolds.Heard.{IsHeard}
+use Rattle.server_behind.specs.ServerHolds.Holds.{Held}
+use Rattle.server_behind.specs.ServerHolds.declared.state.ServerState.{ServerState}
 use Rattle.server_law.specs.Fits.{Fits}
 use Rattle.server_commit.specs.ServerSteps.Steps.{PreparedStep}
 use Rattle.session_bind.specs.Logons.{LogonsShown}

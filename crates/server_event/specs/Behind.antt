@@ -15,11 +15,11 @@ use Rattle.server_events.specs.Setups.{progress_of}
 use Rattle.server_events.specs.declared.error.EventError.{EventError}
 use Rattle.server_expiry.specs.Expired.{IsExpired}
 use Rattle.server_expiry.specs.declared.expiry.Expired.{Expired}
-use Rattle.server_holds.specs.Beside.{logons_behind}
-use Rattle.server_holds.specs.Counted.{front_of}
-use Rattle.server_holds.specs.Heard.{IsHeard}
-use Rattle.server_holds.specs.Holds.{EventRefused, Held, Holds, StepAnswers}
-use Rattle.server_holds.specs.declared.state.ServerState.{ServerState}
+use Rattle.server_behind.specs.ServerHolds.Beside.{logons_behind}
+use Rattle.server_behind.specs.ServerHolds.Counted.{front_of}
+use Rattle.server_behind.specs.ServerHolds.Heard.{IsHeard}
+use Rattle.server_behind.specs.ServerHolds.Holds.{EventRefused, Held, Holds, StepAnswers}
+use Rattle.server_behind.specs.ServerHolds.declared.state.ServerState.{ServerState}
 use Rattle.session_bind.specs.Logons.{LogonsShown}
 use Rattle.token_defs.specs.Acceptor.{User}
 use Rattle.world_defs.specs.Ends.{Logons}

@@ -3,7 +3,7 @@ use Rattle.std.specs.Prelude.{Bool, false, Result, Ok, Err, ⊤}
 use Rattle.exchange_defs.specs.State as model
 use Rattle.server_events.specs.declared.error.EventError.{EventError}
 use Rattle.server_events.specs.declared.error.EventError.TheVariants.{Memory, DiskFault, Stopped}
-use Rattle.server_plan.specs.Plans.{is_early}
+use Rattle.server_behind.specs.ServerPlan.Plans.{is_early}
 
 -- memory didn't run out
 abbrev pub HasMemory : {A : Type 0} → Result A EventError → Type 0

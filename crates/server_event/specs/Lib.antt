@@ -1,3 +1,4 @@
 pub mod Behind
 pub mod Apart
 pub mod Early
+pub use Rattle.server_behind.specs.ServerHolds

@@ -9,7 +9,7 @@ ghost use Rattle.server_asked.specs.declared.event.ServerEvent.{ServerEvent};
 ghost use Rattle.server_checks.specs.Shown.{TablesShown};
 ghost use Rattle.server_event.specs.Behind.{Asks, MayExpire};
 ghost use Rattle.server_event.specs.Early.{HasMemory, is_refused_early};
-ghost use Rattle.server_holds.specs.Holds.{EventAnswers, EventLeaves, GoesOn, Holds};
+ghost use Rattle.server_behind.specs.ServerHolds.Holds.{EventAnswers, EventLeaves, GoesOn, Holds};
 ghost use Rattle.server_law.specs.Fits.{Fits};
 ghost use Rattle.token_defs.specs.Acceptor.{User};
 ghost use Rattle.world_defs.specs.Ends.{Logons};
@@ -18,10 +18,10 @@ use crate::alone::event_alone;
 use crate::expiring::{Behind, event_behind_expiry};
 use expiring_law::expiring_law;
 use server_asked::{Asked, ServerEvent, hear};
+use server_behind::ServerState;
 use server_effects::Answer;
 use server_events::{EventError, unmade_law};
 use server_expiry::due;
-use server_holds::ServerState;
 use smb_io::Disk;
 
 /// One event: in front of it an open that expires, behind it what the journal holds. All memory is taken first, then the

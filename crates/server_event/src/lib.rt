@@ -8,3 +8,4 @@ mod event;
 mod expiring;
 
 pub use event::answer_event;
+pub use server_behind::ServerState;

@@ -4,3 +4,6 @@
 mod memory;
 
 pub use memory::prepare;
+pub use server_plan::{Plan, body_of, fits, plan_event, plan_law};
+pub use server_prepared::Prepared;
+pub use server_rulings::{Ruling, at_connection, rule, ruling_law};

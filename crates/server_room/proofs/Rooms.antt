@@ -6,7 +6,7 @@ use Rattle.server_body.specs.Body.{fits_by}
 use Rattle.server_checks.specs.declared.tables.Tables.{Tables}
 use Rattle.server_holds.specs.Rooms.{HasRoomToWrite}
 use Rattle.server_holds.specs.declared.state.ServerState.{ServerState}
-use Rattle.server_ready.specs.Readies.{TablesKeep}
+use Rattle.server_preparing.specs.ServerReady.Readies.{TablesKeep}
 use Rattle.server_writing.specs.Bodies.{HasBodyRoom}
 
 -- ---- a body that fits is small

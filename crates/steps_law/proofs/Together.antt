@@ -1,8 +1,8 @@
 -- The parts together.
 use Rattle.wire_facts.specs.Steps.{StepLaw}
-use Rattle.plain_law.specs.Plain.{PlainRunsGoInStep}
-use Rattle.made_law.specs.Made.{PlainRunsAreMade}
-use Rattle.seals_law.specs.Kept.{PlainSealsAreKept}
+use Rattle.room_law.specs.PlainLaw.Plain.{PlainRunsGoInStep}
+use Rattle.room_law.specs.MadeLaw.Made.{PlainRunsAreMade}
+use Rattle.room_law.specs.SealsLaw.Kept.{PlainSealsAreKept}
 use Rattle.room_law.specs.Room.{PlainRunsHaveRoom}
 
 pub together : PlainRunsGoInStep → PlainRunsAreMade → PlainSealsAreKept → PlainRunsHaveRoom → StepLaw

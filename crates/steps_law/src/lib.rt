@@ -5,10 +5,7 @@
 
 ghost use Rattle.wire_facts.specs.Steps.{StepLaw};
 
-use made_law::accepted_is_made_law;
-use plain_law::plain_runs_law;
-use room_law::room_law;
-use seals_law::seals_are_kept_law;
+use room_law::{accepted_is_made_law, plain_runs_law, room_law, seals_are_kept_law};
 
 /// Over such a run the values are those of a run of the model, each end hears what the other sent, no nonce comes twice in a session and a
 /// direction, what a client accepted a server made, and what is sealed on its way is noted.

@@ -1,1 +1,2 @@
 pub mod Starting
+pub use Rattle.world_ends.specs as WorldEnds

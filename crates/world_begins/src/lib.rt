@@ -4,3 +4,7 @@
 mod beginning;
 
 pub use beginning::begin;
+pub use world_ends::{
+    Channel, ClientSide, Down, Happened, Note, Notes, Places, Step, Up, World, WorldError,
+    WorldEvent,
+};

@@ -2,13 +2,13 @@
 use Rattle.std.proofs.Common.{◌≡◌, ℕ, ◌≤◌, ◌++◌, [], length, arith, sym, ap, subst, ◌∙◌, List, None, Result, Ok, Err, IfOk}
 use Rattle.exchange_defs.specs.Fold.{recovered_from, recovery_records}
 use Rattle.exchange_defs.specs.State as model
-use Rattle.server_begun.specs.Begun.{Begins}
+use Rattle.begun_law.specs.ServerBegun.Begun.{Begins}
 use Rattle.server_book.specs.declared.book.Book.{Book}
 use Rattle.server_checks.specs.declared.tables.Config.{Config}
 use Rattle.server_book.specs.ServerCore.Shown.{config_of, disk_of, state_of, stopped_of}
 use Rattle.server_book.specs.ServerCore.declared.server.Server.{Server}
-use Rattle.server_holds.specs.Holds.{Holds as HoldsState}
-use Rattle.server_holds.specs.declared.state.ServerState.{ServerState}
+use Rattle.begun_law.specs.ServerHolds.Holds.{Holds as HoldsState}
+use Rattle.begun_law.specs.ServerHolds.declared.state.ServerState.{ServerState}
 use Rattle.smb_io.specs.declared.mem_disk.MemDisk.{MemDisk}
 use Rattle.token_defs.specs.Acceptor.{User}
 use Rattle.world_book.specs.Held.{Holds, may_leave, seen, told}

@@ -2,9 +2,9 @@
 ghost use Rattle.std.specs.Prelude.{◌≡◌, ◌++◌, IfOk, List, []};
 ghost use Rattle.exchange_defs.specs.Fold.{recovered, recovered_from, recovery_records};
 ghost use Rattle.exchange_defs.specs.State as model;
-ghost use Rattle.server_begun.specs.Begun.{Begins};
+ghost use Rattle.begun_law.specs.ServerBegun.Begun.{Begins};
 ghost use Rattle.server_book.specs.ServerCore.Shown.{config_of, state_of};
-ghost use Rattle.server_restart.specs.Restart.{configuration_of};
+ghost use Rattle.begun_law.specs.ServerRestart.Restart.{configuration_of};
 ghost use Rattle.token_defs.specs.Acceptor.{User};
 ghost use Rattle.world_book.specs.Held.{Holds, may_leave, seen, told};
 ghost use Rattle.world_defs.specs.Ends.{Logons};

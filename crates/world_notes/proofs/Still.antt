@@ -2,8 +2,8 @@
 use Rattle.std.proofs.Common.{◌≡◌, sym, subst}
 use Rattle.world_defs.specs.Settings.{WorldSettings}
 use Rattle.world_defs.specs.World as bytes
-use Rattle.world_ends.specs.Shown.{ShowsWorld}
-use Rattle.world_ends.specs.declared.world.World.{World}
+use Rattle.world_begins.specs.WorldEnds.Shown.{ShowsWorld}
+use Rattle.world_begins.specs.WorldEnds.declared.world.World.{World}
 use Rattle.world_notes.specs.Noted.{Noted}
 
 pub still : (z : WorldSettings) (x y : World) (w : bytes.World) → Noted x y → ShowsWorld z x w → ShowsWorld z y w

@@ -1,6 +1,6 @@
 // Whose the messages are that are on their way.
 use std::collections::VecDeque;
-use world_ends::{Channel, Down, Places, Up, World};
+use world_begins::{Channel, Down, Places, Up, World};
 
 /// A message's operation, which is 0 of a dialog's, and its bytes.
 #[derive(Clone, Copy)]

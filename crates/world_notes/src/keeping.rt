@@ -4,7 +4,7 @@ ghost use Rattle.world_notes.specs.Noted.{Noted};
 
 use crate::fronts::{Message, first_down, first_up, last_up, nothing};
 use std::alloc::AllocError;
-use world_ends::{Channel, Happened, Note, Notes, Step, World, WorldEvent};
+use world_begins::{Channel, Happened, Note, Notes, Step, World, WorldEvent};
 
 fn step_of(happened: Happened, connection: u32, message: Message) -> Step {
     Step {

@@ -6,4 +6,6 @@ mod fronts;
 mod keeping;
 
 pub use keeping::{begin_step, finished, is_watched, keep_step, watch};
-pub use world_ends::{Channel, ClientSide, Happened, Notes, Step, World, WorldError, WorldEvent};
+pub use world_begins::{
+    Channel, ClientSide, Happened, Notes, Step, World, WorldError, WorldEvent, begin,
+};

@@ -11,7 +11,7 @@ use Rattle.exchange_defs.specs.State.{no_later}
 use Rattle.exchange_defs.specs.Status.{success}
 use Rattle.exchange_defs.specs.Step.{step}
 use Rattle.exchange_defs.specs.Table.{put}
-use Rattle.free_columns_law.proofs.Columns.{begun as shown_begun}
+use Rattle.world_steps.proofs.FreeColumnsLaw.Columns.{begun as shown_begun}
 use Rattle.world_defs.specs.Events.{Plain, bytes_happen, bytes_later}
 use Rattle.world_defs.specs.Notes.{step_error}
 use Rattle.world_defs.specs.Settings.{WorldSettings}

@@ -6,11 +6,10 @@ ghost use Rattle.world_serves.specs.WorldSteps.Parts.{IsMemory};
 ghost use Rattle.world_serves.specs.WorldSteps.Steps.{Steps};
 
 use world_notes::{Step, World, WorldError, WorldEvent, begin_step, is_watched, keep_step};
-use world_sends::push;
 use world_serves::{
     Change, crash, cut, drop_server, is_ready, restart, serve, submit, tamper, wait,
 };
-use world_takes::take_line;
+use world_takes::{push, take_line};
 use world_talks::{open, take_talk};
 
 /// The client takes the front of what comes down, on a line or in a dialog.

@@ -13,7 +13,7 @@ use Rattle.script_words.specs.declared.values.Signing.{Signing}
 use Rattle.script_words.specs.declared.values.Signing.TheVariants as signings
 use Rattle.script_words.specs.declared.values.User.{User}
 use Rattle.server_checks.specs.declared.tables.Config.{Config}
-use Rattle.world_begins.specs.Starting.{IsBegunBy}
+use Rattle.world_settles.specs.WorldBegins.Starting.{IsBegunBy}
 use Rattle.world_defs.specs.Settings.{ClientSettings}
 use Rattle.drill_setup.specs.Setup.{IsClientOf, IsServerOf}
 

@@ -9,8 +9,7 @@ use drill_setup::{client_config, server_config};
 use script_lines::Settings;
 use script_words::User;
 use std::alloc::{AllocError, Global};
-use world_begins::begin;
-use world_settles::World;
+use world_settles::{World, begin};
 
 /// The client logs on as this user.
 fn world_as(

@@ -2,3 +2,4 @@ mod Left
 mod Said
 mod Asked
 mod Pushed
+pub use Rattle.world_steps.proofs as WorldSteps

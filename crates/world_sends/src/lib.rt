@@ -7,3 +7,7 @@ mod pushing;
 mod saying;
 
 pub use pushing::push;
+pub use world_steps::{
+    Act, Channel, ClientSide, Down, Event, Marks, Places, Played, World, WorldError, close_clients,
+    closes_all, cut_end, happen, later,
+};

@@ -1,8 +1,8 @@
 -- What a frame comes to over a server of its own.
 use Rattle.std.proofs.Common.{◌≡◌, ℕ, true, refl, sym, ap, subst, ◌∙◌, List, Option, Some, None, is_some, Result, Ok, Err}
-use Rattle.conn_answers.specs.Replying.{EndsAs}
-use Rattle.conn_core.specs.declared.end.Ended.{Ended}
-use Rattle.conn_core.specs.declared.taking.Taken.{Taken}
+use Rattle.conn_own.specs.ConnAnswers.Replying.{EndsAs}
+use Rattle.conn_own.specs.ConnCore.declared.end.Ended.{Ended}
+use Rattle.conn_own.specs.ConnCore.declared.taking.Taken.{Taken}
 use Rattle.conn_ends.specs.declared.conn.Conn.{Conn}
 use Rattle.conn_ends.specs.declared.end.ConnEnd.{ConnEnd}
 use Rattle.conn_own.specs.Own.{IsOwnBy}

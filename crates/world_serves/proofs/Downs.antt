@@ -1,7 +1,7 @@
 -- The frames of an answer go down.
 use Rattle.std.proofs.Common.{◌≡◌, ℕ, suc, ◌+◌, ◌*◌, ◌/◌, ◌%◌, ◌≤◌, ◌<◌, ◌^◌, refl, sym, ap, subst, ◌∙◌, arith}
 use Rattle.std.proofs.Common.{List, [], ◌∷◌, ◌++◌, length, take, drop, length-append, Option, Some, None}
-use Rattle.conn_answers.specs.Joined.{AreAtMost}
+use Rattle.conn_own.specs.ConnAnswers.Joined.{AreAtMost}
 use Rattle.conn_sealing.specs.Saying.{all_framed, framed}
 use Rattle.exchange_defs.specs.Network.{Received}
 use Rattle.wire_defs.specs.Frames.{told_length}

@@ -1,7 +1,7 @@
 -- The server takes the front of what goes up.
 use Rattle.std.proofs.Common.{◌≡◌, ℕ, ◌+◌, ◌++◌, ◌≤◌, ◌&&◌, not, Bool, true, false, if◌then◌else◌, refl, sym, ap, subst, ◌∙◌, take}
 use Rattle.std.proofs.Common.{List, [], ◌∷◌, slice_get, Option, Some, None, is_some, Result, Ok, Err, MatchResult}
-use Rattle.conn_dealt.specs.Dealing.{taken_records}
+use Rattle.conn_own.specs.ConnDealt.Dealing.{taken_records}
 use Rattle.conn_ends.specs.Shown.{ShowsEnd}
 use Rattle.exchange_defs.specs.Network.{Conn as Link, Crash, Restart, Sent, Serve, Token, behind_front, op_of, server_off}
 use Rattle.exchange_defs.specs.State as model

@@ -1,10 +1,10 @@
 -- A world whose server took the front of what goes up.
 use Rattle.std.proofs.Common.{◌≡◌, ℕ, ◌+◌, ◌++◌, ◌≤◌, Bool, true, false, if◌then◌else◌, refl, sym, ap, subst, ◌∙◌, List}
 use Rattle.std.proofs.Common.{[], ◌∷◌, slice_get, Option, Some, None, is_some}
-use Rattle.conn_answers.specs.Joined.{AreAtMost}
-use Rattle.conn_answers.specs.Replying.{Goes}
+use Rattle.conn_own.specs.ConnAnswers.Joined.{AreAtMost}
+use Rattle.conn_own.specs.ConnAnswers.Replying.{Goes}
 use Rattle.conn_sealing.specs.Saying.{all_framed}
-use Rattle.conn_dealt.specs.Dealing.{taken_records}
+use Rattle.conn_own.specs.ConnDealt.Dealing.{taken_records}
 use Rattle.conn_ends.specs.declared.conn.Conn.{Conn}
 use Rattle.exchange_defs.specs.Client.{Client}
 use Rattle.exchange_defs.specs.Network.{Conn as Link, Received, Sent, Token, World as Values, behind_front, is_own, op_of, server_off}

@@ -1,10 +1,10 @@
 -- What the server makes of the front of what goes up.
 use Rattle.std.specs.Prelude.{◌≡◌, ℕ, ◌≤◌, true, List, ◌++◌, length, is_some, Option, Some, None, Result, Ok, Err}
 use Rattle.world_steps.specs.ClientCore.declared.client.Client.{Client as Core}
-use Rattle.conn_answers.specs.Replying.{Goes}
-use Rattle.conn_core.specs.declared.end.Ended.{Ended}
-use Rattle.conn_core.specs.declared.taking.Taken.{Taken}
-use Rattle.conn_dealt.specs.Dealing.{taken_records}
+use Rattle.conn_own.specs.ConnAnswers.Replying.{Goes}
+use Rattle.conn_own.specs.ConnCore.declared.end.Ended.{Ended}
+use Rattle.conn_own.specs.ConnCore.declared.taking.Taken.{Taken}
+use Rattle.conn_own.specs.ConnDealt.Dealing.{taken_records}
 use Rattle.conn_ends.specs.Shown.{ShowsEnd}
 use Rattle.conn_ends.specs.declared.conn.Conn.{Conn}
 use Rattle.exchange_defs.specs.State as model

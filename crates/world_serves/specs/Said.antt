@@ -1,6 +1,6 @@
 -- The frames of an answer, each on its way down.
 use Rattle.std.specs.Prelude.{◌≡◌, ℕ, List, [], ◌∷◌, ◌++◌, Option, Some, None, ⊤}
-use Rattle.conn_answers.specs.Joined.{AreAtMost}
+use Rattle.conn_own.specs.ConnAnswers.Joined.{AreAtMost}
 use Rattle.conn_sealing.specs.Saying.{all_framed}
 use Rattle.world_steps.specs.WorldEnds.declared.sides.Down.{Down}
 use Rattle.world_serves.specs.declared.parting.Parted.{Parted}

@@ -5,9 +5,8 @@ ghost use Rattle.world_steps.specs.Parts.{IsMemory};
 
 use crate::fronts::{Front, front_of};
 use crate::noting::note_taken;
-use conn_core::{Ended, Taken};
 use conn_ends::Conn;
-use conn_own::take_own;
+use conn_own::{Ended, Taken, take_own};
 use smb_bytes::Bytes;
 use smb_io::MemDisk;
 use world_steps::{Book, Channel, Note, Notes, Places, Played, WorldError};

@@ -7,4 +7,4 @@ mod settling;
 
 pub use linking::link;
 pub use settling::settle;
-pub use world_run::{Happened, Notes, Step, World, WorldError, WorldEvent, step, watch};
+pub use world_run::{Happened, Notes, Step, World, WorldError, WorldEvent, begin, step, watch};

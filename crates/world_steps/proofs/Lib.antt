@@ -11,3 +11,4 @@ pub mod Setting
 pub mod Finished
 pub mod Flipping
 pub mod Tampered
+pub use Rattle.free_columns_law.proofs as FreeColumnsLaw

@@ -14,15 +14,15 @@ use Rattle.world_defs.specs.Messages.{Heard}
 use Rattle.world_defs.specs.Settings.{WorldSettings}
 use Rattle.world_defs.specs.World as bytes
 use Rattle.world_defs.specs.World.{Wires, behind_frame, cut_wires, line_heard, line_hears, op_heard, with_client_end}
-use Rattle.world_steps.specs.WorldEnds.Channels.{AreDown, AreUp, IsDown, Seen, ShowsChannel, ShowsChannels, ShowsClientSide, ShowsServerSide, seen_of}
-use Rattle.world_steps.specs.WorldEnds.Shown.{ShowsWorld}
-use Rattle.world_steps.specs.WorldEnds.declared.sides.Channel.{Channel}
-use Rattle.world_steps.specs.WorldEnds.declared.sides.ClientSide.{ClientSide}
-use Rattle.world_steps.specs.WorldEnds.declared.sides.ClientSide.TheVariants.{Ready}
-use Rattle.world_steps.specs.WorldEnds.declared.sides.Down.{Down}
-use Rattle.world_steps.specs.WorldEnds.declared.sides.Up.{Up}
-use Rattle.world_steps.specs.WorldEnds.declared.world.World.{World}
-use Rattle.world_steps.specs.Lists.{ChangedAt}
+use Rattle.world_sends.specs.WorldEnds.Channels.{AreDown, AreUp, IsDown, Seen, ShowsChannel, ShowsChannels, ShowsClientSide, ShowsServerSide, seen_of}
+use Rattle.world_sends.specs.WorldEnds.Shown.{ShowsWorld}
+use Rattle.world_sends.specs.WorldEnds.declared.sides.Channel.{Channel}
+use Rattle.world_sends.specs.WorldEnds.declared.sides.ClientSide.{ClientSide}
+use Rattle.world_sends.specs.WorldEnds.declared.sides.ClientSide.TheVariants.{Ready}
+use Rattle.world_sends.specs.WorldEnds.declared.sides.Down.{Down}
+use Rattle.world_sends.specs.WorldEnds.declared.sides.Up.{Up}
+use Rattle.world_sends.specs.WorldEnds.declared.world.World.{World}
+use Rattle.world_sends.specs.WorldSteps.Lists.{ChangedAt}
 use Rattle.world_takes.specs.Replies.{Answered, HearsAs, HearsAt, token_for}
 use Rattle.world_takes.specs.declared.hearing.Response.{Response}
 

@@ -10,8 +10,8 @@ use Rattle.exchange_defs.specs.Settling.{noted, noted_full, noted_ok, settle, se
 use Rattle.exchange_defs.specs.State.{Body, Reply}
 use Rattle.exchange_defs.specs.Status.{disk_full}
 use Rattle.exchange_defs.specs.Table.{put, put2}
-use Rattle.world_steps.specs.WorldEnds.Channels.{Seen, seen_of}
-use Rattle.world_steps.specs.Parts.{all_close}
+use Rattle.world_sends.specs.WorldEnds.Channels.{Seen, seen_of}
+use Rattle.world_sends.specs.WorldSteps.Parts.{all_close}
 
 -- the columns at which a world in code looks, but for the client's own and what settled
 pub record Columns : Type 0 where

@@ -7,9 +7,9 @@ use Rattle.std.specs.Prelude.{slice_index}
 use Rattle.client_world_law.specs.Settled.{Settles, SettlesNone}
 use Rattle.exchange_defs.specs.Client.{Client}
 use Rattle.exchange_defs.specs.Table.{put}
-use Rattle.world_steps.specs.WorldEnds.Places.{ShowsPlaces, marks_at, no_marks}
-use Rattle.world_steps.specs.WorldEnds.declared.world.Marks.{Marks}
-use Rattle.world_steps.specs.WorldEnds.declared.world.Places.{Places}
+use Rattle.world_sends.specs.WorldEnds.Places.{ShowsPlaces, marks_at, no_marks}
+use Rattle.world_sends.specs.WorldEnds.declared.world.Marks.{Marks}
+use Rattle.world_sends.specs.WorldEnds.declared.world.Places.{Places}
 use Rattle.world_takes.specs.Replies.{Notes, NotesBy}
 
 -- ---- one of a list is set

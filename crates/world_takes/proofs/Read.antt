@@ -2,13 +2,13 @@
 use Rattle.std.proofs.Common.{◌≡◌, ℕ, ◌/◌, ◌%◌, ◌==◌, Bool, true, false, if◌then◌else◌, List, Option, Some, None, refl, sym, ap, subst}
 use Rattle.std.proofs.Common.{◌∙◌, Result, Ok, Err, OnOk, MatchResult, arith}
 use Rattle.std.proofs.lemmas.Bool.Decides.{nat_tests}
-use Rattle.world_steps.specs.ClientCore.declared.client.Client.{Client as Core}
-use Rattle.world_steps.specs.ClientEvent.Events.{Tells}
-use Rattle.world_steps.specs.ClientEvent.declared.steps.Act.{Act as Told}
-use Rattle.world_steps.specs.ClientEvent.declared.steps.Event.TheVariants as happens
+use Rattle.world_sends.specs.ClientCore.declared.client.Client.{Client as Core}
+use Rattle.world_sends.specs.ClientEvent.Events.{Tells}
+use Rattle.world_sends.specs.ClientEvent.declared.steps.Act.{Act as Told}
+use Rattle.world_sends.specs.ClientEvent.declared.steps.Event.TheVariants as happens
 use Rattle.client_line.specs.Hearing as heard
 use Rattle.client_line.specs.declared.incoming.Answer.{Answer}
-use Rattle.world_steps.specs.ClientPlayed.Holding.{Steps as Happens}
+use Rattle.world_sends.specs.ClientPlayed.Holding.{Steps as Happens}
 use Rattle.command_defs.specs.ReplyOf.{body_in, or_other, reply_of}
 use Rattle.command_values.specs.declared.reply.Body.{Body as Said}
 use Rattle.exchange_defs.specs.Client.{Client, create_for}
@@ -27,9 +27,9 @@ use Rattle.world_defs.specs.Dialog.{is_dialogs, line_response, paid_in}
 use Rattle.world_defs.specs.Ends.{ClientEnd}
 use Rattle.world_defs.specs.Messages.{Heard}
 use Rattle.world_defs.specs.World.{command_asked}
-use Rattle.world_steps.specs.WorldEnds.declared.sides.Down.{Down}
-use Rattle.world_steps.specs.WorldEnds.declared.events.WorldError.{WorldError}
-use Rattle.world_steps.specs.Parts.{IsMemory}
+use Rattle.world_sends.specs.WorldEnds.declared.sides.Down.{Down}
+use Rattle.world_sends.specs.WorldEnds.declared.events.WorldError.{WorldError}
+use Rattle.world_sends.specs.WorldSteps.Parts.{IsMemory}
 use Rattle.world_takes.specs.Replies.{HearsOn, IsAnswered, IsFor, Responds, token_for}
 use Rattle.world_takes.specs.declared.hearing.Response.{Response}
 

@@ -1,9 +1,9 @@
 -- Take on a line, in the exchange over bytes.
 use Rattle.std.proofs.Common.{◌≡◌, ℕ, ◌+◌, ◌&&◌, not, Bool, true, false, if◌then◌else◌, refl, sym, ap, subst, ◌∙◌}
 use Rattle.std.proofs.Common.{List, [], ◌∷◌, slice_get, Option, Some, None, is_some}
-use Rattle.world_steps.specs.ClientCore.Shown.{ShowsClient}
-use Rattle.world_steps.specs.ClientEvent.Events.{Means, act_of}
-use Rattle.world_steps.specs.ClientEvent.declared.steps.Event.TheVariants as happens
+use Rattle.world_sends.specs.ClientCore.Shown.{ShowsClient}
+use Rattle.world_sends.specs.ClientEvent.Events.{Means, act_of}
+use Rattle.world_sends.specs.ClientEvent.declared.steps.Event.TheVariants as happens
 use Rattle.client_law.proofs.Events.{keeps}
 use Rattle.client_law.specs.Kept.{Kept}
 use Rattle.client_world_law.proofs.Events.{asks_on}
@@ -24,20 +24,20 @@ use Rattle.world_defs.specs.Settings.{WorldSettings}
 use Rattle.world_defs.specs.World as bytes
 use Rattle.world_defs.specs.World.{Wires, behind_frame, client_end_off, closed_wires, command_asked, cut_wires, hears, op_heard}
 use Rattle.world_defs.specs.World.{line_hears, take_frame, with_values}
-use Rattle.world_steps.specs.WorldEnds.Channels.{AreDown, ShowsChannels, seen_of}
-use Rattle.world_steps.specs.WorldEnds.Places.{ShowsPlaces}
-use Rattle.world_steps.specs.WorldEnds.Shown.{ShowsWorld}
-use Rattle.world_steps.specs.WorldEnds.Tests.{is_open, is_ready, opened_in, readied_in}
-use Rattle.world_steps.specs.WorldEnds.declared.sides.Channel.{Channel}
-use Rattle.world_steps.specs.WorldEnds.declared.sides.ClientSide.{ClientSide}
-use Rattle.world_steps.specs.WorldEnds.declared.sides.ClientSide.TheVariants.{Closed, Talks, Ready}
-use Rattle.world_steps.specs.WorldEnds.declared.sides.Down.{Down}
-use Rattle.world_steps.specs.WorldEnds.declared.world.World.{World}
-use Rattle.world_steps.specs.Lists.{ClosesClient}
-use Rattle.world_steps.specs.Parts.{all_close}
-use Rattle.world_steps.proofs.Closing.{all_changed, client_closed, is_opened}
-use Rattle.world_steps.proofs.CutOff.{cuts}
-use Rattle.world_steps.proofs.Onward.{later_shown}
+use Rattle.world_sends.specs.WorldEnds.Channels.{AreDown, ShowsChannels, seen_of}
+use Rattle.world_sends.specs.WorldEnds.Places.{ShowsPlaces}
+use Rattle.world_sends.specs.WorldEnds.Shown.{ShowsWorld}
+use Rattle.world_sends.specs.WorldEnds.Tests.{is_open, is_ready, opened_in, readied_in}
+use Rattle.world_sends.specs.WorldEnds.declared.sides.Channel.{Channel}
+use Rattle.world_sends.specs.WorldEnds.declared.sides.ClientSide.{ClientSide}
+use Rattle.world_sends.specs.WorldEnds.declared.sides.ClientSide.TheVariants.{Closed, Talks, Ready}
+use Rattle.world_sends.specs.WorldEnds.declared.sides.Down.{Down}
+use Rattle.world_sends.specs.WorldEnds.declared.world.World.{World}
+use Rattle.world_sends.specs.WorldSteps.Lists.{ClosesClient}
+use Rattle.world_sends.specs.WorldSteps.Parts.{all_close}
+use Rattle.world_sends.proofs.WorldSteps.Closing.{all_changed, client_closed, is_opened}
+use Rattle.world_sends.proofs.WorldSteps.CutOff.{cuts}
+use Rattle.world_sends.proofs.WorldSteps.Onward.{later_shown}
 use Rattle.world_takes.specs.Replies.{Behind, ClosesBy, GoesOn, HearsAs, IsAt, IsResponded, TakesFront, waits_in}
 use Rattle.world_takes.specs.declared.hearing.Response.{Response}
 use Rattle.world_takes.proofs.Heard.{Fronted, answered_heard, fronted_there, heard_world, line_heard_it, put_own, unheard_cuts, was_ready}

@@ -1,14 +1,14 @@
 -- What the client makes of the front of what comes down on a line.
 use Rattle.std.specs.Prelude.{◌≡◌, ℕ, Bool, true, false, if◌then◌else◌, ◌∷◌, List, length, nat_lt}
 use Rattle.std.specs.Prelude.{Option, Some, None}
-use Rattle.world_steps.specs.ClientCore.Shown.{ShowsClient}
-use Rattle.world_steps.specs.ClientCore.declared.client.Client.{Client as Core}
-use Rattle.world_steps.specs.ClientEvent.Events.{Tells, act_of}
-use Rattle.world_steps.specs.ClientEvent.declared.steps.Act.{Act as Told}
-use Rattle.world_steps.specs.ClientEvent.declared.steps.Event.TheVariants as happens
+use Rattle.world_sends.specs.ClientCore.Shown.{ShowsClient}
+use Rattle.world_sends.specs.ClientCore.declared.client.Client.{Client as Core}
+use Rattle.world_sends.specs.ClientEvent.Events.{Tells, act_of}
+use Rattle.world_sends.specs.ClientEvent.declared.steps.Act.{Act as Told}
+use Rattle.world_sends.specs.ClientEvent.declared.steps.Event.TheVariants as happens
 use Rattle.client_line.specs.Hearing.{Unheard}
 use Rattle.client_line.specs.declared.incoming.Answer.{Answer}
-use Rattle.world_steps.specs.ClientPlayed.Holding.{Steps as Happens}
+use Rattle.world_sends.specs.ClientPlayed.Holding.{Steps as Happens}
 use Rattle.command_defs.specs.ReplyOf as reading
 use Rattle.command_values.specs.Meaning.{reply_of}
 use Rattle.command_values.specs.declared.reply.Body.{Body}
@@ -24,15 +24,15 @@ use Rattle.world_defs.specs.Dialog.{is_dialogs, line_response, paid_in}
 use Rattle.world_defs.specs.Ends.{ClientEnd}
 use Rattle.world_defs.specs.Messages.{Heard}
 use Rattle.world_defs.specs.World.{command_asked}
-use Rattle.world_steps.specs.WorldEnds.Places.{marks_at}
-use Rattle.world_steps.specs.WorldEnds.declared.sides.Channel.{Channel}
-use Rattle.world_steps.specs.WorldEnds.declared.sides.ClientSide.{ClientSide}
-use Rattle.world_steps.specs.WorldEnds.declared.sides.ClientSide.TheVariants.{Ready}
-use Rattle.world_steps.specs.WorldEnds.declared.sides.Down.{Down}
-use Rattle.world_steps.specs.WorldEnds.declared.world.Places.{Places}
-use Rattle.world_steps.specs.WorldEnds.declared.world.World.{World}
-use Rattle.world_steps.specs.Lists.{ChangedAll, ChangedAt, ClosesClient}
-use Rattle.world_steps.specs.Parts.{Cuts, all_close}
+use Rattle.world_sends.specs.WorldEnds.Places.{marks_at}
+use Rattle.world_sends.specs.WorldEnds.declared.sides.Channel.{Channel}
+use Rattle.world_sends.specs.WorldEnds.declared.sides.ClientSide.{ClientSide}
+use Rattle.world_sends.specs.WorldEnds.declared.sides.ClientSide.TheVariants.{Ready}
+use Rattle.world_sends.specs.WorldEnds.declared.sides.Down.{Down}
+use Rattle.world_sends.specs.WorldEnds.declared.world.Places.{Places}
+use Rattle.world_sends.specs.WorldEnds.declared.world.World.{World}
+use Rattle.world_sends.specs.WorldSteps.Lists.{ChangedAll, ChangedAt, ClosesClient}
+use Rattle.world_sends.specs.WorldSteps.Parts.{Cuts, all_close}
 use Rattle.world_takes.specs.declared.hearing.Response.{Response}
 
 -- something is on its way to the client there

@@ -2,8 +2,8 @@
 ghost use Rattle.std.specs.Prelude.{◌≡◌, ◌<◌, ◌^◌, None, length, slice_get, MatchResult};
 ghost use Rattle.exchange_defs.specs.Table.{is_filled};
 ghost use Rattle.line_ends.specs.declared.line.LineError.TheVariants as errors;
-ghost use Rattle.world_steps.specs.Lists.{ChangedAt};
-ghost use Rattle.world_steps.specs.Parts.{IsMemory};
+ghost use Rattle.world_sends.specs.WorldSteps.Lists.{ChangedAt};
+ghost use Rattle.world_sends.specs.WorldSteps.Parts.{IsMemory};
 ghost use Rattle.world_takes.specs.Replies.{HearsAt, HearsFrom, HearsOn, IsAnswered, waits_in};
 
 use client_line::{Answer, hear};
@@ -11,7 +11,7 @@ use line_ends::{Line, LineError};
 use smb_bytes::Bytes;
 use smb_header::Header;
 use std::collections::VecDeque;
-use world_steps::{Channel, ClientSide, Down, WorldError};
+use world_sends::{Channel, ClientSide, Down, WorldError};
 
 /// No frame is as long as this, which the ends of a connection ask of one.
 const TOO_LONG: usize = 0x1000_0000_0000_0000;

@@ -8,3 +8,4 @@ mod reading;
 mod taking;
 
 pub use taking::take_line;
+pub use world_sends::push;

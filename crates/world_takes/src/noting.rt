@@ -1,16 +1,16 @@
 // A response settles its operation, which is noted.
 ghost use Rattle.std.specs.Prelude.{◌≡◌, Some, length, nat_lt, MatchResult};
-ghost use Rattle.world_steps.specs.ClientCore.Shown.{ShowsClient};
+ghost use Rattle.world_sends.specs.ClientCore.Shown.{ShowsClient};
 ghost use Rattle.command_values.specs.Meaning.{body_of};
 ghost use Rattle.exchange_defs.specs.Client.{Client as Model};
-ghost use Rattle.world_steps.specs.WorldEnds.declared.world.Marks.{Marks as Noted};
-ghost use Rattle.world_steps.specs.Parts.{IsMemory};
+ghost use Rattle.world_sends.specs.WorldEnds.declared.world.Marks.{Marks as Noted};
+ghost use Rattle.world_sends.specs.WorldSteps.Parts.{IsMemory};
 ghost use Rattle.world_takes.specs.Replies.{Answers, Notes, NotesBy, Responds};
 
 use crate::hearing::Response;
 use command_values::Reply;
 use std::alloc::Global;
-use world_steps::{Act, Event, Marks, Places, Played, WorldError, happen};
+use world_sends::{Act, Event, Marks, Places, Played, WorldError, happen};
 
 /// How many operations a reply settled.
 fn settled_in(client: &Played) -> usize

@@ -2,14 +2,14 @@
 ghost use Rattle.std.specs.Prelude.{◌≡◌, MatchResult};
 ghost use Rattle.command_defs.specs.ReplyOf.{reply_of as read_as};
 ghost use Rattle.command_values.specs.Meaning.{command_of, reply_of as meant_by};
-ghost use Rattle.world_steps.specs.Parts.{IsMemory};
+ghost use Rattle.world_sends.specs.WorldSteps.Parts.{IsMemory};
 ghost use Rattle.world_takes.specs.Replies.{IsCommandFor, Reads};
 
 use crate::hearing::Response;
 use command_reading::reply_of;
 use command_values::{Command, Reply};
 use std::alloc::Global;
-use world_steps::{Played, WorldError};
+use world_sends::{Played, WorldError};
 
 fn read(alloc: Global, command: &Command<'_>, response: &Response) -> Result<Reply, WorldError>
     ensures { MatchResult result (λ r. meant_by r ≡ read_as (command_of command.now) response.now.header response.now.message)

@@ -1,16 +1,16 @@
 // Take on a line.
 ghost use Rattle.std.specs.Prelude.{◌≡◌, true, MatchResult, slice_get};
-ghost use Rattle.world_steps.specs.WorldEnds.Tests.{readied_in};
-ghost use Rattle.world_steps.specs.WorldEnds.declared.events.WorldEvent.TheVariants as events;
-ghost use Rattle.world_steps.specs.Parts.{IsMemory};
-ghost use Rattle.world_steps.specs.Steps.{Steps};
+ghost use Rattle.world_sends.specs.WorldEnds.Tests.{readied_in};
+ghost use Rattle.world_sends.specs.WorldEnds.declared.events.WorldEvent.TheVariants as events;
+ghost use Rattle.world_sends.specs.WorldSteps.Parts.{IsMemory};
+ghost use Rattle.world_sends.specs.WorldSteps.Steps.{Steps};
 ghost use Rattle.world_takes.specs.Replies.{ClosesBy, GoesOn, IsResponded, RepliesTo, TakesFront};
 
 use crate::hearing::{Response, has_reply, hear_front};
 use crate::noting::respond;
 use crate::reading::reply_for;
 use std::alloc::Global;
-use world_steps::{
+use world_sends::{
     Act, Channel, Places, Played, World, WorldError, close_clients, closes_all, cut_end, later,
 };
 

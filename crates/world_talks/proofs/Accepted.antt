@@ -13,7 +13,7 @@ use Rattle.exchange_defs.specs.Dialogs.{Accepts as AcceptsStep, accepted, dialog
 use Rattle.exchange_defs.specs.Network.{Conn as Link, ForDialog, dialog_sent, send_up, with_client}
 use Rattle.exchange_defs.specs.State.{Message}
 use Rattle.exchange_defs.specs.Table.{put}
-use Rattle.free_columns_law.proofs.Columns.{taken as shown_taken}
+use Rattle.world_opens.proofs.FreeColumnsLaw.Columns.{taken as shown_taken}
 use Rattle.line_ends.specs.Shown.{IsStage, ShowsDialog, ShowsStage}
 use Rattle.line_ends.specs.declared.config.Bound.{Bound}
 use Rattle.line_ends.specs.declared.config.ClientConfig.{ClientConfig}

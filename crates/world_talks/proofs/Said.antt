@@ -9,7 +9,7 @@ use Rattle.exchange_defs.specs.Dialogs.{dialog_message, went_on}
 use Rattle.exchange_defs.specs.Network.{ForDialog, Sent, dialog_sent, send_up, with_client}
 use Rattle.exchange_defs.specs.State.{Message, Reply}
 use Rattle.exchange_defs.specs.Table.{put}
-use Rattle.free_columns_law.proofs.Columns.{gone_on as shown_on}
+use Rattle.world_opens.proofs.FreeColumnsLaw.Columns.{gone_on as shown_on}
 use Rattle.line_ends.specs.Shown.{ShowsDialog, token_of}
 use Rattle.line_ends.specs.declared.config.Bound.{Bound}
 use Rattle.line_ends.specs.declared.dialog.Dialog.{Dialog}

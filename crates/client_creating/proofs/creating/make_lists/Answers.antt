@@ -1,5 +1,5 @@
 use Rattle.std.proofs.Common.{arith}
-use Rattle.client_taking.proofs.Roomed.{ok_more}
+use Rattle.client_submitting.proofs.ClientTaking.Roomed.{ok_more}
 use Rattle.client_creating.proofs.creating.make_lists.Goals as goal
 
 pub returns : goal.returns

@@ -10,10 +10,10 @@ use Rattle.client_outcomes.specs.declared.outcome.Why.TheVariants as causes
 use Rattle.client_settles.specs.Shown.{outcome_by}
 use Rattle.client_opens.specs.Opened.{IsOn, placed_row}
 use Rattle.client_table.specs.Shown.{ShowsTable}
-use Rattle.client_taking.specs.Taken.{TakesOn}
-use Rattle.client_taking.proofs.Roomed.{ok_more}
-use Rattle.client_joining.specs.Keeping.{Keeps}
-use Rattle.client_joining.proofs.Stood.{ok_two}
+use Rattle.client_submitting.specs.ClientTaking.Taken.{TakesOn}
+use Rattle.client_submitting.proofs.ClientTaking.Roomed.{ok_more}
+use Rattle.client_submitting.specs.ClientJoining.Keeping.{Keeps}
+use Rattle.client_submitting.proofs.ClientJoining.Stood.{ok_two}
 use Rattle.client_creating.proofs.Alone.{first_so, next_one, row_on_own}
 use Rattle.client_creating.proofs.creating.take_alone.Goals as goal
 

@@ -11,10 +11,10 @@ use Rattle.operation_rows.specs.Rows.{kind, owner}
 use Rattle.client_choice.specs.declared.finding.Attached.{Attached}
 use Rattle.client_opens.specs.declared.opening.Open.{Open}
 use Rattle.client_table.proofs.Ready.{on_err}
-use Rattle.client_attached.specs.declared.opened.Opened.{Opened}
-use Rattle.client_attached.specs.Known.{ShowsOpened}
-use Rattle.client_attached.specs.Opens.{FitsOpens, ShowsAttached}
-use Rattle.client_joining.specs.Keeping.{Keeps}
+use Rattle.client_submitting.specs.ClientAttached.declared.opened.Opened.{Opened}
+use Rattle.client_submitting.specs.ClientAttached.Known.{ShowsOpened}
+use Rattle.client_submitting.specs.ClientAttached.Opens.{FitsOpens, ShowsAttached}
+use Rattle.client_submitting.specs.ClientJoining.Keeping.{Keeps}
 use Rattle.client_submitting.specs.Marked.{FitsMarks, ShowsMarks}
 use Rattle.client_creating.proofs.Alone.{create_no_lock}
 use Rattle.client_creating.proofs.Owning.{fits_one, homes_one, keeps_one, known_one, marks_one, rows_fit, rows_show, shown_one, whole_fits, whole_shown}

@@ -1,6 +1,6 @@
 use Rattle.std.proofs.Common.{sym, ap, ◌∙◌, if◌then◌else◌}
 use Rattle.exchange_defs.specs.ClientStep.{CloseChannel, Nothing}
-use Rattle.client_replies.proofs.Heard.{clash}
+use Rattle.client_core.proofs.ClientReplies.Heard.{clash}
 use Rattle.client_event.proofs.Going.{again_shown, own_so}
 use Rattle.client_event.proofs.calls.ready.Goals as goal
 

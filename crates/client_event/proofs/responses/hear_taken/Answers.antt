@@ -4,8 +4,8 @@ use Rattle.exchange_defs.specs.Operations.{id_in, value_in}
 use Rattle.exchange_defs.specs.Client.{Client}
 use Rattle.exchange_defs.specs.ClientStep.{ClientEvent, act, client_after}
 use Rattle.client_core.specs.Shown.{ShowsClient}
-use Rattle.client_replies.specs.declared.hearing.Response.{Response}
-use Rattle.client_replies.specs.Reading.{Reads}
+use Rattle.client_core.specs.ClientReplies.declared.hearing.Response.{Response}
+use Rattle.client_core.specs.ClientReplies.Reading.{Reads}
 use Rattle.client_event.specs.declared.steps.Event.TheVariants as events
 use Rattle.client_event.specs.Events.{Means}
 use Rattle.client_event.proofs.responses.hear_taken.Goals as goal

@@ -1,5 +1,5 @@
 use Rattle.std.proofs.lemmas.Result.{IfOk-weaker, on_err_weaker}
-use Rattle.client_replies.proofs.Heard.{clash}
+use Rattle.client_core.proofs.ClientReplies.Heard.{clash}
 use Rattle.client_event.proofs.responses.said_in.Goals as goal
 
 pub returns-then-asking : goal.returns-then-asking

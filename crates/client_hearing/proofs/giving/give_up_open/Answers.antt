@@ -7,8 +7,8 @@ use Rattle.operation_rows.specs.Rows.{row_at}
 use Rattle.client_choice.specs.declared.finding.Attached.{Attached}
 use Rattle.client_choice.specs.Shown.{IsAt}
 use Rattle.client_table.specs.Shown.{ShowsTable}
-use Rattle.client_attached.specs.Known.{IsKnownAt}
-use Rattle.client_attached.proofs.Kept.{places_goes, places_none}
+use Rattle.client_noting.specs.ClientAttached.Known.{IsKnownAt}
+use Rattle.client_noting.proofs.ClientAttached.Kept.{places_goes, places_none}
 use Rattle.client_gone.proofs.Given.{table_alike, table_itself}
 use Rattle.client_hearing.proofs.Known.{known_at, none_known}
 use Rattle.client_hearing.proofs.Noted.{none_gives_up}

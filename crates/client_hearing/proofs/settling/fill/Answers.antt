@@ -5,8 +5,8 @@ use Rattle.exchange_defs.specs.Operations.{is_lock}
 use Rattle.exchange_defs.specs.Client.{Client, create_for}
 use Rattle.client_law.proofs.Chosen.{and_left}
 use Rattle.client_table.specs.Shown.{ShowsTable}
-use Rattle.client_attached.specs.Known.{ShowsOpened}
-use Rattle.client_attached.specs.Opens.{ShowsAttached}
+use Rattle.client_noting.specs.ClientAttached.Known.{ShowsOpened}
+use Rattle.client_noting.specs.ClientAttached.Opens.{ShowsAttached}
 use Rattle.client_noting.specs.Columns.{filled_now}
 use Rattle.client_noting.proofs.Noted.{table_beside}
 use Rattle.client_hearing.proofs.Noted.{lock_at}

@@ -2,9 +2,9 @@ use Rattle.std.proofs.Common.{refl, sym, ◌∙◌, subst}
 use Rattle.exchange_defs.specs.Client.{Client}
 use Rattle.client_outcomes.specs.Meaning.{outcome_of}
 use Rattle.client_table.specs.Shown.{ShowsTable}
-use Rattle.client_attached.specs.Known.{ShowsOpened}
-use Rattle.client_attached.specs.Opens.{ShowsAttached}
-use Rattle.client_attached.proofs.Kept.{places_none}
+use Rattle.client_noting.specs.ClientAttached.Known.{ShowsOpened}
+use Rattle.client_noting.specs.ClientAttached.Opens.{ShowsAttached}
+use Rattle.client_noting.proofs.ClientAttached.Kept.{places_none}
 use Rattle.client_hearing.proofs.Noted.{notes_nothing, notes_success}
 use Rattle.client_hearing.proofs.settling.note.Goals as goal
 

@@ -9,12 +9,12 @@ use Rattle.operation_values.specs.Waiting.{is_close_kind}
 use Rattle.client_marks.specs.Marks.{is_create_kind}
 use Rattle.client_outcomes.specs.Meaning.{outcome_of}
 use Rattle.client_table.specs.Shown.{ShowsTable}
-use Rattle.client_attached.specs.Known.{ShowsOpened}
-use Rattle.client_attached.specs.Opens.{ShowsAttached}
-use Rattle.client_attached.specs.Places.{KeepsPlaces}
-use Rattle.client_attached.proofs.Kept.{places_both, places_goes}
-use Rattle.client_attached.proofs.Known.{known_moved}
-use Rattle.client_attached.proofs.Moved.{fits_moved, shown_moved}
+use Rattle.client_noting.specs.ClientAttached.Known.{ShowsOpened}
+use Rattle.client_noting.specs.ClientAttached.Opens.{ShowsAttached}
+use Rattle.client_noting.specs.ClientAttached.Places.{KeepsPlaces}
+use Rattle.client_noting.proofs.ClientAttached.Kept.{places_both, places_goes}
+use Rattle.client_noting.proofs.ClientAttached.Known.{known_moved}
+use Rattle.client_noting.proofs.ClientAttached.Moved.{fits_moved, shown_moved}
 use Rattle.client_noting.proofs.Noted.{close_at, create_at}
 use Rattle.client_hearing.proofs.Noted.{ascends_moved, its_create, note_any, table_settled}
 use Rattle.client_hearing.proofs.settling.settle_heard.Goals as goal

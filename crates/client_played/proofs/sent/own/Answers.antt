@@ -1,8 +1,8 @@
 use Rattle.std.proofs.Common.{◌<◌, List, length, sym, subst}
 use Rattle.std.proofs.lemmas.Result.{IfOk-weaker}
 use Rattle.operation_rows.specs.Rows.{row_at}
-use Rattle.client_attached.specs.declared.opened.Opened.{Opened}
-use Rattle.client_attached.specs.Known.{ShowsOpened}
+use Rattle.client_sent.specs.ClientAttached.declared.opened.Opened.{Opened}
+use Rattle.client_sent.specs.ClientAttached.Known.{ShowsOpened}
 use Rattle.client_played.proofs.sent.own.Goals as goal
 
 pub own_request-requires : goal.own_request-requires

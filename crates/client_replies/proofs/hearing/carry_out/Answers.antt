@@ -3,11 +3,11 @@ use Rattle.client_law.specs.Kept.{Kept}
 use Rattle.client_outcomes.specs.declared.hearing.Hearing.{Hearing}
 use Rattle.client_outcomes.specs.Hearing.{hearing_of}
 use Rattle.client_table.specs.Shown.{ShowsTable}
-use Rattle.client_attached.specs.Known.{ShowsOpened}
-use Rattle.client_attached.specs.Opens.{ShowsAttached}
-use Rattle.client_attached.proofs.Kept.{places_none}
-use Rattle.client_attached.proofs.Known.{known_moved}
-use Rattle.client_attached.proofs.Moved.{fits_moved, shown_moved}
+use Rattle.client_cutting.specs.ClientAttached.Known.{ShowsOpened}
+use Rattle.client_cutting.specs.ClientAttached.Opens.{ShowsAttached}
+use Rattle.client_cutting.proofs.ClientAttached.Kept.{places_none}
+use Rattle.client_cutting.proofs.ClientAttached.Known.{known_moved}
+use Rattle.client_cutting.proofs.ClientAttached.Moved.{fits_moved, shown_moved}
 use Rattle.client_replies.specs.Reading.{ends, heard_then}
 use Rattle.client_replies.proofs.hearing.carry_out.Goals as goal
 

@@ -8,12 +8,12 @@ use Rattle.operation_rows.specs.Rows.{stands}
 use Rattle.operation_rows.proofs.Walking.{put_at}
 use Rattle.client_outcomes.specs.Hearing.{hearing_of}
 use Rattle.client_table.specs.Shown.{ShowsTable}
-use Rattle.client_attached.specs.Known.{ShowsOpened}
-use Rattle.client_attached.specs.Opens.{ShowsAttached}
-use Rattle.client_attached.specs.Places.{KeepsPlaces}
-use Rattle.client_attached.proofs.Kept.{places_both, places_none, places_step}
-use Rattle.client_attached.proofs.Known.{known_moved}
-use Rattle.client_attached.proofs.Moved.{fits_moved, shown_moved}
+use Rattle.client_cutting.specs.ClientAttached.Known.{ShowsOpened}
+use Rattle.client_cutting.specs.ClientAttached.Opens.{ShowsAttached}
+use Rattle.client_cutting.specs.ClientAttached.Places.{KeepsPlaces}
+use Rattle.client_cutting.proofs.ClientAttached.Kept.{places_both, places_none, places_step}
+use Rattle.client_cutting.proofs.ClientAttached.Known.{known_moved}
+use Rattle.client_cutting.proofs.ClientAttached.Moved.{fits_moved, shown_moved}
 use Rattle.client_hearing.proofs.Noted.{ascends_moved}
 use Rattle.client_replies.specs.Reading.{ends, heard_then}
 use Rattle.client_replies.proofs.Heard.{act_not, act_so, heard_so, hears, hears_not, highest_moved, out_of}

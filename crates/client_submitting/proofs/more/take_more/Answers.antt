@@ -17,10 +17,10 @@ use Rattle.client_pushes.proofs.Picked.{create_kind}
 use Rattle.client_choice.specs.declared.finding.Attached.{Attached}
 use Rattle.client_choice.specs.Shown.{IsAt}
 use Rattle.client_opens.specs.declared.opening.Open.{Open}
-use Rattle.client_attached.specs.Known.{IsKnownAt, ShowsOpened}
-use Rattle.client_attached.specs.Locks.{locks_on}
-use Rattle.client_attached.specs.Opens.{FitsOpens, IsRoomy, ShowsAttached}
-use Rattle.client_taking.proofs.Roomed.{ok_more}
+use Rattle.client_joining.specs.ClientAttached.Known.{IsKnownAt, ShowsOpened}
+use Rattle.client_joining.specs.ClientAttached.Locks.{locks_on}
+use Rattle.client_joining.specs.ClientAttached.Opens.{FitsOpens, IsRoomy, ShowsAttached}
+use Rattle.client_joining.proofs.ClientTaking.Roomed.{ok_more}
 use Rattle.client_joining.specs.Joined.{Joins}
 use Rattle.client_joining.specs.Keeping.{Keeps}
 use Rattle.client_submitting.specs.Marked.{FitsMarks, IsMarkedAt, ShowsMarks}

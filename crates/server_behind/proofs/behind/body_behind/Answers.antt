@@ -4,7 +4,7 @@ use Rattle.server_asked.specs.Heard.{event_of}
 use Rattle.server_behind.proofs.Stays.{if_ok_by}
 use Rattle.server_behind.proofs.behind.body_behind.Goals as goal
 use Rattle.server_body.specs.Body.{IsBodyOf}
-use Rattle.server_rulings.specs.Rulings.{ruling_of}
+use Rattle.server_room.specs.ServerRulings.Rulings.{ruling_of}
 
 pub returns-in-Ok : goal.returns-in-Ok
 returns-in-Ok c = λ s records f h w b.

@@ -3,8 +3,8 @@ use Rattle.exchange_defs.specs.Step as steps
 use Rattle.server_asked.specs.Heard.{event_of}
 use Rattle.server_behind.proofs.behind.both_ready.Goals as goal
 use Rattle.server_body.specs.Body.{fits_by}
-use Rattle.server_plan.specs.Plans.{OwingOf}
-use Rattle.server_rulings.specs.Rulings.{AbleToRule}
+use Rattle.server_room.specs.ServerPlan.Plans.{OwingOf}
+use Rattle.server_room.specs.ServerRulings.Rulings.{AbleToRule}
 
 pub returns-in-Ok-clause-room : goal.returns-in-Ok-clause-room
 returns-in-Ok-clause-room g c = (c.in-Ok.ensures.room, c.in-Ok.ensures.written)

@@ -4,7 +4,7 @@ use Rattle.exchange_defs.specs.Step.{carried_out}
 use Rattle.server_asked.specs.Heard.{event_of}
 use Rattle.server_behind.proofs.behind.with_body.Goals as goal
 use Rattle.server_body.specs.Body.{IsBodyOf}
-use Rattle.server_plan.specs.Plans.{OwingOf}
+use Rattle.server_room.specs.ServerPlan.Plans.{OwingOf}
 
 pub returns-in-Ok : goal.returns-in-Ok
 returns-in-Ok c = λ s records f h e b.

@@ -9,7 +9,7 @@ use Rattle.server_commit.proofs.Shown.{counted_shown, prepared_count, uncounted_
 use Rattle.server_commit.proofs.Written.{failed}
 use Rattle.server_commit.proofs.committing.commit.Goals as goal
 use Rattle.server_events.specs.declared.error.EventError.{EventError}
-use Rattle.server_prepared.specs.Prepared.{IsPrepared, RoomToCarry, prepared_ruling}
+use Rattle.server_dating.specs.ServerPrepared.Prepared.{IsPrepared, RoomToCarry, prepared_ruling}
 use Rattle.server_recording.specs.Writes.{WritesBut}
 use Rattle.session_bind.specs.Logons.{LogonsShown}
 

@@ -1,7 +1,7 @@
 use Rattle.std.proofs.Common.{refl}
 use Rattle.exchange_defs.specs.Step.{with_deadlines}
 use Rattle.server_asked.specs.Heard.{event_of}
-use Rattle.server_prepared.specs.Prepared.{prepared_ruling}
+use Rattle.dated_effects.specs.ServerPrepared.Prepared.{prepared_ruling}
 use Rattle.server_dating.proofs.Beside.{beside_carried}
 use Rattle.server_dating.proofs.Kept.{able_carried, prepared_opens, rule_still}
 use Rattle.server_dating.proofs.Rules.{ends_by, may_rule, told_of}

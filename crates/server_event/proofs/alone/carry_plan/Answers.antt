@@ -9,10 +9,10 @@ use Rattle.server_event.proofs.Committed.{alone_comes, event_carried, may_plan}
 use Rattle.server_event.proofs.Early.{not_on, written_memory}
 use Rattle.server_event.proofs.Lacking.{lacked}
 use Rattle.server_event.proofs.Moments.{by_event, leaves_more, nothing_left, same_disk, since_same}
-use Rattle.server_holds.specs.Holds.{EventLeaves}
-use Rattle.server_prepared.specs.Prepared.{prepared_ruling}
+use Rattle.server_behind.specs.ServerHolds.Holds.{EventLeaves}
+use Rattle.server_behind.specs.ServerPrepared.Prepared.{prepared_ruling}
 use Rattle.server_behind.specs.ServerPreparing.Preparing.{wants_memory_by}
-use Rattle.server_rulings.specs.Rulings.{AbleToRule}
+use Rattle.server_behind.specs.ServerRulings.Rulings.{AbleToRule}
 use Rattle.server_writing.specs.Bodies.{LeavesOf}
 use Rattle.server_event.proofs.alone.carry_plan.Goals as goal
 

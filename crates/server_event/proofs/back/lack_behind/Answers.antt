@@ -9,7 +9,7 @@ use Rattle.server_event.proofs.Moments.{by_expiry, leaves_more, room_back}
 use Rattle.server_event.proofs.Out.{due_front}
 use Rattle.server_event.proofs.Refused.{same_room}
 use Rattle.server_event.proofs.back.lack_behind.Goals as goal
-use Rattle.server_holds.specs.Holds.{EventLeaves}
+use Rattle.server_behind.specs.ServerHolds.Holds.{EventLeaves}
 use Rattle.server_writing.specs.Bodies.{LeavesOf}
 use Rattle.session_bind.specs.Logons.{LogonsShown}
 use Rattle.session_bind.specs.declared.table.Sessions.{Sessions}

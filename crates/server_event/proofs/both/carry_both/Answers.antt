@@ -6,7 +6,7 @@ use Rattle.server_event.proofs.Beyond.{body_at, carried_apart, undated_at}
 use Rattle.server_event.proofs.Moments.{by_event, leaves_more}
 use Rattle.server_event.proofs.Out.{OutLaws, room_yet}
 use Rattle.server_event.proofs.Refused.{same_room}
-use Rattle.server_holds.specs.Holds.{EventLeaves}
+use Rattle.server_behind.specs.ServerHolds.Holds.{EventLeaves}
 use Rattle.server_writing.specs.Bodies.{LeavesOf}
 use Rattle.server_event.proofs.both.carry_both.Goals as goal
 

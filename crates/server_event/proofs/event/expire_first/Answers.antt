@@ -6,7 +6,7 @@ use Rattle.server_event.proofs.Refused.{answers_from, asks_on, same_disk}
 use Rattle.server_event.proofs.event.expire_first.Goals as goal
 use Rattle.server_event.specs.Behind.{BehindAnswers, StaysWhereNone}
 use Rattle.server_event.specs.declared.expiring.Behind.{Behind}
-use Rattle.server_holds.specs.Holds.{EventLeaves}
+use Rattle.server_behind.specs.ServerHolds.Holds.{EventLeaves}
 
 pub returns-in-Ok-Answered-clause-step : goal.returns-in-Ok-Answered-clause-step
 returns-in-Ok-Answered-clause-step g c = λ users s L records e a m.

@@ -7,8 +7,8 @@ use Rattle.server_event.proofs.Moments.{since_same}
 use Rattle.server_event.proofs.Refused.{asks_room, below_limit, ends_from, lacked, none_from, none_leaves, same_disk, same_room}
 use Rattle.server_event.proofs.expiring.behind_front.Goals as goal
 use Rattle.server_events.specs.Setups.{progress_of}
-use Rattle.server_holds.specs.Beside.{logons_behind}
-use Rattle.server_holds.specs.Holds.{EventLeaves}
+use Rattle.server_behind.specs.ServerHolds.Beside.{logons_behind}
+use Rattle.server_behind.specs.ServerHolds.Holds.{EventLeaves}
 use Rattle.server_writing.specs.Bodies.{HasBodyRoom}
 
 pub returns-then-not-fits-clause-step : goal.returns-then-not-fits-clause-step

@@ -9,11 +9,11 @@ use Rattle.server_event.proofs.Moments.{same_faults, since_same}
 use Rattle.server_event.proofs.Refused.{ends_from, lack_still, none_from}
 use Rattle.server_event.proofs.Without.{apart_still, both_apart}
 use Rattle.server_event.proofs.expiring.event_without.Goals as goal
-use Rattle.server_holds.specs.Counted.{front_of}
-use Rattle.server_holds.specs.Holds.{EventLeaves}
-use Rattle.server_holds.specs.Rooms.{HasRoomToWrite}
+use Rattle.server_behind.specs.ServerHolds.Counted.{front_of}
+use Rattle.server_behind.specs.ServerHolds.Holds.{EventLeaves}
+use Rattle.server_behind.specs.ServerHolds.Rooms.{HasRoomToWrite}
 use Rattle.server_law.specs.Fits.{Fits}
-use Rattle.server_prepared.specs.Prepared.{RoomToCarry}
+use Rattle.server_behind.specs.ServerPrepared.Prepared.{RoomToCarry}
 use Rattle.server_commit.specs.ServerSteps.Steps.{PreparedStep}
 
 pub carry_behind-requires : goal.carry_behind-requires

@@ -1,5 +1,5 @@
 use Rattle.std.proofs.Common.{refl}
-use Rattle.world_steps.proofs.Refusing.{result_with}
+use Rattle.world_sends.proofs.WorldSteps.Refusing.{result_with}
 use Rattle.world_takes.proofs.hearing.hear_at.Goals as goal
 
 pub returns-in-Some : goal.returns-in-Some

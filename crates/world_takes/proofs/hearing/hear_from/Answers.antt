@@ -1,5 +1,5 @@
 use Rattle.std.proofs.Common.{refl}
-use Rattle.world_steps.proofs.Refusing.{result_with}
+use Rattle.world_sends.proofs.WorldSteps.Refusing.{result_with}
 use Rattle.world_takes.proofs.hearing.hear_from.Goals as goal
 
 pub returns-in-Ready : goal.returns-in-Ready

@@ -1,6 +1,6 @@
 use Rattle.world_takes.specs.Replies.{HearsAt}
-use Rattle.world_steps.proofs.Refusing.{result_with}
-use Rattle.world_steps.proofs.Setting.{one_lent}
+use Rattle.world_sends.proofs.WorldSteps.Refusing.{result_with}
+use Rattle.world_sends.proofs.WorldSteps.Setting.{one_lent}
 use Rattle.world_takes.proofs.hearing.hear_front.Goals as goal
 
 pub returns-then-within : goal.returns-then-within

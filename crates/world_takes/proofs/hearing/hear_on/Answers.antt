@@ -3,7 +3,7 @@ use Rattle.client_line.specs.Hearing as heard
 use Rattle.line_ends.specs.Shown.{ShowsLine}
 use Rattle.world_defs.specs.Dialog.{line_response}
 use Rattle.world_defs.specs.Ends.{ClientEnd}
-use Rattle.world_steps.proofs.Refusing.{result_with}
+use Rattle.world_sends.proofs.WorldSteps.Refusing.{result_with}
 use Rattle.world_takes.proofs.Read.{heard_as, unheard_as}
 use Rattle.world_takes.proofs.hearing.hear_on.Goals as goal
 

@@ -1,6 +1,6 @@
 use Rattle.std.proofs.Common.{ℕ, nat_lt, length, sym, ap, ◌∙◌, subst}
-use Rattle.world_steps.specs.ClientEvent.declared.steps.Act.{Act}
-use Rattle.world_steps.proofs.Refusing.{result_with}
+use Rattle.world_sends.specs.ClientEvent.declared.steps.Act.{Act}
+use Rattle.world_sends.proofs.WorldSteps.Refusing.{result_with}
 use Rattle.world_takes.specs.Replies.{Responds}
 use Rattle.world_takes.proofs.noting.respond.Goals as goal
 

@@ -1,6 +1,6 @@
 use Rattle.std.proofs.Common.{ℕ, MatchResult, subst}
 use Rattle.world_takes.specs.Replies.{Responds}
-use Rattle.world_steps.specs.Parts.{IsMemory}
+use Rattle.world_sends.specs.WorldSteps.Parts.{IsMemory}
 use Rattle.world_takes.proofs.Read.{responding}
 use Rattle.world_takes.proofs.noting.tell.Goals as goal
 

@@ -2,7 +2,7 @@ use Rattle.std.proofs.Common.{◌∙◌, ap}
 use Rattle.command_defs.specs.ReplyOf.{reply_of}
 use Rattle.exchange_defs.specs.Client.{create_for, guid_for}
 use Rattle.exchange_defs.specs.Commands.{Command}
-use Rattle.world_steps.proofs.Refusing.{result_with}
+use Rattle.world_sends.proofs.WorldSteps.Refusing.{result_with}
 use Rattle.world_takes.proofs.Read.{reads_alike}
 use Rattle.world_takes.proofs.reading.reply_for.Goals as goal
 

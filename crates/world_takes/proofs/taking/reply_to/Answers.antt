@@ -1,4 +1,4 @@
-use Rattle.world_steps.proofs.Refusing.{result_with}
+use Rattle.world_sends.proofs.WorldSteps.Refusing.{result_with}
 use Rattle.world_takes.proofs.taking.reply_to.Goals as goal
 
 pub returns-in-Ok : goal.returns-in-Ok

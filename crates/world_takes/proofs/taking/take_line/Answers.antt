@@ -1,4 +1,4 @@
-use Rattle.world_steps.proofs.Refusing.{memory, refused_by}
+use Rattle.world_sends.proofs.WorldSteps.Refusing.{memory, refused_by}
 use Rattle.world_takes.specs.Replies.{waits_in}
 use Rattle.world_takes.proofs.Taken.{nothing, takes}
 use Rattle.world_takes.proofs.taking.take_line.Goals as goal

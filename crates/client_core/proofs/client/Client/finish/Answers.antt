@@ -1,6 +1,6 @@
 use Rattle.exchange_defs.specs.Client.{finish}
 use Rattle.client_outcomes.specs.Meaning.{why_of}
-use Rattle.client_attached.proofs.Kept.{places_goes}
+use Rattle.client_pushing.proofs.ClientAttached.Kept.{places_goes}
 use Rattle.client_core.proofs.Around.{fits_around, shows_around}
 use Rattle.client_core.proofs.client.Client.finish.Goals as goal
 

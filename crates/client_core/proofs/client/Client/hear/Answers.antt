@@ -4,12 +4,12 @@ use Rattle.exchange_defs.specs.Operations.{Op}
 use Rattle.exchange_defs.specs.ClientStep.{hear_after}
 use Rattle.client_choice.specs.declared.finding.Attached.{Attached}
 use Rattle.client_table.proofs.Losing.{whole}
-use Rattle.client_attached.specs.declared.opened.Opened.{Opened}
-use Rattle.client_attached.specs.Known.{ShowsOpened}
-use Rattle.client_attached.specs.Opens.{FitsOpens, ShowsAttached}
-use Rattle.client_gone.specs.Ascending.{Ascends}
-use Rattle.client_submitting.specs.Marked.{ShowsMarks}
-use Rattle.client_submitting.specs.Whole.{ShowsWhole}
+use Rattle.client_pushing.specs.ClientAttached.declared.opened.Opened.{Opened}
+use Rattle.client_pushing.specs.ClientAttached.Known.{ShowsOpened}
+use Rattle.client_pushing.specs.ClientAttached.Opens.{FitsOpens, ShowsAttached}
+use Rattle.client_replies.specs.ClientGone.Ascending.{Ascends}
+use Rattle.client_creating.specs.ClientSubmitting.Marked.{ShowsMarks}
+use Rattle.client_creating.specs.ClientSubmitting.Whole.{ShowsWhole}
 use Rattle.client_core.specs.Shown.{FitsAll}
 use Rattle.client_core.proofs.Around.{fits_changed, hear_op, marks_moved}
 use Rattle.client_core.proofs.client.Client.hear.Goals as goal

@@ -5,7 +5,7 @@ use Rattle.operation_rows.proofs.Walking.{positive}
 use Rattle.client_marks.specs.Marks.{IsHighest}
 use Rattle.client_opens.specs.declared.opening.Open.{Open}
 use Rattle.client_replies.proofs.Heard.{not_below, not_zero}
-use Rattle.client_submitting.specs.Marked.{IsMarkedAt}
+use Rattle.client_creating.specs.ClientSubmitting.Marked.{IsMarkedAt}
 use Rattle.client_core.proofs.client.Client.last_of.Goals as goal
 
 pub returns-then-index-eq0 : goal.returns-then-index-eq0

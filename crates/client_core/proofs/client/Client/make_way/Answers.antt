@@ -1,7 +1,7 @@
 use Rattle.std.proofs.Common.{◌≡◌, ℕ, ◌+◌, ◌<◌, ◌^◌, List, length, sym, subst, arith}
 use Rattle.operation_rows.specs.declared.row.Row.{Row}
-use Rattle.client_taking.specs.Taken.{KeepsOrBegins}
-use Rattle.client_joining.proofs.Stood.{on_ok}
+use Rattle.client_creating.specs.ClientTaking.Taken.{KeepsOrBegins}
+use Rattle.client_creating.proofs.ClientJoining.Stood.{on_ok}
 use Rattle.client_core.specs.Shown.{FitsAll}
 use Rattle.client_core.proofs.Around.{fits_around, same_places, shows_around}
 use Rattle.client_core.proofs.FirstRow.{fits_begun, shows_begun}

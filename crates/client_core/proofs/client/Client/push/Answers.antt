@@ -3,13 +3,13 @@ use Rattle.std.proofs.lemmas.Grind.{common_steps}
 use Rattle.exchange_defs.specs.Operations.{Op}
 use Rattle.client_choice.specs.declared.finding.Attached.{Attached}
 use Rattle.client_table.proofs.Losing.{whole}
-use Rattle.client_attached.specs.Opens.{FitsOpens, ShowsAttached}
+use Rattle.client_pushing.specs.ClientAttached.Opens.{FitsOpens, ShowsAttached}
 use Rattle.client_pushing.specs.Acts.{chosen_with, pushed_by}
-use Rattle.client_submitting.specs.Marked.{ShowsMarks}
-use Rattle.client_submitting.specs.Whole.{ShowsWhole}
+use Rattle.client_creating.specs.ClientSubmitting.Marked.{ShowsMarks}
+use Rattle.client_creating.specs.ClientSubmitting.Whole.{ShowsWhole}
 use Rattle.client_core.specs.Shown.{FitsAll}
 use Rattle.client_core.proofs.Around.{fits_changed, marks_moved}
-use Rattle.client_core.proofs.Pushed.{push_op}
+use Rattle.client_core.proofs.StillAsked.{push_op}
 use Rattle.client_core.proofs.client.Client.push.Goals as goal
 
 pub push-requires : goal.push-requires

@@ -1,8 +1,8 @@
 use Rattle.exchange_defs.specs.Client.{Client}
 use Rattle.exchange_defs.specs.ClientStep.{ready_after}
-use Rattle.client_attached.specs.Known.{ShowsOpened}
-use Rattle.client_attached.specs.Opens.{ShowsAttached}
-use Rattle.client_submitting.specs.Marked.{ShowsMarks}
+use Rattle.client_pushing.specs.ClientAttached.Known.{ShowsOpened}
+use Rattle.client_pushing.specs.ClientAttached.Opens.{ShowsAttached}
+use Rattle.client_creating.specs.ClientSubmitting.Marked.{ShowsMarks}
 use Rattle.client_core.proofs.Around.{fits_around, ready_any, same_places, shows_around}
 use Rattle.client_core.proofs.client.Client.ready.Goals as goal
 

@@ -7,8 +7,8 @@ use Rattle.operation_rows.specs.declared.row.Row.{Row}
 use Rattle.operation_rows.specs.Rows.{row_at}
 use Rattle.client_marks.specs.Marks.{is_create_kind}
 use Rattle.client_table.proofs.Ready.{on_err}
-use Rattle.client_joining.proofs.Onto.{clash, next_is}
-use Rattle.client_submitting.specs.Whole.{ShowsWhole}
+use Rattle.client_creating.proofs.ClientJoining.Onto.{clash, next_is}
+use Rattle.client_creating.specs.ClientSubmitting.Whole.{ShowsWhole}
 use Rattle.client_core.proofs.FirstRow.{kept_or_begun}
 use Rattle.client_core.proofs.client.Client.submit.Goals as goal
 

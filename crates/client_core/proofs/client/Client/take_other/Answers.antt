@@ -8,7 +8,7 @@ use Rattle.client_choice.specs.declared.finding.Attached.{Attached}
 use Rattle.client_opens.specs.declared.opening.Open.{Open}
 use Rattle.client_table.proofs.Losing.{whole}
 use Rattle.client_table.proofs.Ready.{on_err}
-use Rattle.client_submitting.specs.Whole.{FitsWhole, ShowsWhole}
+use Rattle.client_creating.specs.ClientSubmitting.Whole.{FitsWhole, ShowsWhole}
 use Rattle.client_core.specs.Shown.{FitsAll}
 use Rattle.client_core.proofs.Higher.{ascends_one, highest_within, same_ascends}
 use Rattle.client_core.proofs.client.Client.take_other.Goals as goal

@@ -1,0 +1,1 @@
+pub use Rattle.client_attached.specs as ClientAttached

@@ -1,0 +1,1 @@
+pub use Rattle.server_restart.specs as ServerRestart

@@ -1,0 +1,1 @@
+pub use Rattle.server_recording.specs as ServerRecording
