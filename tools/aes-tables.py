@@ -8,6 +8,7 @@ and 5.1.3), with row 0 in the lowest byte; entry i of the last four is the S-box
 round. The prover compares each entry with the definition."""
 
 import os
+import sys
 
 TOP = os.path.join(os.path.dirname(os.path.abspath(__file__)), "..")
 TARGET = os.path.join(TOP, "crates", "aes_block", "src", "tables.rt")
@@ -40,6 +41,8 @@ def entry(table, s):
 
 
 def main():
+    if len(sys.argv) > 1:
+        sys.exit(__doc__)
     sboxes = [substituted(i) for i in range(256)]
     lines = [
         "// Written by tools/aes-tables.py.",

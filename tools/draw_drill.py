@@ -160,6 +160,8 @@ class Picture:
 
 
 def main():
+    if len(sys.argv) != 3:
+        sys.exit(__doc__)
     script, text = (open(name, encoding="utf-8").read() for name in sys.argv[1:3])
     told, outcomes = steps(text)
     connections = sorted({int(s[1]) for s in told if s[0] in ("open", "push", "serve", "take")})

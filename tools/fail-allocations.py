@@ -87,8 +87,10 @@ def came_about(program, said, due):
     """what came about where an allocation failed, and whether that is right"""
     if said == due:
         return "all is answered as with memory", True
+    if said[-1].endswith(("memory ran out", "another than is due")):
+        return "given up", True
     if len(said) != len(due):
-        return "no start, or given up: " + said[0], True
+        return "no start: " + said[0], True
     lacking = [i for i, word in enumerate(said) if word == "Memory"]
     if len(lacking) != 1:
         return "other answers: %s" % said, False
@@ -118,4 +120,4 @@ def main(program):
 
 
 if __name__ == "__main__":
-    sys.exit(main(*sys.argv[1:]) if len(sys.argv) == 2 else __doc__)
+    sys.exit(main(*sys.argv[1:]) if len(sys.argv) == 2 and sys.argv[1] != "--help" else __doc__)

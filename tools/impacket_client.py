@@ -9,6 +9,9 @@ import io
 import os
 import sys
 
+if len(sys.argv) != 6:
+    sys.exit(__doc__)
+
 from impacket import smb3, smb3structs, smbconnection
 from impacket.smb3structs import SMB2_DIALECT_311
 

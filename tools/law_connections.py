@@ -9,8 +9,8 @@ Run `rt tidy` and `rt fmt` in the crate behind it: it writes all imports into ea
 import re
 
 from law_text import (
-    bound, fields, held, kept_part, lemma, low_name, named_in, names, narrowed, premised, proofs_of, sentence,
-    standing, step, type_name, write_list, write_module, write_wanted,
+    fields, kept_part, low_name, named_in, names, narrowed, part_lemma, premised, proofs_of, sentence, standing,
+    step, type_name, write_list, write_module, write_wanted,
 )
 
 TOP = proofs_of("exchange_law")
@@ -305,12 +305,9 @@ def emit(event):
         term = event.parts.get(part) or default(part)
         parts = [part] + sorted(named_in("i", term) - {part})
         needs = narrowed(event.needs, re.sub(r"\bi\.\w+", "", term))
-        premises = premised(needs) + held(parts, ARGUMENTS)
         goal = type_name(part) + " " + " ".join(state[w] for w in arguments.split())
-        given = variables + [n for n, _ in needs]
-        name = "%s_%s" % (low, part)
-        out.append(lemma(name, over, premises, goal, " ".join(given + ["i_" + q for q in parts]), bound("i", term)))
-        calls[part] = " ".join([name] + given + ["i." + q for q in parts])
+        text, calls[part] = part_lemma("%s_%s" % (low, part), over, variables, needs, [("i", parts, ARGUMENTS)], goal, term)
+        out.append(text)
     words = " ".join(variables + [n for n, _ in event.needs] + ["i"])
     out.append(step(low + "_keeps", over, premised(event.needs), "Connections c conns a",
         "Connections %s %s %s" % (event.c, event.conns, event.a), words))

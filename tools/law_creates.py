@@ -10,8 +10,8 @@ Run `rt tidy` and `rt fmt` in the crate behind it: it writes all imports into ea
 import re
 
 from law_text import (
-    bound, fields, held, kept_part, lemma, low_name, named_in, names, narrowed, premised, proofs_of, quantifies,
-    sentence, standing, step, type_name, write_list, write_module, write_wanted,
+    fields, kept_part, low_name, named_in, names, narrowed, part_lemma, premised, proofs_of, quantifies, sentence,
+    standing, step, type_name, write_list, write_module, write_wanted,
 )
 
 TOP = proofs_of("create_law")
@@ -470,13 +470,10 @@ def emit(event):
         fits = sorted(named_in("f", term))
         bare = re.sub(r"\b[if]\.\w+", "", term)
         needs = narrowed(event.needs, bare, lambda name, wanted: quantifies(name, wanted) or wanted.startswith("Restarts"))
-        premises = premised(needs) + held(parts, ARGUMENTS) + held(fits, FIT)
         goal = type_name(part) + " " + " ".join(state[w] for w in arguments.split())
-        given = variables + [n for n, _ in needs]
-        name = "%s_%s" % (low, part)
-        out.append(lemma(name, over, premises, goal,
-            " ".join(given + ["i_" + q for q in parts] + ["f_" + q for q in fits]), bound("f", bound("i", term))))
-        calls[part] = " ".join([name] + given + ["i." + q for q in parts] + ["f." + q for q in fits])
+        records = [("i", parts, ARGUMENTS), ("f", fits, FIT)]
+        text, calls[part] = part_lemma("%s_%s" % (low, part), over, variables, needs, records, goal, term)
+        out.append(text)
     fit = any("f." in call for call in calls.values())
     premises = premised(event.needs) + ("Connections c conns a → " if fit else "")
     words = " ".join(variables + [n for n, _ in event.needs] + (["f"] if fit else []) + ["i"])

@@ -10,7 +10,7 @@ import re
 
 from law_locks_before import BEFORE
 from law_text import (
-    bound, fields, held, kept_part, lemma, low_name, named_in, names, narrowed, premised, proofs_of, sentence,
+    bound, fields, kept_part, low_name, named_in, names, narrowed, part_lemma, premised, proofs_of, sentence,
     standing, step, type_name, write_list, write_module, write_wanted,
 )
 
@@ -750,13 +750,10 @@ def emit(event):
         mine = [part] + sorted(named_in("i", term) - {part})
         lower = sorted(named_in("C", term))
         needs = narrowed(event.needs, re.sub(r"\b[iC]\.\w+", "", term))
-        premises = premised(needs) + held(lower, C_PARTS) + held(mine, ARGUMENTS)
         goal = type_name(part) + " " + " ".join(state[w] for w in arguments.split())
-        given = variables + [n for n, _ in needs]
-        name = "%s_%s" % (low_name(event.name), part)
-        out.append(lemma(name, over, premises, goal,
-            " ".join(given + ["C_" + q for q in lower] + ["i_" + q for q in mine]), bound("C", bound("i", term))))
-        calls[part] = " ".join([name] + given + ["C." + q for q in lower] + ["i." + q for q in mine])
+        records = [("C", lower, C_PARTS), ("i", mine, ARGUMENTS)]
+        text, calls[part] = part_lemma("%s_%s" % (low_name(event.name), part), over, variables, needs, records, goal, term)
+        out.append(text)
     uses_c = any("C." in call for call in calls.values())
     premises = premised(event.needs) + ("Connections c conns a → " if uses_c else "")
     words = " ".join(variables + [n for n, _ in event.needs] + (["C"] if uses_c else []) + ["i"])

@@ -11,8 +11,8 @@ import os
 import re
 
 from law_text import (
-    bound, fields, held, kept_part, lemma, low_name, named_in, names, narrowed, premised, proofs_of, quantifies,
-    sentence, step, type_name, write_list, write_module, write_wanted,
+    fields, kept_part, low_name, named_in, names, narrowed, part_lemma, premised, proofs_of, quantifies, sentence,
+    step, type_name, write_list, write_module, write_wanted,
 )
 
 TOP = proofs_of("session_law")
@@ -275,12 +275,9 @@ def emit(event):
         used = named_in("i", term)
         parts = ([part] if part in used else []) + sorted(used - {part})
         needs = narrowed(event.needs, re.sub(r"\bi\.\w+", "", term), lambda name, wanted: name == "none" or quantifies(name, wanted))
-        premises = premised(needs) + held(parts, ARGUMENTS)
         goal = type_name(part) + " " + " ".join(state[w] for w in arguments.split())
-        given = variables + [n for n, _ in needs]
-        name = "%s_%s" % (low, part)
-        out.append(lemma(name, over, premises, goal, " ".join(given + ["i_" + q for q in parts]), bound("i", term)))
-        calls[part] = " ".join([name] + given + ["i." + q for q in parts])
+        text, calls[part] = part_lemma("%s_%s" % (low, part), over, variables, needs, [("i", parts, ARGUMENTS)], goal, term)
+        out.append(text)
     words = " ".join(variables + [n for n, _ in event.needs] + ["i"])
     out.append(step(low + "_keeps", over, premised(event.needs), "Sessions c conns s",
         "Sessions %s %s %s" % (event.c, event.conns, event.s), words))

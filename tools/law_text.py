@@ -76,6 +76,18 @@ def lemma(name, state, premises, goal, words, term):
     return "%s : %s → %s%s\n%s %s =\n    %s\n\n" % (name, state, premises, goal, name, words, term)
 
 
+def part_lemma(name, state, variables, needs, records, goal, term):
+    """the lemma by which a step keeps one part, and its call; `records` are those from which the proof takes parts: a letter, the
+    parts, and what each speaks of"""
+    given = variables + [need for need, _ in needs]
+    premises = premised(needs) + "".join(held(parts, arguments) for _, parts, arguments in records)
+    taken = [(letter, part) for letter, parts, _ in records for part in parts]
+    for letter, _, _ in records:
+        term = bound(letter, term)
+    text = lemma(name, state, premises, goal, " ".join(given + ["%s_%s" % it for it in taken]), term)
+    return text, " ".join([name] + given + ["%s.%s" % it for it in taken])
+
+
 def step(name, state, premises, record, behind, words):
     """the beginning of what keeps a whole record; `fields` ends it"""
     return "pub %s : %s → %s%s → %s\n%s %s =\n    record {\n" % (name, state, premises, record, behind, name, words)

@@ -10,6 +10,8 @@ import struct
 import sys
 import time
 
+if len(sys.argv) != 4:
+    sys.exit(__doc__)
 PORT, COUNT, SECONDS = int(sys.argv[1]), int(sys.argv[2]), float(sys.argv[3])
 
 

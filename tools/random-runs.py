@@ -83,6 +83,8 @@ def script(chance, length):
 
 
 def main():
+    if len(sys.argv) != 5:
+        sys.exit(__doc__)
     seed, count, length, folder = int(sys.argv[1]), int(sys.argv[2]), int(sys.argv[3]), sys.argv[4]
     top = os.path.dirname(os.path.dirname(os.path.abspath(__file__)))
     copy = os.path.join(folder, "random")

@@ -193,6 +193,8 @@ def try_change(copy, change, decide):
 
 def main():
     words = sys.argv[1:]
+    if len(words) < 2 and words != ["--texts"]:
+        sys.exit(__doc__)
     if words == ["--texts"]:
         check_texts()
         return
