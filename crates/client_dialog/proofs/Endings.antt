@@ -1,5 +1,5 @@
 -- A logon that ends: its channel is bound, or its session accepted, whose TREE_CONNECT goes out.
-use Rattle.std.proofs.Common.{◌≡◌, ℕ, ◌≤◌, nat_lt, Bool, true, false, ◌||◌, if◌then◌else◌, List, [], length}
+use Rattle.std.proofs.Common.{◌≡◌, ℕ, ◌≤◌, nat_lt, Bool, true, false, ◌||◌, List, [], length}
 use Rattle.std.proofs.Common.{Some, None, Result, Ok, Err, IfOk, refl, sym, ap, subst, ◌∙◌, arith}
 use Rattle.std.specs.Prelude.{is_some}
 use Rattle.command_defs.specs.BodyOf.{body_of, tree_connect_value}

@@ -1,5 +1,5 @@
 -- What events come to in the model.
-use Rattle.std.proofs.Common.{◌≡◌, ℕ, ◌==◌, nat_lt, ◌&&◌, not, Bool, true, false, if◌then◌else◌, refl, sym, ap, ◌∙◌, subst}
+use Rattle.std.proofs.Common.{◌≡◌, ℕ, ◌==◌, nat_lt, ◌&&◌, Bool, true, false, if◌then◌else◌, refl, sym, ap, ◌∙◌, subst}
 use Rattle.exchange_defs.specs.Client.{Client, ends_at_cut, leave_dialog}
 use Rattle.exchange_defs.specs.ClientStep.{Act, ClientEvent, CloseChannels, Nothing, act, becomes_ready, client_after, cut_act, hear_act, hear_after}
 use Rattle.exchange_defs.specs.ClientStep.{last_number, ready_after}

@@ -5,7 +5,7 @@ use Rattle.watch_lists.specs.declared.Link.{Link as Watch}
 use Rattle.exchange_defs.specs.Operations.{is_lock}
 use Rattle.exchange_defs.specs.Client.{Client, create_for}
 use Rattle.operation_rows.specs.declared.row.Row.{Row}
-use Rattle.operation_rows.specs.Rows.{row_at, kind, owner}
+use Rattle.operation_rows.specs.Rows.{row_at, kind}
 use Rattle.operation_rows.specs.Slots.{slot_at}
 use Rattle.client_marks.specs.Marks.{is_lock_kind}
 use Rattle.client_rows.specs.Shown.{ShowsRows}

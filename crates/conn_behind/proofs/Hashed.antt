@@ -1,5 +1,5 @@
 -- Which bytes of a request are hashed.
-use Rattle.std.proofs.Common.{◌≡◌, ℕ, ◌==◌, ◌≤◌, Bool, true, List, Option, Some, None, sym, ap, subst, ◌∙◌}
+use Rattle.std.proofs.Common.{◌≡◌, ℕ, ◌==◌, ◌≤◌, Bool, true, List, None, sym, ap, subst, ◌∙◌}
 use Rattle.session_defs.specs.declared.material.Keys.{Keys}
 use Rattle.wire_defs.specs.declared.header.Header.{Header}
 use Rattle.world_defs.specs.Hearing as hearing

@@ -1,7 +1,7 @@
 -- A message that goes its way, by what its event gives.
-use Rattle.std.proofs.Common.{◌≡◌, ℕ, ◌+◌, ◌==◌, ◌≤◌, ◌<◌, Bool, true, false, not}
+use Rattle.std.proofs.Common.{◌≡◌, ℕ, ◌+◌, ◌==◌, ◌<◌, Bool, true, false, not}
 use Rattle.std.proofs.Common.{◌||◌, if◌then◌else◌, List, [], ◌∷◌, ◌++◌, length, Option, Some, None}
-use Rattle.std.proofs.Common.{Result, Ok, Err, refl, sym, ap, subst, ◌∙◌, append-nil, append_assoc, arith}
+use Rattle.std.proofs.Common.{Result, Ok, Err, refl, sym, ap, ◌∙◌, append-nil}
 use Rattle.std.specs.Prelude.{is_some}
 use Rattle.wire_defs.specs.declared.header.Header.{Header}
 use Rattle.wire_defs.specs.Bare.{bare_fault}
@@ -10,7 +10,6 @@ use Rattle.exchange_defs.specs.State as model
 use Rattle.exchange_defs.specs.Status.{no_memory}
 use Rattle.exchange_defs.specs.Network.{answer_to}
 use Rattle.command_defs.specs.CommandOf.{Told, echo_status, heard_as}
-use Rattle.credit_defs.specs.Window.{after_grant}
 use Rattle.world_defs.specs.Settings.{ServerSettings}
 use Rattle.world_defs.specs.Ends.{ServerEnd, Logons}
 use Rattle.world_defs.specs.Hearing as hearing
@@ -27,15 +26,14 @@ use Rattle.conn_served.specs.declared.error.ServeError.{ServeError}
 use Rattle.conn_served.specs.declared.error.ServeError.TheVariants as errors
 use Rattle.conn_frames.specs.declared.checked.Checked.{Checked}
 use Rattle.conn_frames.specs.declared.checked.CheckedFrame.{CheckedFrame}
-use Rattle.conn_frames.proofs.Headers.{one_number}
 use Rattle.conn_carried.specs.Carrying.{Carries, carry_of}
 use Rattle.conn_carried.specs.declared.related.Carry.{Carry}
 use Rattle.conn_served.specs.declared.serve.Reply.{Reply}
 use Rattle.conn_served.specs.Replies.{acts, lacks, some_acted, some_lacked}
 use Rattle.conn_served.specs.Serving.{Showing}
-use Rattle.conn_said.specs.Replying.{IsSaidTo, aside_status, said_aside}
+use Rattle.conn_said.specs.Replying.{aside_status, said_aside}
 use Rattle.conn_heard.proofs.Events.{with_event, of_cancel, of_negotiate, of_echo}
-use Rattle.conn_dealt.specs.Dealing.{Alone, GivesReply, LosesReply, listed, takes, taken_records}
+use Rattle.conn_dealt.specs.Dealing.{GivesReply, LosesReply, takes, taken_records}
 use Rattle.conn_dealt.specs.SoFar.{DealtSoFar}
 use Rattle.conn_dealt.specs.declared.dealing.Dealt.{Dealt}
 use Rattle.conn_dealt.proofs.Plainly.{no_token}

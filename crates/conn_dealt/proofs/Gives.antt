@@ -1,14 +1,11 @@
 -- What an event of a message gives, by what it asks of the server.
-use Rattle.std.proofs.Common.{◌≡◌, ℕ, ◌==◌, ◌+◌, ◌-◌, ◌≤◌, Bool, true, false, not, ◌&&◌, if◌then◌else◌, List, [], ◌++◌, length, take, drop}
-use Rattle.std.proofs.Common.{Option, Some, None, Result, Ok, Err, ◌⊎◌, inl, inr, refl, sym, ap, subst, ◌∙◌, arith}
+use Rattle.std.proofs.Common.{◌≡◌, ℕ, ◌==◌, ◌+◌, ◌-◌, Bool, true, false, not, ◌&&◌, List, [], ◌++◌}
+use Rattle.std.proofs.Common.{Option, Some, None, Result, Err, ◌⊎◌, inl, inr, refl, sym, ap, subst, ◌∙◌}
 use Rattle.std.specs.Prelude.{is_some}
-use Rattle.std.proofs.lemmas.List.{append-nil, length-take-le}
+use Rattle.std.proofs.lemmas.List.{append-nil}
 use Rattle.wire_defs.specs.declared.header.Header.{Header}
-use Rattle.wire_defs.specs.Bare.{bare_fault}
 use Rattle.exchange_defs.specs.Commands as asks
 use Rattle.exchange_defs.specs.State as model
-use Rattle.exchange_defs.specs.Network.{answer_to}
-use Rattle.command_defs.specs.CommandOf.{heard_as, echo_status}
 use Rattle.token_defs.specs.Acceptor.{User}
 use Rattle.world_defs.specs.Settings.{ServerSettings}
 use Rattle.world_defs.specs.Ends.{ServerEnd, Logons}
@@ -28,7 +25,7 @@ use Rattle.conn_said.specs.Replying as replying
 use Rattle.conn_heard.specs.Asking.{IsEvent, IsOwn, IsTold}
 use Rattle.conn_heard.specs.declared.hearing.Told.{Told}
 use Rattle.conn_heard.proofs.Events.{with_event, of_cancel, of_negotiate, of_echo}
-use Rattle.conn_dealt.specs.Dealing.{Answer, GivesBy, GivesFor, GivesIf}
+use Rattle.conn_dealt.specs.Dealing.{GivesFor, GivesIf}
 use Rattle.conn_dealt.proofs.Plainly.{plain_gives}
 use Rattle.conn_dealt.proofs.Setting.{setup_gives}
 

@@ -7,7 +7,6 @@ use Rattle.wire_defs.specs.declared.header.Span.{Span}
 use Rattle.world_defs.specs.Hearing as hearing
 use Rattle.world_defs.specs.Related.{Carry, Turn, Goes, Fails, turn_of, failed_as, file_place, with_file, with_file_at, with_ids}
 use Rattle.conn_frames.specs.declared.checked.Checked.{Checked}
-use Rattle.conn_frames.specs.declared.checked.CheckedFrame.{CheckedFrame}
 use Rattle.conn_frames.specs.Checking.{IsDenied, ShowsGoing, message_in}
 use Rattle.conn_carried.specs.Carrying.{Inherits, IsCarried}
 

@@ -1,7 +1,6 @@
 -- The replies to some messages, and to one more.
 use Rattle.std.proofs.Common.{◌≡◌, ℕ, Bool, true, false, List, [], ◌∷◌, ◌++◌, Option}
-use Rattle.std.proofs.Common.{Some, None, Result, Ok, Err, refl, sym, ap, subst, ◌∙◌}
-use Rattle.std.proofs.lemmas.List.{append-nil}
+use Rattle.std.proofs.Common.{Some, None, Result, refl, sym, subst}
 use Rattle.credit_defs.specs.Window.{HeldIds, after_grant}
 use Rattle.world_defs.specs.Settings.{ServerSettings}
 use Rattle.world_defs.specs.Ends.{ServerEnd}

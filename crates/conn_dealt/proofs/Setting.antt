@@ -1,25 +1,22 @@
 -- What a SESSION_SETUP's event gives.
 use Rattle.std.proofs.Common.{◌≡◌, ℕ, ◌==◌, ◌+◌, ◌-◌, ◌≤◌, Bool, true, false}
-use Rattle.std.proofs.Common.{if◌then◌else◌, List, [], ◌++◌, length, take, drop, length-drop}
-use Rattle.std.proofs.Common.{Option, Some, None, Result, Ok, Err, ◌⊎◌, inl, inr, refl, sym, ap, subst, ◌∙◌, arith}
+use Rattle.std.proofs.Common.{if◌then◌else◌, List, ◌++◌, length, take, drop, length-drop}
+use Rattle.std.proofs.Common.{Some, None, Result, Ok, Err, ◌⊎◌, inl, inr, refl, sym, ap, subst, ◌∙◌, arith}
 use Rattle.std.proofs.lemmas.List.{length-take-le}
 use Rattle.wire_defs.specs.declared.header.Header.{Header}
 use Rattle.exchange_defs.specs.Commands as asks
 use Rattle.exchange_defs.specs.State as model
 use Rattle.exchange_defs.specs.Table.{put}
 use Rattle.exchange_defs.specs.Network.{answer_to}
-use Rattle.exchange_defs.specs.Step.{step}
 use Rattle.command_defs.specs.ReplyBody.{reply_body}
 use Rattle.credit_defs.specs.Window.{granted}
 use Rattle.session_defs.specs.Chain.{chain}
 use Rattle.session_defs.specs.Derivation.{keys_of, bound_keys}
 use Rattle.session_defs.specs.declared.material.Keys.{Keys}
-use Rattle.session_defs.specs.declared.material.Signer.{Signer}
 use Rattle.token_defs.specs.Acceptor.{User}
 use Rattle.world_defs.specs.Settings.{ServerSettings}
 use Rattle.world_defs.specs.Ends.{ServerEnd, Logons, chosen_on}
 use Rattle.world_defs.specs.Hearing as hearing
-use Rattle.world_defs.specs.Related.{file_place}
 use Rattle.world_defs.specs.Answering as answering
 use Rattle.world_defs.specs.Connection.{keys_said, said_to}
 use Rattle.world_defs.specs.Logon as logon

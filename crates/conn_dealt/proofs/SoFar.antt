@@ -1,24 +1,20 @@
 -- The events of the first messages of a frame, and of one more.
-use Rattle.std.proofs.Common.{◌≡◌, ℕ, ◌+◌, ◌==◌, ◌≤◌, ◌<◌, Bool, true, false, not}
-use Rattle.std.proofs.Common.{◌||◌, if◌then◌else◌, List, [], ◌∷◌, ◌++◌, length, take, Option, Some}
-use Rattle.std.proofs.Common.{None, Result, Ok, Err, slice_get, ◌⊎◌, inl, inr, refl}
-use Rattle.std.proofs.Common.{sym, ap, subst, ◌∙◌, append-nil, append_assoc, length-append, arith}
+use Rattle.std.proofs.Common.{◌≡◌, ℕ, ◌+◌, ◌==◌, ◌<◌, Bool, true, false}
+use Rattle.std.proofs.Common.{if◌then◌else◌, List, [], ◌∷◌, ◌++◌, length, take, Option, Some}
+use Rattle.std.proofs.Common.{None, Result, slice_get, ◌⊎◌, inl, inr, refl}
+use Rattle.std.proofs.Common.{sym, ap, subst, ◌∙◌, append-nil, length-append, arith}
 use Rattle.std.specs.Prelude.{is_some}
 use Rattle.std.proofs.lemmas.Option.{slice_get_within}
-use Rattle.wire_defs.specs.Bare.{bare_fault}
 use Rattle.exchange_defs.specs.Commands as asks
 use Rattle.exchange_defs.specs.State as model
-use Rattle.exchange_defs.specs.Status.{no_memory}
-use Rattle.exchange_defs.specs.Network.{answer_to}
-use Rattle.command_defs.specs.CommandOf.{echo_status}
 use Rattle.credit_defs.specs.Window.{after_grant}
 use Rattle.world_defs.specs.Settings.{ServerSettings}
 use Rattle.world_defs.specs.Ends.{ServerEnd, Logons}
 use Rattle.world_defs.specs.Hearing as hearing
 use Rattle.world_defs.specs.Answering as answering
 use Rattle.world_defs.specs.Related as related
-use Rattle.world_defs.specs.Related.{Fails, turn_of, failed_as}
-use Rattle.world_defs.specs.Connection.{Taken, said_failed, said_to, taken_with}
+use Rattle.world_defs.specs.Related.{failed_as}
+use Rattle.world_defs.specs.Connection.{said_failed}
 use Rattle.world_defs.specs.Mishaps.{Mishap, Owned}
 use Rattle.world_defs.specs.Notes.{has_acted}
 use Rattle.conn_served.specs.declared.error.ServeError.{ServeError}
@@ -28,8 +24,8 @@ use Rattle.conn_frames.specs.declared.checked.CheckedFrame.{CheckedFrame}
 use Rattle.conn_frames.specs.Checking.{AreInOrder, ShowsGoing}
 use Rattle.conn_carried.specs.Carrying.{SameOthers}
 use Rattle.conn_served.specs.declared.serve.Reply.{Reply}
-use Rattle.conn_served.specs.Replies.{acts, lacks, some_acted, some_lacked}
-use Rattle.conn_said.specs.Replying.{AreSaid, FailRightly, FailsAt}
+use Rattle.conn_served.specs.Replies.{some_acted, some_lacked}
+use Rattle.conn_said.specs.Replying.{AreSaid, FailsAt}
 use Rattle.conn_dealt.specs.Dealing.{SameCommands, taken_records}
 use Rattle.conn_dealt.specs.declared.dealing.Dealt.{Dealt}
 use Rattle.conn_dealt.proofs.Lists.{checked_within, going_on, last_checked, last_message, was_there}

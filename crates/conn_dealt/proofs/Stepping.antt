@@ -1,5 +1,5 @@
 -- One message in its turn.
-use Rattle.std.proofs.Common.{◌≡◌, ℕ, ◌+◌, ◌==◌, ◌≤◌, ◌<◌, Bool, true, false, not}
+use Rattle.std.proofs.Common.{◌≡◌, ℕ, ◌+◌, ◌==◌, ◌≤◌, ◌<◌, Bool, true, false}
 use Rattle.std.proofs.Common.{◌||◌, if◌then◌else◌, List, [], ◌∷◌, ◌++◌, length, take, drop, Option}
 use Rattle.std.proofs.Common.{Some, None, Result, Ok, Err, slice_get, refl, sym, ap, subst, ◌∙◌, append-nil, append_assoc, arith}
 use Rattle.std.proofs.lemmas.List.{take-append-drop}
@@ -18,7 +18,7 @@ use Rattle.world_defs.specs.Negotiate.{negotiate_status}
 use Rattle.world_defs.specs.Connection as connection
 use Rattle.world_defs.specs.Connection.{Going, heard_message, said_failed}
 use Rattle.world_defs.specs.Given.{has_event}
-use Rattle.world_defs.specs.Mishaps.{Mishap, Halts, Lacks, Owned, LeaveAll, owned_all, owning}
+use Rattle.world_defs.specs.Mishaps.{Halts, Lacks, Owned, LeaveAll, owned_all, owning}
 use Rattle.conn_served.specs.declared.error.ServeError.{ServeError}
 use Rattle.conn_served.specs.declared.error.ServeError.TheVariants as errors
 use Rattle.conn_ends.specs.declared.end.ConnEnd.{ConnEnd}
@@ -26,16 +26,15 @@ use Rattle.conn_ends.specs.declared.end.ConnEnd.TheVariants as ends
 use Rattle.conn_ends.specs.declared.end.ConnEnd.TheVariants.{Stopped}
 use Rattle.conn_frames.specs.declared.checked.Checked.{Checked}
 use Rattle.conn_frames.specs.declared.checked.CheckedFrame.{CheckedFrame}
-use Rattle.conn_frames.specs.Checking.{AreInOrder, ShowsGoing, message_in}
-use Rattle.conn_frames.proofs.Headers.{one_number}
+use Rattle.conn_frames.specs.Checking.{ShowsGoing, message_in}
 use Rattle.conn_carried.specs.Carrying.{Carries, Inherits, IsCarried, SameOthers, carry_of}
 use Rattle.conn_carried.specs.declared.related.Carry.{Carry}
 use Rattle.conn_served.specs.declared.serve.Reply.{Reply}
 use Rattle.conn_served.specs.Replies.{some_acted, some_lacked}
 use Rattle.conn_served.specs.Serving.{Showing}
 use Rattle.conn_said.specs.Replying.{FailsAt, aside_status}
-use Rattle.conn_heard.proofs.Events.{of_cancel, of_negotiate, of_echo, with_event}
-use Rattle.conn_dealt.specs.Dealing.{AddsTo, Alone, Answer, Dealing, GivesFor, GivesIf, LosesOne, LosesReply}
+use Rattle.conn_heard.proofs.Events.{of_negotiate, of_echo, with_event}
+use Rattle.conn_dealt.specs.Dealing.{AddsTo, Alone, Answer, GivesFor, GivesIf, LosesOne, LosesReply}
 use Rattle.conn_dealt.specs.Dealing.{listed, lost_in, stop_in, takes}
 use Rattle.conn_dealt.specs.Written.{WriteAll}
 use Rattle.conn_dealt.specs.SoFar.{Begins, DealtSoFar, Steps, with_mishaps}
@@ -43,7 +42,7 @@ use Rattle.conn_dealt.specs.declared.dealing.Dealt.{Dealt}
 use Rattle.conn_dealt.proofs.Cases.{answered, beside, cancelled, lacking, lost_to, no_cancel, one_heard}
 use Rattle.conn_dealt.proofs.Keeping.{failed_keeps, fails_as, goes_as, goes_keeps, no_success, shows_new}
 use Rattle.conn_dealt.proofs.Lists.{checked_within}
-use Rattle.conn_dealt.proofs.SoFar.{failed, moved, one_more}
+use Rattle.conn_dealt.proofs.SoFar.{failed, one_more}
 use Rattle.conn_dealt.proofs.Turns.{all_done, all_left, begins_on, behind_answer, behind_failed, behind_lack, behind_none, behind_stop}
 use Rattle.conn_dealt.proofs.Turns.{halts, none_left, none_written}
 use Rattle.conn_dealt.proofs.Turns.{turn_answered, turn_aside, turn_failed, turn_lacks, turn_none, turn_stops}

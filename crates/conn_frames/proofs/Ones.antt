@@ -1,5 +1,5 @@
 -- One message, admitted in its turn or not.
-use Rattle.std.proofs.Common.{◌≡◌, ℕ, ◌==◌, Bool, not, ◌&&◌, List, Option, Some, None, Result, Ok, Err, sym, subst}
+use Rattle.std.proofs.Common.{◌≡◌, ℕ, Bool, not, ◌&&◌, List, Option, Some, None, Ok, Err, sym, subst}
 use Rattle.exchange_defs.specs.Commands.{has_bit}
 use Rattle.wire_defs.specs.Header.{SpellsHeader}
 use Rattle.wire_defs.specs.declared.header.Header.{Header}

@@ -1,7 +1,7 @@
 -- A sealed frame that is opened where it stands.
 use Rattle.std.proofs.Common.{◌≡◌, ℕ, ◌<◌, ◌≤◌, ◌==◌, nat_le, Bool, true, false, not, ◌&&◌, if◌then◌else◌}
 use Rattle.std.proofs.Common.{List, drop, take, length, arith}
-use Rattle.std.proofs.Common.{Option, Some, None, Result, Ok, Err, refl, sym, ap, subst, ◌∙◌}
+use Rattle.std.proofs.Common.{Option, Some, None, Ok, Err, refl, sym, ap, subst, ◌∙◌}
 use Rattle.session_defs.specs.declared.material.Keys.{Keys}
 use Rattle.session_defs.specs.declared.error.SealError.{SealError}
 use Rattle.session_defs.specs.declared.error.SealError.TheVariants.{NotSealed, BadTag}

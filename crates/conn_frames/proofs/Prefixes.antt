@@ -1,6 +1,6 @@
 -- One message more in front of what is due of the rest.
-use Rattle.std.proofs.Common.{◌≡◌, ℕ, Bool, true, false, ◌||◌, if◌then◌else◌, List, [], ◌∷◌, ◌++◌, Option, Some, None}
-use Rattle.std.proofs.Common.{Result, Ok, Err, refl, sym, ap, ◌∙◌}
+use Rattle.std.proofs.Common.{◌≡◌, Bool, true, false, ◌||◌, List, [], ◌∷◌, ◌++◌, Option, Some, None}
+use Rattle.std.proofs.Common.{Result, Ok, Err, refl, ap}
 use Rattle.world_defs.specs.Ends as ends
 use Rattle.world_defs.specs.Messages.{Heard}
 use Rattle.world_defs.specs.Hearing as hearing

@@ -1,17 +1,15 @@
 -- The places that a reader of a frame's messages tells, as the messages that the definitions have.
 use Rattle.std.proofs.Common.{◌≡◌, ℕ, zero, suc, ◌+◌, ◌-◌, ◌≤◌, ◌%◌, ◌==◌, nat_le, Bool, true, false, not, ◌&&◌}
 use Rattle.std.proofs.Common.{if◌then◌else◌}
-use Rattle.std.proofs.Common.{List, [], ◌∷◌, ◌++◌, take, drop, length, map, min, length-drop, Option, Some, None, option_map}
+use Rattle.std.proofs.Common.{List, [], ◌∷◌, ◌++◌, take, drop, length, length-drop, Option, Some, None, option_map}
 use Rattle.std.proofs.Common.{refl, sym, ap, subst, ◌∙◌, arith}
 use Rattle.std.proofs.lemmas.List.{take_all, drop-drop, drop-take, take-take, length-take-le}
 use Rattle.wire_defs.specs.Places.{number, number_of, bytes_at}
-use Rattle.wire_defs.specs.Header.{SpellsHeader}
 use Rattle.wire_defs.specs.Compound.{LeadsOn, IsJoined, AreJoined, IsLast, SpellsCompound, BreaksAt, BreaksCompound}
-use Rattle.wire_defs.specs.declared.header.Header.{Header}
 use Rattle.wire_defs.specs.declared.header.Span.{Span}
 use Rattle.wire_defs.specs.declared.error.HeaderError.{HeaderError}
 use Rattle.wire_defs.specs.declared.error.HeaderError.TheVariants as errors
-use Rattle.world_defs.specs.Messages.{Heard, has_header, heard_in, leads_on, messages_from, messages_in}
+use Rattle.world_defs.specs.Messages.{has_header, heard_in, leads_on, messages_from, messages_in}
 use Rattle.conn_frames.specs.Checking.{bytes_of, heard_at, AreMessages, InOrder}
 use Rattle.conn_frames.proofs.Headers.{not_true, both, and_front, and_back, at_least, is_least, same_number, one_number, other_number}
 use Rattle.conn_frames.proofs.Headers.{has, next_is, whole_of, heads, begins_of, size_of, headless}

@@ -1,5 +1,5 @@
 -- Which messages the definitions hear with an event: all but NEGOTIATE, ECHO and CANCEL.
-use Rattle.std.proofs.Common.{◌≡◌, ℕ, ◌==◌, Bool, true, false, if◌then◌else◌, List, Option, Some, None, refl, ap, ◌∙◌}
+use Rattle.std.proofs.Common.{◌≡◌, ℕ, ◌==◌, Bool, true, false, if◌then◌else◌, List, Some, None, refl, ap}
 use Rattle.wire_defs.specs.declared.header.Header.{Header}
 use Rattle.wire_defs.specs.Bare.{bare_fault}
 use Rattle.exchange_defs.specs.Commands as asks

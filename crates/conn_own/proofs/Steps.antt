@@ -1,6 +1,6 @@
 -- What take_frame tells, where the step is the connection's own.
 use Rattle.std.proofs.Common.{◌≡◌, ℕ, Bool, true, false, not, ◌&&◌, if◌then◌else◌, List, ◌++◌}
-use Rattle.std.proofs.Common.{Option, Some, None, Result, Ok, Err, ◌⊎◌, inl, inr}
+use Rattle.std.proofs.Common.{Option, Some, None, Result, Ok, Err}
 use Rattle.std.proofs.Common.{refl, sym, ap, subst, ◌∙◌}
 use Rattle.std.specs.Prelude.{is_some}
 use Rattle.exchange_defs.specs.State as model
@@ -9,7 +9,7 @@ use Rattle.world_defs.specs.Settings.{ServerSettings}
 use Rattle.world_defs.specs.Ends as ends
 use Rattle.world_defs.specs.Ends.{ServerEnd, Logons}
 use Rattle.world_defs.specs.Hearing.{check_frame}
-use Rattle.world_defs.specs.Connection.{ConnectionStep, Taken as WasTaken, connection_step}
+use Rattle.world_defs.specs.Connection.{ConnectionStep, connection_step}
 use Rattle.world_defs.specs.Given.{GivenStep}
 use Rattle.world_defs.specs.Mishaps.{owned_step}
 use Rattle.world_defs.specs.Notes as notes
@@ -23,8 +23,8 @@ use Rattle.conn_core.specs.ConnDealt.Written.{AreWritten}
 use Rattle.conn_core.specs.ConnAnswers.Replying.{EndsAs, Goes}
 use Rattle.conn_core.specs.declared.end.Ended.{Ended}
 use Rattle.conn_core.specs.declared.taking.Taken.{Taken}
-use Rattle.conn_core.specs.Taking.{EndsAt, EndsBy, IsLeft, IsOwned, Takes, TakesOn, note_of}
-use Rattle.conn_own.specs.Own.{IsOwnAnswer, IsOwnEnd, TakesOwn, goes_by, is_own_end, is_own_result}
+use Rattle.conn_core.specs.Taking.{EndsAt, EndsBy, IsLeft, IsOwned, Takes}
+use Rattle.conn_own.specs.Own.{IsOwnEnd, TakesOwn, goes_by, is_own_end, is_own_result}
 
 -- ---- the step
 

@@ -6,7 +6,6 @@ use Rattle.wire_defs.specs.Bare.{bare_fault}
 use Rattle.command_defs.specs.CommandOf.{echo_status}
 use Rattle.credit_defs.specs.Window.{HeldIds, after_grant}
 use Rattle.session_defs.specs.declared.material.Keys.{Keys}
-use Rattle.session_defs.specs.declared.material.Signer.{Signer}
 use Rattle.world_defs.specs.Settings.{ServerSettings}
 use Rattle.world_defs.specs.Negotiate.{negotiate_status}
 use Rattle.world_defs.specs.Ends.{ServerEnd}
@@ -21,7 +20,7 @@ use Rattle.conn_ends.specs.declared.conn.Progress.TheVariants.{Stays, Interim, F
 use Rattle.conn_frames.specs.declared.checked.Checked.{Checked}
 use Rattle.conn_served.specs.declared.serve.Reply.{Reply}
 use Rattle.conn_sealing.specs.Saying.{AreProgressKeys, MovesAs}
-use Rattle.conn_said.specs.Replying.{AreSaid, AreSound, FailRightly, FailsAt, IsAnswered, IsSaidTo, IsSound, Later, Says, SetsUp, SettlesBy}
+use Rattle.conn_said.specs.Replying.{AreSaid, AreSound, FailRightly, FailsAt, IsAnswered, IsSound, Later, Says, SetsUp, SettlesBy}
 use Rattle.conn_said.specs.Replying.{aside_status, said_aside}
 
 settles_by : (p : Progress) (s : answering.Said) (c : hearing.Checked) → MovesAs p s → SetsUp p c → AreProgressKeys p → s.request ≡ c

@@ -1,5 +1,5 @@
 -- A server that answers goes on.
-use Rattle.std.proofs.Common.{◌≡◌, ℕ, Bool, List, ◌++◌, Option, Some, None, Result, Ok, Err, sym, ◌∙◌}
+use Rattle.std.proofs.Common.{◌≡◌, ℕ, Bool, List, Option, Result, Ok, Err, sym, ◌∙◌}
 use Rattle.token_defs.specs.Acceptor.{User}
 use Rattle.exchange_defs.specs.State as model
 use Rattle.world_defs.specs.Ends.{Logons}

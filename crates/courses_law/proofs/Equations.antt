@@ -1,5 +1,5 @@
 -- The cases of the program's choices over bytes, as equations by the test that each makes.
-use Rattle.std.proofs.Common.{◌≡◌, ℕ, ◌+◌, ◌==◌, Bool, true, false, not, ◌&&◌, ◌||◌, length, refl, Some, None, suc}
+use Rattle.std.proofs.Common.{◌≡◌, ℕ, ◌==◌, Bool, true, false, not, ◌&&◌, ◌||◌, length, refl, suc}
 use Rattle.exchange_defs.specs.Table.{is_filled}
 use Rattle.exchange_defs.specs.ClientStep.{some_unsettled}
 use Rattle.exchange_defs.specs.Schedules.{has_more, is_linking, last_refusal, least, is_apart}

@@ -1,5 +1,5 @@
 -- What each event that is no line of a script carries on, the program's own pushes, links and settles carry on too.
-use Rattle.std.proofs.Common.{◌≡◌, ℕ, ◌+◌, ◌*◌, ◌==◌, Bool, true, false, not, ◌&&◌, ◌||◌, length, refl, Option, Some, None, zero, suc}
+use Rattle.std.proofs.Common.{◌≡◌, ℕ, ◌+◌, ◌==◌, Bool, true, false, not, ◌&&◌, ◌||◌, length, refl, Option, Some, None, zero, suc}
 use Rattle.exchange_defs.specs.Table.{is_at, is_filled}
 use Rattle.exchange_defs.specs.Operations.{Refusal}
 use Rattle.exchange_defs.specs.ClientStep.{some_unsettled}

@@ -1,5 +1,5 @@
 -- A script without a forge and a flip comes to events of the network alone.
-use Rattle.std.proofs.Common.{◌≡◌, ℕ, ◌+◌, ◌*◌, true, false, List, [], ◌∷◌, ◌++◌, refl, sym, ◌∙◌, ap}
+use Rattle.std.proofs.Common.{◌≡◌, ◌+◌, ◌*◌, false, List, [], ◌∷◌, ◌++◌, refl, ◌∙◌, ap}
 use Rattle.exchange_defs.specs.Network.{Event}
 use Rattle.world_defs.specs.Courses.{Course, Line, Does, Forges, Flips, Pushes, Links as LinksLine, Settles, course, go, opening, went}
 use Rattle.world_defs.specs.Courses.{went_byte}

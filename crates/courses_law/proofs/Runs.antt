@@ -1,6 +1,6 @@
 -- The events of a course lead to its world.
-use Rattle.std.proofs.Common.{◌≡◌, ℕ, ◌+◌, ◌*◌, List, [], ◌∷◌, ◌++◌, refl, ◌∙◌, ap}
-use Rattle.world_defs.specs.Courses.{Course, Line, Does, Forges, Flips, Pushes, Links as LinksLine, Settles, course, go, opening, went, went_byte}
+use Rattle.std.proofs.Common.{◌≡◌, ◌+◌, ◌*◌, List, [], ◌∷◌, ◌++◌, refl, ◌∙◌, ap}
+use Rattle.world_defs.specs.Courses.{Course, Line, Does, Forges, Flips, Pushes, Links as LinksLine, Settles, course, go, opening, went_byte}
 use Rattle.world_defs.specs.Events.{ByteEvent, Plain, bytes_happen, bytes_run, bytes_start, flip, forge}
 use Rattle.world_defs.specs.Settings.{WorldSettings}
 use Rattle.world_defs.specs.World.{World}

@@ -6,7 +6,6 @@ use Rattle.exchange_defs.specs.Order.{order_of}
 use Rattle.exchange_defs.specs.Runs.{account}
 use Rattle.client_outcomes.specs.declared.outcome.Outcome.{Outcome}
 use Rattle.operation_values.specs.declared.values.OpKind.{OpKind}
-use Rattle.outcome_lines.specs.Text.{has_order}
 use Rattle.outcome_lines.specs.declared.orders.CreateOrder.{CreateOrder}
 use Rattle.drill_text.specs.Ordered.{AddsOrder, IsToldBy, ordered_in}
 use Rattle.drill_text.specs.Text.{order_at, orders_to}

@@ -1,7 +1,7 @@
 -- The model's names of a directory: ascending, and by key.
-use Rattle.std.proofs.Common.{◌≡◌, ◌⊎◌, inl, inr, ℕ, ◌+◌, ◌==◌, nat_lt, Bool, true, false, not, ◌&&◌, ◌||◌}
-use Rattle.std.proofs.Common.{if◌then◌else◌, List, [], ◌∷◌, ◌++◌, length, drop, Option, Some, None, is_some, option_map}
-use Rattle.std.proofs.Common.{refl, sym, ap, subst, ◌∙◌, arith}
+use Rattle.std.proofs.Common.{◌≡◌, ◌⊎◌, inl, inr, ℕ, ◌+◌, Bool, true, false, ◌&&◌}
+use Rattle.std.proofs.Common.{if◌then◌else◌, List, [], ◌∷◌, ◌++◌, Some, None}
+use Rattle.std.proofs.Common.{refl, sym, ap, ◌∙◌, arith}
 use Rattle.std.specs.Bool.{⊤}
 use Rattle.std.proofs.lemmas.Grind.{common_steps}
 use Rattle.std.proofs.lemmas.List.{append_assoc}
@@ -9,20 +9,18 @@ use Rattle.std.proofs.lemmas.Cmp.{nat_list_cmp_total}
 use Rattle.std.proofs.lemmas.Map.Text.{is_eq-slice_cmp}
 use Rattle.std.specs.declared.cmp.Ordering.{Ordering}
 use Rattle.std.specs.declared.cmp.Ordering.TheVariants.{Less, Equal, Greater}
-use Rattle.std.specs.Ordering.{is_lt, is_eq, nat_cmp, ordering_reverse}
+use Rattle.std.specs.Ordering.{is_lt, is_eq, ordering_reverse}
 use Rattle.std.specs.Str.{bytes_eq}
-use Rattle.std.specs.Cmp.Lexicographic.{slice_cmp, nat_list_eq_equiv}
-use Rattle.exchange_defs.specs.State.{Server, Entry, Named}
-use Rattle.exchange_defs.specs.Texts.{same_name, parent_from, parent_of, leaf_from, leaf_of, is_component, begins_with_backslash}
-use Rattle.exchange_defs.specs.Files.{info_of}
-use Rattle.exchange_defs.specs.Listing.{rank, listed_before, insert_named, children}
-use Rattle.file_store.specs.Shown.{folded, below_key, at_key, path_at, Apart}
+use Rattle.std.specs.Cmp.Lexicographic.{nat_list_eq_equiv}
+use Rattle.exchange_defs.specs.State.{Named}
+use Rattle.exchange_defs.specs.Texts.{same_name, parent_of, leaf_of, begins_with_backslash}
+use Rattle.exchange_defs.specs.Listing.{rank, listed_before, insert_named}
+use Rattle.file_store.specs.Shown.{folded, below_key}
 use Rattle.file_store.proofs.Keys.{same_name_is}
 use Rattle.file_store.proofs.Entries.{bytes_same}
 use Rattle.file_store.proofs.Children.{has_slash, before_is, parent_is, leaf_is, parent_whole, leaf_whole}
 use Rattle.file_store.proofs.Housed.{has_slash_in, last_slash, cut_before, folded_append, slash_folded}
 use Rattle.file_store.proofs.Carried.{fronts_cancel}
-use Rattle.file_store.proofs.Plain.{component_rank}
 use Rattle.file_store.proofs.Sorted.{key_cmp, key_of, named, AllAfter, Ascends, less_after}
 
 iff : (b c : Bool) → (b ≡ true → c ≡ true) → (c ≡ true → b ≡ true) → b ≡ c

@@ -2,24 +2,23 @@
 use Rattle.std.proofs.Common.{◌≡◌, ℕ, zero, suc, ◌+◌, ◌*◌, ◌/◌, ◌<◌, ◌≤◌, ◌==◌, nat_le, nat_lt, Bool, true, false, not}
 use Rattle.std.proofs.Common.{◌&&◌, ◌||◌, if◌then◌else◌, List, [], ◌∷◌, ◌++◌, map, Option, Some, None, refl, sym, ap}
 use Rattle.std.proofs.Common.{◌∙◌, arith}
-use Rattle.std.proofs.lemmas.Grind.{common_steps}
 use Rattle.std.proofs.lemmas.Bool.Decides.{nat_tests}
 use Rattle.std.proofs.lemmas.List.{append-nil, append_assoc}
 use Rattle.std.specs.Str.{bytes_eq}
 use Rattle.exchange_defs.specs.State.{Server, Named}
 use Rattle.exchange_defs.specs.Table.{is_filled}
 use Rattle.exchange_defs.specs.Content.{same_bytes}
-use Rattle.exchange_defs.specs.Texts.{parent_of, utf16_length, name_before}
+use Rattle.exchange_defs.specs.Texts.{parent_of, name_before}
 use Rattle.exchange_defs.specs.Files.{find, info_of, path_of}
 use Rattle.exchange_defs.specs.Listing.{accepts, rank, listed_before, is_behind, fitting, first_of_them, one_or_all}
-use Rattle.exchange_defs.specs.Listing.{entry_size, entry_part, next_multiple, parent_file, all_named, children, wanted}
+use Rattle.exchange_defs.specs.Listing.{entry_size, next_multiple, parent_file, all_named, children, wanted}
 use Rattle.file_store.specs.declared.list.Entry.{Entry}
 use Rattle.file_store.specs.declared.list.Asked.{Asked}
 use Rattle.file_store.specs.declared.list.Taken.{Taken}
 use Rattle.file_store.specs.declared.list.Stage.{Stage}
 use Rattle.file_store.specs.declared.list.Stage.TheVariants.{Nothing, More, Full}
 use Rattle.file_store.specs.Listed.{model_named, fitting_of, given_at, given, any_at, is_full, stage_behind, Ends}
-use Rattle.file_store.specs.Listed.{EndsIn, with_accepted, with_dot, with_dots, listing_refusal}
+use Rattle.file_store.specs.Listed.{with_accepted, with_dot, with_dots, listing_refusal}
 
 -- ---- at the end
 

@@ -1,11 +1,10 @@
 -- A walk along the index takes the names of a directory, one after another.
-use Rattle.std.proofs.Common.{◌≡◌, ℕ, ◌+◌, ◌*◌, ◌==◌, nat_eq, nat_le, Bool, true, false, not, ◌&&◌, ◌||◌, if◌then◌else◌}
-use Rattle.std.proofs.Common.{List, [], ◌∷◌, ◌++◌, length, map, drop, String, Option, Some, None, is_some, option_map}
-use Rattle.std.proofs.Common.{refl, sym, ap, subst, ◌∙◌, arith}
+use Rattle.std.proofs.Common.{◌≡◌, ℕ, Bool, true, false, not, ◌&&◌, if◌then◌else◌}
+use Rattle.std.proofs.Common.{List, [], ◌∷◌, length, drop, String, Option, Some}
+use Rattle.std.proofs.Common.{refl, ap, arith}
 use Rattle.std.specs.Bool.{⊤}
 use Rattle.std.proofs.lemmas.Grind.{common_steps}
 use Rattle.std.proofs.lemmas.Bool.Decides.{nat_tests}
-use Rattle.std.proofs.lemmas.List.{append-nil, append_assoc}
 use Rattle.std.specs.String.{string_bytes, string_cmp}
 use Rattle.std.specs.Ordering.{is_le, is_gt, nat_cmp}
 use Rattle.std.specs.declared.cmp.Ordering.{Ordering}
@@ -14,11 +13,10 @@ use Rattle.std.specs.declared.ops.Bound.TheVariants.{Included, Unbounded}
 use Rattle.std.specs.BTreeMap.Range.{entries_between}
 use Rattle.std.specs.Cmp.Lexicographic.{slice_cmp}
 use Rattle.exchange_defs.specs.State.{Named}
-use Rattle.exchange_defs.specs.Listing.{accepts}
 use Rattle.file_store.specs.Keys.{begins, key_le, has_slash}
-use Rattle.file_store.specs.Listed.{accepted, from_key, is_child, kids}
-use Rattle.file_store.proofs.Order.{front_le, front_between}
-use Rattle.file_store.proofs.Pairs.{at_text, AreLater, InOrder, AreFrom}
+use Rattle.file_store.specs.Listed.{from_key, kids}
+use Rattle.file_store.proofs.Order.{front_between}
+use Rattle.file_store.proofs.Pairs.{AreLater, AreFrom}
 
 le_is : (o : Ordering) → (is_le o && true) ≡ not (is_gt o)
 le_is Less = refl

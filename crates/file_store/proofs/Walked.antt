@@ -1,33 +1,29 @@
 -- The names of a directory among the keys of the index are the model's children.
-use Rattle.std.proofs.Common.{◌≡◌, ◌⊎◌, inl, inr, ℕ, ◌+◌, ◌==◌, nat_lt, Bool, true, false, not, ◌&&◌, ◌||◌, cond}
-use Rattle.std.proofs.Common.{if◌then◌else◌, List, [], ◌∷◌, ◌++◌, length, drop, String, Option, Some, None, is_some}
-use Rattle.std.proofs.Common.{option_map, unwrap_or, refl, sym, ap, subst, ◌∙◌, arith}
+use Rattle.std.proofs.Common.{◌≡◌, ℕ, ◌+◌, ◌==◌, nat_lt, Bool, true, false, not, ◌&&◌, cond}
+use Rattle.std.proofs.Common.{if◌then◌else◌, List, [], ◌∷◌, ◌++◌, length, drop, String, Option, Some, None}
+use Rattle.std.proofs.Common.{option_map, refl, sym, ap, subst, ◌∙◌, arith}
 use Rattle.std.specs.Bool.{⊤}
 use Rattle.std.proofs.lemmas.Grind.{common_steps}
 use Rattle.std.proofs.lemmas.Bool.Decides.{nat_tests}
-use Rattle.std.proofs.lemmas.List.{append-nil, append_assoc}
 use Rattle.std.proofs.lemmas.Map.Text.{is_eq-slice_cmp}
-use Rattle.std.proofs.lemmas.Cmp.{nat_list_cmp_total}
 use Rattle.std.specs.declared.cmp.Ordering.{Ordering}
-use Rattle.std.specs.declared.cmp.Ordering.TheVariants.{Less, Equal, Greater}
-use Rattle.std.specs.Ordering.{is_lt, is_eq, is_gt, nat_cmp, ordering_reverse}
+use Rattle.std.specs.Ordering.{is_lt, is_eq, is_gt, nat_cmp}
 use Rattle.std.specs.String.{string_bytes}
 use Rattle.std.specs.Str.{bytes_eq}
 use Rattle.std.specs.Cmp.Lexicographic.{slice_cmp, nat_list_eq_equiv}
 use Rattle.exchange_defs.specs.State.{Server, Entry, Named}
-use Rattle.exchange_defs.specs.Texts.{same_name, parent_of, leaf_of, is_component, begins_with_backslash}
-use Rattle.exchange_defs.specs.Files.{info_of, path_in, path_of}
+use Rattle.exchange_defs.specs.Texts.{same_name, parent_of, leaf_of, begins_with_backslash}
+use Rattle.exchange_defs.specs.Files.{info_of, path_in}
 use Rattle.exchange_defs.specs.Listing.{rank, listed_before, insert_named, children, is_behind, accepts, wanted}
-use Rattle.file_store.specs.Shown.{folded, below_key, at_key, path_at, Apart, AllPlain}
+use Rattle.file_store.specs.Shown.{folded, at_key, path_at, Apart, AllPlain}
 use Rattle.file_store.specs.Keys.{begins, key_le, has_slash}
 use Rattle.file_store.specs.Listed.{accepted, start_key, from_key, is_child, kids, named_of}
-use Rattle.file_store.proofs.Keys.{same_name_is, path_is}
 use Rattle.file_store.proofs.Entries.{bytes_same, bytes_turned}
 use Rattle.file_store.proofs.Children.{leaf_slash}
 use Rattle.file_store.proofs.Carried.{fronts_cancel}
 use Rattle.file_store.proofs.Plain.{component_rank}
 use Rattle.file_store.proofs.Housed.{slash_folded}
-use Rattle.file_store.proofs.Sorted.{key_cmp, key_of, named, AllAfter, Ascends, less_after, same_names}
+use Rattle.file_store.proofs.Sorted.{key_cmp, key_of, named, AllAfter, Ascends, same_names}
 use Rattle.file_store.proofs.Kids.{front_of, child_is, AllRanked, inserted_ranked, inserted_ascends, inserted_named}
 use Rattle.file_store.proofs.Kids.{before_ranked, same_bytes}
 use Rattle.file_store.proofs.Pairs.{at_text, AreLater, InOrder}

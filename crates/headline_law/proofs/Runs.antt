@@ -1,15 +1,14 @@
 -- The laws on runs, on the run of a script.
 use Rattle.std.proofs.Common.{◌≡◌, ℕ, ◌<◌, ◌^◌, List, sym, subst, ◌∙◌, ap}
-use Rattle.courses_law.specs.Courses.{AreHonest, CourseRuns, CoursesAreShort, PlainCoursesArePlain, count_lines, course_of}
+use Rattle.courses_law.specs.Courses.{CourseRuns, CoursesAreShort, PlainCoursesArePlain, count_lines, course_of}
 use Rattle.courses_law.specs.Courses.{restarts_of, submits_of}
 use Rattle.exchange_defs.specs.Network as network
 use Rattle.exchange_defs.specs.Statements.{BytesNow, ExactlyOnce, NeverAfterNewer, Newer, OneConnection, OneConnections}
-use Rattle.wire_facts.specs.Fitting.{IsFitting}
 use Rattle.wire_facts.specs.Steps.{StepLaw, restarts_in, submits_in}
 use Rattle.world_defs.specs.Courses.{Line}
 use Rattle.world_defs.specs.Events.{ByteEvent, bytes_run, bytes_start}
 use Rattle.world_defs.specs.Settings.{WorldSettings, values_of}
-use Rattle.world_defs.specs.Statements.{IsInStep, Negotiated, Negotiation, plain_run, plainly, value_events}
+use Rattle.world_defs.specs.Statements.{Negotiated, Negotiation, plain_run, plainly, value_events}
 use Rattle.world_defs.specs.World.{World}
 use Rattle.headline_law.specs.Headline.{ActsOnce, Headline, IsCounted}
 

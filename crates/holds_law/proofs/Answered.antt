@@ -1,5 +1,5 @@
 -- What an event that was carried out answers, behind its body or where the disk failed.
-use Rattle.std.proofs.Common.{◌≡◌, ◌⊎◌, inl, ℕ, ◌+◌, List, ◌++◌, Err, None, sym, ap, subst, ◌∙◌}
+use Rattle.std.proofs.Common.{◌≡◌, inl, ℕ, ◌+◌, List, Err, None, sym, ap, subst, ◌∙◌}
 use Rattle.command_values.specs.Meaning.{reply_of}
 use Rattle.exchange_defs.specs.Records.{entry_bytes}
 use Rattle.exchange_defs.specs.State as model

@@ -1,5 +1,5 @@
 -- What the laws say, on which a server's hold of its state rests.
-use Rattle.std.proofs.Common.{◌≡◌, ◌≤◌, ℕ, ◌+◌, true, List, ◌++◌, subst}
+use Rattle.std.proofs.Common.{◌≡◌, ℕ, ◌+◌, true, List, ◌++◌, subst}
 use Rattle.exchange_defs.specs.Fold.{fold}
 use Rattle.exchange_defs.specs.Records.{entry_bytes}
 use Rattle.exchange_defs.specs.State as model

@@ -1,5 +1,5 @@
 -- What an event answers that found no memory: the state is as before, or one open has expired alone.
-use Rattle.std.proofs.Common.{◌≡◌, ◌⊎◌, inr, ℕ, ◌+◌, List, ◌++◌, Some, None, refl, sym, ap, subst, ◌∙◌}
+use Rattle.std.proofs.Common.{◌≡◌, inr, ℕ, ◌+◌, List, ◌++◌, Some, None, refl, sym, ap, subst, ◌∙◌}
 use Rattle.std.proofs.Common.{nat_le, false, true}
 use Rattle.exchange_defs.specs.Records.{entry_bytes, fits}
 use Rattle.exchange_defs.specs.State as model

@@ -1,17 +1,16 @@
 -- A response to NEGOTIATE that reads, and what it comes to.
-use Rattle.std.proofs.Common.{◌≡◌, ℕ, ◌==◌, Bool, true, false, not, ◌&&◌, if◌then◌else◌, List, length, Option, Some, None}
+use Rattle.std.proofs.Common.{◌≡◌, ℕ, Bool, true, false, ◌&&◌, List, length, Option, Some, None}
 use Rattle.std.proofs.Common.{IfOk, Result, Ok, Err, refl, sym, ap, subst, ◌∙◌}
 use Rattle.std.specs.Prelude.{is_none}
 use Rattle.exchange_defs.specs.Operations.{Refusal, BadToken}
 use Rattle.msg_session.specs.declared.refusal.Refusal.{Refusal as DialogRefusal}
-use Rattle.client_outcomes.specs.Meaning.{refusal_of}
 use Rattle.session_defs.specs.declared.choice.Chosen.{Chosen}
 use Rattle.wire_defs.specs.Negotiate.{NegotiateResponseValue, negotiate_response_in, negotiate_response_fault}
 use Rattle.wire_defs.specs.Contexts.{contexts_in}
 use Rattle.wire_defs.specs.Offer.{OfferValue, first_of, ids_in, offer_fault, offer_in}
 use Rattle.wire_defs.specs.declared.refusal.CtxError.{CtxError}
 use Rattle.world_defs.specs.Settings.{ClientSettings}
-use Rattle.world_defs.specs.Dialog.{has_contexts, choice_fault, chosen_told, ciphers_told, hashes_told, signings_told, contexts_told}
+use Rattle.world_defs.specs.Dialog.{has_contexts, choice_fault, chosen_told, ciphers_told, hashes_told, signings_told}
 use Rattle.world_defs.specs.Dialog.{first_refusal, is_hint, unless}
 use Rattle.line_hearing.specs.Greeting.{Greets, Hints, choice_by, chosen_by, greeting_refusal}
 

@@ -12,7 +12,6 @@ use Rattle.world_defs.specs.Settings.{ClientSettings}
 use Rattle.world_defs.specs.Dialog.{due, is_dialogs, response_in}
 use Rattle.line_ends.specs.Shown.{token_of}
 use Rattle.line_ends.proofs.Headers.{long_of}
-use Rattle.client_outcomes.specs.Meaning.{refusal_of}
 use Rattle.msg_session.specs.declared.refusal.Refusal.{Refusal as DialogRefusal}
 use Rattle.line_judging.specs.Judging.{DueBy, IsDue, early, faults, judged}
 

@@ -1,5 +1,5 @@
 -- The faults of a response to TREE_CONNECT.
-use Rattle.std.proofs.Common.{◌≡◌, ℕ, ◌==◌, Bool, true, false, ◌&&◌, if◌then◌else◌, List, Option, Some, None, Result, Ok, Err}
+use Rattle.std.proofs.Common.{◌≡◌, ℕ, ◌==◌, Bool, true, false, ◌&&◌, if◌then◌else◌, List, Some, None, Result, Ok, Err}
 use Rattle.std.proofs.Common.{refl, sym, ap, ◌∙◌}
 use Rattle.std.specs.Prelude.{is_none}
 use Rattle.exchange_defs.specs.Client.{AskedTree}
@@ -15,9 +15,8 @@ use Rattle.line_judging.specs.Judging.{JudgesTree, SignsTree, answers_on, faults
 use Rattle.line_ends.specs.declared.config.ClientConfig.{ClientConfig}
 use Rattle.line_ends.specs.declared.line.Line.{Line}
 use Rattle.line_ends.specs.Shown.{ShowsSeals, settings_of}
-use Rattle.client_outcomes.specs.Meaning.{refusal_of}
 use Rattle.msg_session.specs.declared.refusal.Refusal.{Refusal as DialogRefusal}
-use Rattle.line_judging.proofs.Forms.{headed, judged_is}
+use Rattle.line_judging.proofs.Forms.{judged_is}
 
 by_front : (p q r body signed : Bool)
     → first_refusal (unless (p && (q && (r && body))) BadToken) (first_refusal (unless signed BadSignature) None)

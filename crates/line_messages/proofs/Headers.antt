@@ -1,9 +1,8 @@
 -- The header of a dialog's message.
-use Rattle.std.proofs.Common.{◌≡◌, ℕ, ◌+◌, ◌++◌, Bool, true, false, if◌then◌else◌, List, length, take, drop, replicate, sym, arith}
+use Rattle.std.proofs.Common.{◌≡◌, ℕ, ◌+◌, ◌++◌, Bool, true, false, List, length, take, drop, replicate, sym, arith}
 use Rattle.std.proofs.lemmas.List.{take_at}
 use Rattle.command_defs.specs.Tables.{bit_if}
 use Rattle.exchange_defs.specs.State.{Message}
-use Rattle.wire_defs.specs.declared.header.Header.{Header}
 use Rattle.world_defs.specs.Sending.{request_header}
 use Rattle.line_messages.specs.Dialogs.{IsDialogs}
 

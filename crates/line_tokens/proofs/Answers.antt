@@ -3,7 +3,7 @@ use Rattle.std.proofs.Common.{◌≡◌, ℕ, ◌^◌, ◌<◌, ◌≤◌, nat_l
 use Rattle.std.proofs.Common.{length, length-append, ap, arith, Some, None}
 use Rattle.std.proofs.lemmas.Bool.Decides.{nat_tests}
 use Rattle.token_defs.specs.Der.{length_bytes, spelled}
-use Rattle.token_defs.specs.Spnego.{octets_spelling, resp_fields_spelling, resp_spelling}
+use Rattle.token_defs.specs.Spnego.{octets_spelling, resp_spelling}
 use Rattle.token_defs.specs.Tokens.{answer_resp}
 use Rattle.world_defs.specs.Sending.{that_fits}
 

@@ -1,5 +1,5 @@
 -- How many links a net has accepted, as long as its count doesn't come to its end.
-use Rattle.std.proofs.Common.{◌≡◌, ℕ, ◌+◌, ◌-◌, ◌^◌, ◌<◌, ◌≤◌, min, arith, ◌∙◌, ap, sym, subst}
+use Rattle.std.proofs.Common.{◌≡◌, ℕ, ◌+◌, ◌-◌, ◌^◌, ◌<◌, ◌≤◌, min, arith, ◌∙◌, ap}
 use Rattle.std.proofs.Math.Nat.{min-eq_left}
 
 pub none_accepted : (old : ℕ) → old + 0 < 2 ^ 64 → old ≡ old + 0

@@ -1,9 +1,9 @@
 -- The type 3 of a response, with the MIC of the message without it, is the answer.
-use Rattle.std.proofs.Common.{◌≡◌, ℕ, ◌<◌, ◌^◌, nat_lt, Bool, true, false, ◌&&◌, if◌then◌else◌, List, ◌++◌, length}
-use Rattle.std.proofs.Common.{replicate, refl, ap, ◌∙◌, arith, Option, Some, None}
+use Rattle.std.proofs.Common.{◌≡◌, ℕ, ◌<◌, ◌^◌, nat_lt, Bool, true, false, ◌&&◌, List, ◌++◌, length}
+use Rattle.std.proofs.Common.{replicate, refl, ap, ◌∙◌, arith, Some, None}
 use Rattle.std.proofs.lemmas.Bool.Decides.{nat_tests}
 use Rattle.token_defs.specs.Formulas.{utf16, mic}
-use Rattle.token_defs.specs.Messages.{Type2Value, Type3Value, type3_spelling}
+use Rattle.token_defs.specs.Messages.{Type2Value, type3_spelling}
 use Rattle.token_defs.specs.Answer.{Credentials, answer_with, has_room, answer, temp_of, proof_of}
 use Rattle.token_defs.specs.Answer
 use Rattle.ntlmv2.specs.declared.answer.Response.{Response}

@@ -1,5 +1,5 @@
 -- What writers put one behind the other is what the definitions spell.
-use Rattle.std.proofs.Common.{◌≡◌, ℕ, ◌+◌, List, [], ◌∷◌, ◌++◌, length, replicate, append_assoc, refl}
+use Rattle.std.proofs.Common.{◌≡◌, ℕ, ◌+◌, List, [], ◌++◌, append_assoc, refl}
 use Rattle.wire_defs.specs.Places.{le}
 use Rattle.token_defs.specs.Pairs.{pair, end_pair}
 use Rattle.token_defs.specs.Acceptor.{large_name, small_name, server_info}

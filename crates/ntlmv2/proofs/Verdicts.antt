@@ -1,9 +1,9 @@
 -- The verdict on a type 3, case by case, and the challenge to a type 1 that doesn't read.
-use Rattle.std.proofs.Common.{◌≡◌, ℕ, Bool, true, false, not, ◌&&◌, ◌||◌, if◌then◌else◌, List, refl, Option, Some, None, Result, Ok, Err}
+use Rattle.std.proofs.Common.{◌≡◌, ℕ, Bool, true, false, not, ◌&&◌, ◌||◌, List, refl, Option, Some, Ok, Err}
 use Rattle.std.specs.Str.{bytes_eq}
 use Rattle.token_defs.specs.declared.ntlm.NtlmError.{NtlmError}
 use Rattle.token_defs.specs.declared.ntlm.NtlmError.TheVariants as ntlm
-use Rattle.token_defs.specs.declared.ntlm.LogonError.TheVariants.{NotAscii, UnknownUser, WrongProof, WrongMic}
+use Rattle.token_defs.specs.declared.ntlm.LogonError.TheVariants.{NotAscii, WrongProof, WrongMic}
 use Rattle.token_defs.specs.Formulas.{mic}
 use Rattle.token_defs.specs.Messages.{Type3Value, type1_in, type3_in}
 use Rattle.token_defs.specs.Acceptor.{User, challenge, is_ascii_utf16, user_named, proves, exported_key, owes_mic}

@@ -1,6 +1,6 @@
 -- A walk over pairs from the front: what the definitions say of all pairs, they say of those that are left.
-use Rattle.std.proofs.Common.{◌≡◌, ℕ, zero, suc, ◌+◌, ◌-◌, ◌<◌, ◌≤◌, ◌==◌, nat_lt, true, false, List, [], ◌∷◌, length}
-use Rattle.std.proofs.Common.{drop, length-drop, refl, arith, sym, ◌∙◌, ap, ◌⊎◌, inl, inr, Option, Some, None}
+use Rattle.std.proofs.Common.{◌≡◌, ℕ, zero, suc, ◌+◌, ◌-◌, ◌<◌, ◌≤◌, ◌==◌, nat_lt, true, false, List, length}
+use Rattle.std.proofs.Common.{drop, length-drop, refl, arith, ◌∙◌, inl, inr, Some, None}
 use Rattle.std.proofs.lemmas.Bool.Decides.{nat_tests}
 use Rattle.std.proofs.lemmas.List.{drop_all}
 use Rattle.wire_defs.specs.Places.{number, bytes_at}

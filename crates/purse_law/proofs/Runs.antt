@@ -1,23 +1,23 @@
 -- Each event of a run leaves the ends as they were, but for what it uses.
 use Rattle.std.proofs.lemmas.Bool.Decides.{nat_tests}
 use Rattle.std.proofs.lemmas.List.{append-nil, append_assoc}
-use Rattle.std.proofs.Common.{◌≡◌, ℕ, ◌+◌, ◌*◌, ◌^◌, ◌≤◌, ◌<◌, ◌==◌, nat_le, Bool, true, false, ◌&&◌, if◌then◌else◌, List, [], ◌∷◌, ◌++◌}
+use Rattle.std.proofs.Common.{◌≡◌, ℕ, ◌+◌, ◌*◌, ◌^◌, ◌≤◌, ◌<◌, nat_le, Bool, true, false, ◌&&◌, if◌then◌else◌, List, [], ◌∷◌, ◌++◌}
 use Rattle.std.proofs.Common.{length, refl, sym, ap, ◌∙◌, subst, arith, Option, Some, None}
-use Rattle.exchange_defs.specs.Table.{put, is_filled}
+use Rattle.exchange_defs.specs.Table.{is_filled}
 use Rattle.exchange_defs.specs.Client.{settle_no_slots}
 use Rattle.exchange_defs.specs.ClientStep.{Act, Pick, Nothing, CloseChannels, AllSettled, Pushes, act, client_after, pick_act, some_unsettled}
 use Rattle.exchange_defs.specs.Network.{Event, Submit, Open, Push, Serve, Take, Cut, Drop, Restart, Crash, Wait, Finish, Sent}
-use Rattle.exchange_defs.specs.Network.{is_possible, moments, may_serve, run, start}
+use Rattle.exchange_defs.specs.Network.{is_possible, moments, run}
 use Rattle.credit_defs.specs.Ids.{counted, outside}
 use Rattle.credit_defs.specs.Window.{HeldIds}
 use Rattle.credit_defs.specs.Exchange.{Line, FrontIsHeld, NothingIsRefused}
 use Rattle.server_law.proofs.Logic.{front_of}
-use Rattle.world_defs.specs.Settings.{WorldSettings, values_of}
+use Rattle.world_defs.specs.Settings.{WorldSettings}
 use Rattle.world_defs.specs.Ends.{ConnEnd}
 use Rattle.world_defs.specs.Sending.{may_seal}
 use Rattle.world_defs.specs.Connection.{ConnectionStep}
 use Rattle.world_defs.specs.World.{World, Wires, answered_wires, server_end_off, cost, cost_of, may_pay, paid}
-use Rattle.world_defs.specs.World.{opened_wires, fresh_wires, greeting_of, served_by, served_mutely, step_at, serve_frame, absorb_frame}
+use Rattle.world_defs.specs.World.{opened_wires, fresh_wires, greeting_of, served_by, step_at, serve_frame, absorb_frame}
 use Rattle.world_defs.specs.World.{restarted_wires}
 use Rattle.world_defs.specs.Events.{Plain, bytes_changed, bytes_later, bytes_happen, bytes_run, bytes_start}
 use Rattle.world_defs.specs.Statements.{plainly, plain_run, value_events}
@@ -30,7 +30,7 @@ use Rattle.plain_law.specs.Plain.{PlainRunsGoInStep}
 use Rattle.plain_law.proofs.Prefix.{restarts_part, submits_part}
 use Rattle.purse_law.specs.Purse.{StillChannelsHaveAll, pushes_in}
 use Rattle.purse_law.proofs.Windows.{IsFull, told_fills}
-use Rattle.purse_law.proofs.Ends.{IsGood, AreGood, Keeps, put_good, either, more_good, pushed_good, cut_good, take_good}
+use Rattle.purse_law.proofs.Ends.{IsGood, Keeps, put_good, either, more_good, pushed_good, cut_good, take_good}
 use Rattle.purse_law.proofs.Still.{held_low, has_all}
 
 -- ---- the front of what goes up

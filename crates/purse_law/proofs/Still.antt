@@ -1,19 +1,17 @@
 -- On a ready channel with nothing on its way, the client holds what the server's window does.
 use Rattle.std.proofs.lemmas.Bool.Decides.{nat_tests}
 use Rattle.std.proofs.Common.{◌≡◌, ℕ, ◌+◌, ◌-◌, ◌*◌, ◌^◌, ◌≤◌, ◌<◌, nat_lt, Bool, true, false, not, ◌&&◌, ◌||◌, ◌⊎◌, inl, inr}
-use Rattle.std.proofs.Common.{List, [], ◌∷◌, ◌++◌, length, length-append, sum, refl, sym, ap, ◌∙◌, subst, arith, Option}
+use Rattle.std.proofs.Common.{List, [], ◌∷◌, length, length-append, sum, refl, sym, ap, ◌∙◌, subst, arith, Option}
 use Rattle.exchange_defs.specs.Client.{Apart}
 use Rattle.exchange_defs.specs.Operations.{Op}
-use Rattle.exchange_defs.specs.Network.{Event, Sent, Received, Token, run, start}
+use Rattle.exchange_defs.specs.Network.{Event, Token, run, start}
 use Rattle.credit_defs.specs.Ids.{ids_from}
-use Rattle.credit_defs.specs.Window.{HeldIds}
 use Rattle.credit_defs.specs.Purse.{Credits}
 use Rattle.credit_defs.specs.Exchange.{Line, ids_on_their_way, IsBalanced, NothingIsRefused, first_line}
 use Rattle.session_defs.specs.declared.material.Keys.{Keys}
 use Rattle.session_defs.specs.Nonces.{last_counter}
 use Rattle.world_defs.specs.Settings.{WorldSettings, values_of}
-use Rattle.world_defs.specs.Ends.{ClientEnd, ServerEnd, Logons}
-use Rattle.world_defs.specs.Sending.{may_seal}
+use Rattle.world_defs.specs.Ends.{ServerEnd, Logons}
 use Rattle.world_defs.specs.World.{World}
 use Rattle.step_law.specs.Links.{AllAsked, AllAnswer, Reached, is_lined, IsTied}
 use Rattle.waiting_law.proofs.Due.{worlds_are_due}

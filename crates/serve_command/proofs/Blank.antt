@@ -2,7 +2,7 @@
 use Rattle.std.proofs.Common.{◌≡◌, ℕ, zero, suc, List, Option, None, Some, get_or, replicate, refl, sym, ap, ◌∙◌}
 use Rattle.shared_book.specs.declared.view.Entry.{Entry}
 use Rattle.shared_book.specs.declared.view.View.{View}
-use Rattle.server_run.specs.Serving.{AreServed, WasServed}
+use Rattle.server_run.specs.Serving.{AreServed}
 
 module _ {X : Type 0} where
   abbrev none : Option X

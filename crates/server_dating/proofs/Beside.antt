@@ -1,5 +1,5 @@
 -- What an answer has beside its reply, and what is kept of logons, by what was made ready (MS-SMB2 3.3.5.5.3).
-use Rattle.std.proofs.Common.{◌≡◌, ℕ, ◌+◌, Bool, false, true, if◌then◌else◌, List, length, Option, Some, None, is_some, refl, sym, ap, subst, ◌∙◌}
+use Rattle.std.proofs.Common.{◌≡◌, ℕ, ◌+◌, Bool, false, true, List, length, Option, Some, None, is_some, refl, sym, ap, subst, ◌∙◌}
 use Rattle.std.specs.Prelude.{⊤}
 use Rattle.exchange_defs.specs.State as model
 use Rattle.exchange_defs.specs.Step.{connection_of}

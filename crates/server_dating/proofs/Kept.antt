@@ -1,5 +1,5 @@
 -- What was prepared of an event stands on tables that show the state, and can be carried out with first deadlines.
-use Rattle.std.proofs.Common.{◌≡◌, ℕ}
+use Rattle.std.proofs.Common.{ℕ}
 use Rattle.exchange_defs.specs.State.{Accept, End, Heard, Message, Server, ServerEvent, Stop}
 use Rattle.exchange_defs.specs.Step.{Ruling, Says, TakesAllOut, TakesIn, TakesOut, TurnsAway, with_deadlines}
 use Rattle.exchange_defs.specs.Verdict.{Verdict}

@@ -1,5 +1,5 @@
 -- What a ruling says of a logon is so where it is the state's own with first deadlines, or stands in its place without room.
-use Rattle.std.proofs.Common.{◌≡◌, ◌⊎◌, inl, inr, ℕ, List, Bool, true, false, if◌then◌else◌, length, nat_le, Option, Some, None, refl, sym, ap, subst, ◌∙◌}
+use Rattle.std.proofs.Common.{◌≡◌, inl, inr, ℕ, List, Bool, true, false, if◌then◌else◌, length, nat_le, Option, Some, None, refl, sym, ap, subst, ◌∙◌}
 use Rattle.exchange_defs.specs.CheckCreate.{refused_by}
 use Rattle.exchange_defs.specs.Commands.{Durable}
 use Rattle.exchange_defs.specs.Check.{check}

@@ -1,5 +1,5 @@
 -- An event behind an open that was taken out: carried out, or the open comes back.
-use Rattle.std.proofs.Common.{◌≡◌, ℕ, ◌+◌, List, ◌++◌, sym, subst, ◌∙◌}
+use Rattle.std.proofs.Common.{◌≡◌, ℕ, List, sym, subst, ◌∙◌}
 use Rattle.exchange_defs.specs.State as model
 use Rattle.holds_law.proofs.Behind.{held_still, holds_shown}
 use Rattle.persist_journal.specs.Journal.{JournalState, OnlyRoom}

@@ -1,5 +1,5 @@
 -- What a commit comes to for the event: its answer with the state behind it, or the disk's failure.
-use Rattle.std.proofs.Common.{◌≡◌, ◌⊎◌, inl, inr, ℕ, ◌+◌, Bool, true, false, if◌then◌else◌, List, ◌++◌, Result, Ok, Err, OnOk, None, refl, sym, ap, subst, ◌∙◌}
+use Rattle.std.proofs.Common.{◌≡◌, inl, inr, ℕ, ◌+◌, Bool, true, false, if◌then◌else◌, List, ◌++◌, Result, Ok, Err, OnOk, None, refl, sym, ap, subst, ◌∙◌}
 use Rattle.exchange_defs.specs.Records.{fits}
 use Rattle.exchange_defs.specs.State as model
 use Rattle.exchange_defs.specs.Step.{Ruling, carried_out, event_answer, ruling, ruling_without_room, step, with_deadlines, written_down}

@@ -1,5 +1,5 @@
 -- What a crash at any moment of an event leaves.
-use Rattle.std.proofs.Common.{◌≡◌, ◌⊎◌, inl, inr, ℕ, ◌≤◌, List, [], ◌++◌, refl, sym, ap, subst, arith, ◌∙◌}
+use Rattle.std.proofs.Common.{◌≡◌, ◌⊎◌, inl, inr, ℕ, List, [], refl, sym, ap, subst, arith, ◌∙◌}
 use Rattle.exchange_defs.specs.State as model
 use Rattle.exchange_defs.specs.Step.{step}
 use Rattle.journal_defs.specs.Grammar.{StandsFor}

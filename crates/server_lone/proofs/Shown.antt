@@ -1,5 +1,5 @@
 -- The tables behind an expiry that stands alone.
-use Rattle.std.proofs.Common.{◌≡◌, ℕ, ◌==◌, Bool, true, false, if◌then◌else◌, Option, Some, None, arith, refl, sym, ap, subst, ◌∙◌}
+use Rattle.std.proofs.Common.{◌≡◌, ℕ, Bool, true, false, if◌then◌else◌, Option, Some, None, arith, refl, sym, subst, ◌∙◌}
 use Rattle.exchange_defs.specs.Files.{remove_file}
 use Rattle.exchange_defs.specs.Opens.{drop_open, goes, leave_open, pending_behind}
 use Rattle.exchange_defs.specs.State.{Server}

@@ -1,5 +1,5 @@
 -- Calls of a journal one behind the other.
-use Rattle.std.proofs.Common.{◌≡◌, inl, inr, ⊎_elim, ℕ, List, refl, ◌∙◌, arith}
+use Rattle.std.proofs.Common.{inl, inr, ⊎_elim, ℕ, List, refl, ◌∙◌, arith}
 use Rattle.journal_defs.specs.Moments.{LeavesOnly, Quiet}
 
 -- ---- runs of calls that only read

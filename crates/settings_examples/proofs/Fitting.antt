@@ -1,5 +1,5 @@
 -- The settings of a worked logon fit.
-use Rattle.std.proofs.Common.{◌≡◌, ℕ, ◌<◌, ◌++◌, true, List, [], ◌∷◌, length, IsUtf8, refl, arith}
+use Rattle.std.proofs.Common.{◌≡◌, ◌++◌, [], length, IsUtf8, refl, arith}
 use Rattle.std.specs.Str.{chars}
 use Rattle.std.proofs.lemmas.Str.{IsUtf8-nil}
 use Rattle.wire_defs.specs.Places.{le}

@@ -1,5 +1,5 @@
 -- The program's choices over bytes, as equations where they make no test.
-use Rattle.std.proofs.Common.{◌≡◌, ℕ, ◌+◌, ◌*◌, not, ◌&&◌, List, [], ◌∷◌, ◌++◌, length, refl, Option, Some, None, zero, suc}
+use Rattle.std.proofs.Common.{◌≡◌, ℕ, ◌+◌, ◌*◌, not, ◌&&◌, List, [], ◌∷◌, ◌++◌, length, refl, Some, None, zero, suc}
 use Rattle.exchange_defs.specs.Table.{is_at}
 use Rattle.exchange_defs.specs.Operations.{Refusal}
 use Rattle.exchange_defs.specs.Schedules.{hangs, is_orphan}
@@ -7,9 +7,8 @@ use Rattle.exchange_defs.specs.Network.{Event, Open, Cut, Drop, Finish}
 use Rattle.world_defs.specs.Courses.{Course, Line, Does, Pushes, Links, Settles, course, drain, drain_and_cut, drop_orphan, each, finished_after}
 use Rattle.world_defs.specs.Courses.{finished_by, go, link, linking, push_lowest, rounds, serve_all, served_all, settle_below, take_all, taken_all}
 use Rattle.world_defs.specs.Courses.{tidy, went, went_byte, went_if, went_push}
-use Rattle.world_defs.specs.Events.{ByteEvent, Plain, bytes_happen}
+use Rattle.world_defs.specs.Events.{Plain, bytes_happen}
 use Rattle.world_defs.specs.Settings.{WorldSettings}
-use Rattle.world_defs.specs.World.{World}
 
 pub world_is : (z : WorldSettings) (c : Course) (e : Event) → (went z c e).world ≡ bytes_happen z c.world (Plain e)
 unfolding went_byte

@@ -1,5 +1,5 @@
 -- How many operations are unsettled: only a Submit makes one more.
-use Rattle.std.proofs.Common.{◌≡◌, ℕ, ◌+◌, ◌*◌, ◌≤◌, ◌<◌, ◌==◌, eqb-true, Bool, true, false, if◌then◌else◌, ◌⊎◌, inl, inr, refl, sym, ap}
+use Rattle.std.proofs.Common.{◌≡◌, ℕ, ◌+◌, ◌≤◌, ◌<◌, ◌==◌, eqb-true, Bool, true, false, if◌then◌else◌, ◌⊎◌, inl, inr, refl, sym}
 use Rattle.std.proofs.Common.{subst, arith, zero, suc}
 use Rattle.exchange_defs.specs.Operations.{Op, is_unsettled}
 use Rattle.exchange_defs.specs.Client.{Client, may_take, take_op}

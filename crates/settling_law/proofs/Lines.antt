@@ -1,6 +1,6 @@
 -- Each line of a script leaves its course in step, and settling at its end settles every operation.
 use Rattle.std.proofs.Common.{◌≡◌, ℕ, ◌+◌, ◌*◌, ◌^◌, ◌≤◌, ◌<◌, Bool, true, false, ◌&&◌, List, [], ◌∷◌, ◌++◌, length, length-append, refl, sym, ap, ◌∙◌}
-use Rattle.std.proofs.Common.{subst, arith, ◌⊎◌, inl, inr, Option, suc}
+use Rattle.std.proofs.Common.{subst, arith, inl, inr, Option, suc}
 use Rattle.exchange_defs.specs.ClientStep.{Pick, some_unsettled}
 use Rattle.exchange_defs.specs.Network.{Event, Submit, Open, Push, Serve, Take, Cut, Drop, Restart, Crash, Wait, Finish, World as Values, start}
 use Rattle.exchange_defs.specs.Schedules as values

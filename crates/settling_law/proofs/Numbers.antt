@@ -1,22 +1,21 @@
 -- How many sessions a client has counted, with the one that is in the making: an Open makes one more at most, and nothing else does.
 use Rattle.std.proofs.lemmas.Bool.Decides.{nat_tests}
-use Rattle.std.proofs.Common.{◌≡◌, ℕ, ◌+◌, ◌≤◌, ◌<◌, ◌==◌, nat_lt, Bool, true, false, not, ◌&&◌, if◌then◌else◌, List, [], ◌∷◌, refl}
+use Rattle.std.proofs.Common.{◌≡◌, ℕ, ◌+◌, ◌≤◌, ◌==◌, nat_lt, Bool, true, false, not, ◌&&◌, if◌then◌else◌, List, [], ◌∷◌, refl}
 use Rattle.std.proofs.Common.{sym, ap, ◌∙◌, subst, arith, Option, Some, None}
-use Rattle.exchange_defs.specs.Status.{success, more_processing_required, disk_full}
-use Rattle.exchange_defs.specs.State.{Accept, Reply}
-use Rattle.exchange_defs.specs.Step.{step}
-use Rattle.exchange_defs.specs.Operations.{Op, is_lock}
+use Rattle.exchange_defs.specs.Status.{success, more_processing_required}
+use Rattle.exchange_defs.specs.State.{Reply}
+use Rattle.exchange_defs.specs.Operations.{is_lock}
 use Rattle.exchange_defs.specs.Client.{Client, Stage, Apart, SaidNegotiate, SaidFirst, SaidSecond, AskedTree, again, asked, begin, begin_session}
-use Rattle.exchange_defs.specs.Client.{begun, bind_channel, create_for, cut_channel, end_session, ends_at_cut, goes_itself, has_its_slot}
-use Rattle.exchange_defs.specs.Client.{lacks_slot, leave_dialog, may_push, may_take, note_refusal, outstanding, settle_no_slot, settle_no_slots}
-use Rattle.exchange_defs.specs.Client.{take_op, take_slot, unmade}
-use Rattle.exchange_defs.specs.ClientStep.{Act, Nothing, Sends, Asks, CloseChannel, CloseChannels, AllSettled, Pick, Pushes, Hears, IsCut}
-use Rattle.exchange_defs.specs.ClientStep.{IsReady, IsRefused, act, becomes_ready, client_after, itself_after, last_number, pick_after, ready_after}
-use Rattle.exchange_defs.specs.Dialogs.{DialogStep, GoesOn, Accepts, Binds, Readies, Refuses, dialog_step, open_channel}
+use Rattle.exchange_defs.specs.Client.{begun, bind_channel, cut_channel, end_session, ends_at_cut, goes_itself, has_its_slot}
+use Rattle.exchange_defs.specs.Client.{lacks_slot, leave_dialog, may_push, may_take, outstanding, settle_no_slot, settle_no_slots}
+use Rattle.exchange_defs.specs.Client.{take_op, unmade}
+use Rattle.exchange_defs.specs.ClientStep.{Act, Nothing, Sends, Asks, CloseChannel, CloseChannels, AllSettled, Pick, Pushes, Hears}
+use Rattle.exchange_defs.specs.ClientStep.{act, becomes_ready, client_after, itself_after, last_number, pick_after, ready_after}
+use Rattle.exchange_defs.specs.Dialogs.{DialogStep, GoesOn, Accepts, Binds, Readies, Refuses, dialog_step}
 use Rattle.exchange_defs.specs.Settling.{Heard as Hearing, Settles, GoesAgain, Attaches, EndsSession, hear, heard, is_awaited, settle}
 use Rattle.exchange_defs.specs.Network.{World, Event, Submit, Open, Push, Serve, Take, Cut, Drop, Restart, Crash, Wait, Finish, Received, Sent}
 use Rattle.exchange_defs.specs.Network.{Token, ForDialog, ForOp, ForAttach, absorb_front, behind_reply, changed, dialog_took, happens, later}
-use Rattle.exchange_defs.specs.Network.{may_open, may_serve, may_take_reply, pushed_by, restarted, serve_front, take_reply, took_by}
+use Rattle.exchange_defs.specs.Network.{may_open, may_serve, may_take_reply, pushed_by, serve_front, take_reply, took_by}
 use Rattle.server_law.proofs.Logic.{either, front_of}
 use Rattle.session_law.specs.Sessions.{makes_session}
 use Rattle.session_law.proofs.Channels.{same_settle}

@@ -1,7 +1,7 @@
 -- Settling over bytes goes in step with that of the model of values.
 use Rattle.std.proofs.Common.{◌≡◌, ℕ, ◌+◌, ◌*◌, ◌^◌, ◌≤◌, ◌<◌, ◌==◌, Bool, true, false, refl, sym, ap, ◌∙◌, subst, arith, ◌⊎◌, inl, inr, zero, suc}
 use Rattle.exchange_defs.specs.ClientStep.{some_unsettled}
-use Rattle.exchange_defs.specs.Network.{World as Values, run, start}
+use Rattle.exchange_defs.specs.Network.{World as Values, run}
 use Rattle.exchange_defs.specs.Schedules as values
 use Rattle.exchange_defs.specs.Schedules.{least}
 use Rattle.completeness_law.proofs.Equations as model
@@ -9,7 +9,6 @@ use Rattle.completeness_law.proofs.Clean.{Clean, each_of}
 use Rattle.completeness_law.proofs.Facts.{Facts}
 use Rattle.completeness_law.proofs.Later.{Later, now, joined_on}
 use Rattle.completeness_law.proofs.NewSession.{seeks}
-use Rattle.completeness_law.proofs.Round.{Least}
 use Rattle.completeness_law.proofs.Rounds.{SettledTo, LeastTo, seek, all_settled, one_round_on}
 use Rattle.completeness_law.proofs.Runs.{OfRun, always, present}
 use Rattle.completeness_law.proofs.Settling.{first_steps, all_clean}

@@ -1,15 +1,13 @@
 -- Of scripts that are read: their settings fit and their lines are few.
-use Rattle.std.proofs.Common.{◌≡◌, ℕ, ◌+◌, ◌≤◌, List, [], ◌∷◌, ◌++◌, length, Ok, sym, subst, arith}
+use Rattle.std.proofs.Common.{ℕ, ◌+◌, ◌≤◌, List, [], ◌∷◌, ◌++◌, length, sym, subst, arith}
 use Rattle.courses_law.specs.Courses.{AreHonest}
 use Rattle.drill_defs.specs.Scripts.{lines_in, lines_of, lines_of_statement, operations_of, settings_in}
-use Rattle.script_lines.specs.Script.{Read, script}
 use Rattle.script_lines.specs.declared.line.Line.{Line as Said}
-use Rattle.script_words.specs.declared.values.Command.TheVariants.{Drill}
 use Rattle.script_words.specs.declared.values.Statement.{Statement}
 use Rattle.script_words.specs.declared.values.Statement.TheVariants as statements
 use Rattle.script_fits_law.specs.Fits.{ScriptsFit}
 use Rattle.script_fits_law.proofs.Lines.{read_few}
-use Rattle.world_defs.specs.Courses.{Line, Settles}
+use Rattle.world_defs.specs.Courses.{Line}
 use Rattle.settling_law.specs.Settled.{LeavesNone, LinesSettle, ScriptsSettle}
 
 one_line : (before : ℕ) (st : Statement) (rest : List Line) → length (lines_of_statement before st ++ rest) ≤ length rest + 1

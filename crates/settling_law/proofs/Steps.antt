@@ -5,7 +5,7 @@ use Rattle.std.proofs.Common.{refl, sym, ap, ◌∙◌, subst, arith, Option, So
 use Rattle.exchange_defs.specs.Operations.{Op, weight, charge}
 use Rattle.exchange_defs.specs.Client.{Client, goes_itself, has_its_slot, lacks_slot, may_push, is_taken, settle_no_slot, settle_no_slots}
 use Rattle.exchange_defs.specs.ClientStep.{Act, Nothing, Sends, Asks, CloseChannel, CloseChannels, AllSettled, Pick, Pushes}
-use Rattle.exchange_defs.specs.ClientStep.{act, client_after, pick_act, op_act, some_unsettled}
+use Rattle.exchange_defs.specs.ClientStep.{act, client_after, pick_act, some_unsettled}
 use Rattle.exchange_defs.specs.Network.{Event, Submit, Open, Push, Serve, Take, Cut, Drop, Restart, Crash, Wait, Finish, World as Values}
 use Rattle.exchange_defs.specs.Network.{happens, changed, later, pushed_by, run, start}
 use Rattle.exchange_defs.specs.Schedules as values
@@ -21,8 +21,7 @@ use Rattle.completeness_law.proofs.Runs.{OfRun, always}
 use Rattle.completeness_law.proofs.Round.{Idle}
 use Rattle.courses_law.specs.Courses.{restarts_of, submits_of}
 use Rattle.world_defs.specs.Courses.{Course, went, went_push, push_lowest}
-use Rattle.world_defs.specs.Events.{ByteEvent, Plain, bytes_happen, bytes_run, bytes_start}
-use Rattle.world_defs.specs.Ends.{ClientEnd}
+use Rattle.world_defs.specs.Events.{ByteEvent, Plain, bytes_happen, bytes_start}
 use Rattle.world_defs.specs.Sending.{may_seal}
 use Rattle.world_defs.specs.Settings.{WorldSettings, values_of}
 use Rattle.world_defs.specs.Statements.{AreAlong, ListsAreAlong, plain_run, plainly, value_event, value_events}

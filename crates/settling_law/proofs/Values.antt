@@ -1,8 +1,8 @@
 -- The choices of the model of values, as equations where they make no test.
-use Rattle.std.proofs.Common.{◌≡◌, ℕ, ◌+◌, ◌*◌, not, ◌&&◌, List, [], ◌∷◌, ◌++◌, length, refl, Option, Some, None, zero, suc}
+use Rattle.std.proofs.Common.{◌≡◌, ℕ, ◌+◌, ◌*◌, not, ◌&&◌, [], ◌∷◌, ◌++◌, length, refl, Some, None, zero, suc}
 use Rattle.exchange_defs.specs.Table.{is_at}
 use Rattle.exchange_defs.specs.Operations.{Refusal}
-use Rattle.exchange_defs.specs.Network.{World, Event, Open, Cut, Drop, Finish, happens}
+use Rattle.exchange_defs.specs.Network.{Event, Open, Cut, Drop, Finish, happens}
 use Rattle.exchange_defs.specs.Schedules.{Course, Settles, drain, drain_and_cut, drop_orphan, each, finished_after, finished_by, go, hangs}
 use Rattle.exchange_defs.specs.Schedules.{is_orphan, link, linking, push_lowest, rounds, serve_all, served_all, settle_below, take_all, taken_all}
 use Rattle.exchange_defs.specs.Schedules.{tidy, went, went_if, went_push}

@@ -5,7 +5,7 @@ use Rattle.exchange_defs.specs.State as model
 use Rattle.begun_law.specs.ServerBegun.Begun.{Begins}
 use Rattle.server_book.specs.declared.book.Book.{Book}
 use Rattle.server_checks.specs.declared.tables.Config.{Config}
-use Rattle.server_book.specs.ServerCore.Shown.{config_of, disk_of, state_of, stopped_of}
+use Rattle.server_book.specs.ServerCore.Shown.{config_of, disk_of, state_of}
 use Rattle.server_book.specs.ServerCore.declared.server.Server.{Server}
 use Rattle.begun_law.specs.ServerHolds.Holds.{Holds as HoldsState}
 use Rattle.begun_law.specs.ServerHolds.declared.state.ServerState.{ServerState}

@@ -1,7 +1,6 @@
 -- The server behind an event that has no message.
-use Rattle.std.proofs.Common.{◌≡◌, ℕ, ◌++◌, ap, ◌∙◌, List, None}
+use Rattle.std.proofs.Common.{◌≡◌, ap, ◌∙◌, List, None}
 use Rattle.exchange_defs.specs.State as model
-use Rattle.exchange_defs.specs.State.{Reply}
 use Rattle.server_checks.specs.declared.tables.Config.{Config}
 use Rattle.server_book.specs.ServerCore.Shown.{HoldsServer, config_of, stopped_of}
 use Rattle.server_book.specs.ServerCore.declared.server.Server.{Server}

@@ -1,9 +1,9 @@
 -- Whether the place of a message is an entry of an open's order, as code tells it.
-use Rattle.std.proofs.Common.{◌≡◌, ℕ, zero, suc, ◌+◌, ◌-◌, ◌<◌, ◌≤◌, ◌==◌, ◌&&◌, Bool, true, false, refl, sym, ap, subst, ◌∙◌, arith}
-use Rattle.std.proofs.Common.{List, [], ◌∷◌, length, slice_get, get_or, Option, Some, None}
+use Rattle.std.proofs.Common.{◌≡◌, ℕ, zero, suc, ◌-◌, ◌<◌, ◌≤◌, ◌==◌, ◌&&◌, Bool, true, false, refl, sym, ap, subst, ◌∙◌, arith}
+use Rattle.std.proofs.Common.{List, [], ◌∷◌, length, slice_get, get_or, Option, None}
 use Rattle.exchange_defs.specs.Content.{is_listed}
 use Rattle.exchange_defs.specs.Operations.{Op, content_op, create_of}
-use Rattle.exchange_defs.specs.Order.{Account, is_at, is_of, place, placed}
+use Rattle.exchange_defs.specs.Order.{is_at, is_of, place, placed}
 use Rattle.exchange_defs.specs.Runs.{account}
 use Rattle.operation_values.specs.Meaning.{op_of}
 use Rattle.operation_values.specs.declared.values.OpKind.{OpKind}

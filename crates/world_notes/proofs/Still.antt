@@ -1,5 +1,5 @@
 -- A world shows the same behind a note.
-use Rattle.std.proofs.Common.{◌≡◌, sym, subst}
+use Rattle.std.proofs.Common.{sym, subst}
 use Rattle.world_defs.specs.Settings.{WorldSettings}
 use Rattle.world_defs.specs.World as bytes
 use Rattle.world_begins.specs.WorldEnds.Shown.{ShowsWorld}

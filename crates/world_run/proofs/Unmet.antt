@@ -1,5 +1,5 @@
 -- An event that is refused isn't met.
-use Rattle.std.proofs.Common.{◌≡◌, ℕ, ◌==◌, ◌<◌, ◌&&◌, ◌||◌, nat_lt, not, Bool, true, false, if◌then◌else◌, refl, sym, ap, subst, ◌∙◌}
+use Rattle.std.proofs.Common.{◌≡◌, ℕ, ◌&&◌, ◌||◌, nat_lt, not, Bool, true, false, if◌then◌else◌, refl, sym, ap, subst, ◌∙◌}
 use Rattle.std.proofs.Common.{List, [], ◌∷◌, slice_get, Option, Some, None, is_some, MatchResult}
 use Rattle.exchange_defs.specs.Network as network
 use Rattle.exchange_defs.specs.Network.{Event, Received, Sent, is_possible, max_channel, moments}
@@ -7,10 +7,10 @@ use Rattle.exchange_defs.specs.Table.{is_filled}
 use Rattle.world_defs.specs.Courses.{Course, push_lowest}
 use Rattle.world_defs.specs.Events.{Plain, Tamper, bytes_changed, bytes_happen, bytes_later, flipped, may_tamper, tampered}
 use Rattle.world_defs.specs.Notes as notes
-use Rattle.world_defs.specs.Notes.{making_error, step_error, unless_open, unless_there}
+use Rattle.world_defs.specs.Notes.{making_error, step_error, unless_open}
 use Rattle.world_defs.specs.Settings.{WorldSettings}
 use Rattle.world_defs.specs.World as bytes
-use Rattle.world_notes.specs.WorldEnds.Channels.{AreDown, AreUp, seen_of}
+use Rattle.world_notes.specs.WorldEnds.Channels.{AreDown, AreUp}
 use Rattle.world_notes.specs.WorldEnds.Shown.{ShowsWorld}
 use Rattle.world_notes.specs.WorldEnds.declared.events.WorldError.{WorldError}
 use Rattle.world_notes.specs.WorldEnds.declared.events.WorldError.TheVariants as errors

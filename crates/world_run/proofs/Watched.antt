@@ -1,6 +1,5 @@
 -- A step whose note is kept.
 use Rattle.std.proofs.Common.{sym, subst, Result, Ok, Err, MatchResult}
-use Rattle.std.specs.declared.alloc.AllocError.{AllocError}
 use Rattle.world_defs.specs.Events.{bytes_happen}
 use Rattle.world_defs.specs.Notes.{step_error}
 use Rattle.world_notes.specs.WorldEnds.declared.events.WorldError.{WorldError}

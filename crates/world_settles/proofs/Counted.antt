@@ -1,5 +1,5 @@
 -- As many frames go up, or come down, as the definitions have; where nothing can be heard their number doesn't matter.
-use Rattle.std.proofs.Common.{◌≡◌, ℕ, suc, Bool, true, false, refl, sym, ap, subst, ◌∙◌, List, [], ◌∷◌, length, slice_get, Option}
+use Rattle.std.proofs.Common.{◌≡◌, ℕ, suc, true, false, refl, sym, ap, ◌∙◌, List, [], ◌∷◌, length, slice_get, Option}
 use Rattle.std.proofs.Common.{Some, None}
 use Rattle.exchange_defs.specs.Network.{Received, Sent, may_serve, may_take_reply}
 use Rattle.world_defs.specs.Courses.{Course, serve_all, served_all, take_all, taken_all}

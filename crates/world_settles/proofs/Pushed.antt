@@ -1,11 +1,10 @@
 -- What a push came to is drained, or its channel is cut where nothing was on its way.
 use Rattle.std.proofs.Common.{◌≡◌, ℕ, Bool, true, false, ◌||◌, refl, sym, ap, subst, ◌∙◌, arith, slice_get, Option, Some, None}
-use Rattle.std.proofs.Common.{length, Result, Ok, Err, MatchResult}
+use Rattle.std.proofs.Common.{length, Result, MatchResult}
 use Rattle.exchange_defs.specs.Network.{Cut, may_serve, may_take_reply}
 use Rattle.exchange_defs.specs.Schedules.{has_more}
 use Rattle.exchange_defs.specs.Table.{is_filled}
 use Rattle.world_defs.specs.Courses.{Course, drain, pushed_round, served_all, taken_all, went, went_byte, went_push}
-use Rattle.world_defs.specs.Events.{Plain, bytes_happen}
 use Rattle.world_defs.specs.Notes as notes
 use Rattle.world_defs.specs.Notes.{unless_open}
 use Rattle.world_defs.specs.Settings.{WorldSettings}

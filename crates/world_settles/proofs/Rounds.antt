@@ -1,7 +1,7 @@
 -- What each connection, and a round, comes to, as the definitions write it.
-use Rattle.std.proofs.Common.{◌≡◌, ℕ, suc, ◌-◌, ◌&&◌, not, Bool, true, false, List, [], ◌∷◌, length, map, slice_get, refl, sym}
+use Rattle.std.proofs.Common.{◌≡◌, ℕ, ◌-◌, ◌&&◌, not, Bool, true, false, List, [], ◌∷◌, length, map, slice_get, refl, sym}
 use Rattle.std.proofs.Common.{ap, subst}
-use Rattle.std.proofs.Common.{◌∙◌, Option, Some, None, option_map, Result, Ok, Err, MatchResult, arith}
+use Rattle.std.proofs.Common.{◌∙◌, Some, None, option_map, Result, Ok, Err, MatchResult, arith}
 use Rattle.world_run.specs.ClientCore.Shown.{ShowsClient}
 use Rattle.world_run.specs.ClientCore.declared.client.Client.{Client as Core}
 use Rattle.client_outcomes.specs.Meaning.{dialog_of, refusal_of}
@@ -28,7 +28,6 @@ use Rattle.world_settles.proofs.Turning.{one_more}
 use Rattle.world_settles.specs.Linked.{LinksAs}
 use Rattle.world_settles.specs.Parts.{is_left, round_of}
 use Rattle.world_run.specs.WorldSteps.Parts.{IsMemory}
-use Rattle.world_run.specs.WorldSteps.Steps.{Refuses}
 use Rattle.world_run.proofs.WorldSteps.Refusing.{memory, result_with}
 
 pub pushed : (z : WorldSettings) (c : Course) (k : ℕ) → went z c (push_lowest c.world k) ≡ went_push z c k

@@ -1,5 +1,5 @@
 -- What is tested of a connection in code is what the definitions test.
-use Rattle.std.proofs.Common.{◌≡◌, ℕ, ◌&&◌, ◌||◌, not, Bool, true, false, refl, sym, ap, ◌∙◌, List, [], ◌∷◌, slice_get, Option}
+use Rattle.std.proofs.Common.{◌≡◌, ℕ, ◌&&◌, ◌||◌, not, Bool, true, false, refl, sym, ap, ◌∙◌, slice_get, Option}
 use Rattle.std.proofs.Common.{Some, None, is_some}
 use Rattle.exchange_defs.specs.Client.{Stage}
 use Rattle.exchange_defs.specs.Client as client
@@ -22,11 +22,10 @@ use Rattle.world_run.specs.WorldEnds.declared.sides.ClientSide.{ClientSide}
 use Rattle.world_run.specs.WorldEnds.declared.sides.ClientSide.TheVariants.{Closed, Talks, Ready}
 use Rattle.world_run.specs.WorldEnds.declared.world.World.{World}
 use Rattle.world_settles.specs.Tests.{alone_in, apart_in, hanging_in, linking_in, more_in, orphan_in, serving_in, taking_in}
-use Rattle.world_settles.specs.Tests.{talking_in, talks}
+use Rattle.world_settles.specs.Tests.{talks}
 use Rattle.world_run.proofs.Unmet.{both_false, down_there, up_there}
 use Rattle.world_run.proofs.WorldSteps.Closing.{is_opened, is_readied, is_served}
 use Rattle.world_run.proofs.WorldSteps.Tampered.{filled_down, filled_up}
-use Rattle.world_run.specs.WorldSteps.Changes.{coming_in}
 
 -- ---- a dialog that goes on is in one of its stages
 

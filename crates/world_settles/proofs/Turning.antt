@@ -1,5 +1,5 @@
 -- One turn of each recursion of the definitions, by what is tested in front of it.
-use Rattle.std.proofs.Common.{◌≡◌, ℕ, zero, suc, ◌+◌, ◌-◌, ◌<◌, ◌≤◌, Bool, true, false, refl, sym, ap, subst, ◌∙◌, arith}
+use Rattle.std.proofs.Common.{◌≡◌, ℕ, zero, suc, ◌+◌, ◌-◌, Bool, true, false, refl, sym, subst, ◌∙◌, arith}
 use Rattle.exchange_defs.specs.Network.{Serve, Take, may_serve, may_take_reply}
 use Rattle.exchange_defs.specs.Schedules.{has_more, is_linking, least}
 use Rattle.world_defs.specs.Courses.{Course, drain, each, linking, serve_all, served_all, take_all, taken_all, went}

@@ -1,16 +1,14 @@
 -- A connection is seen as before where the client's columns that it looks at are.
-use Rattle.std.proofs.Common.{◌≡◌, ℕ, ◌==◌, Bool, true, false, if◌then◌else◌, refl, sym, ap, subst, ◌∙◌}
+use Rattle.std.proofs.Common.{◌≡◌, ℕ, Bool, sym, ap, subst, ◌∙◌}
 use Rattle.std.proofs.Common.{List, Option, Some, None}
-use Rattle.exchange_defs.specs.Client.{Apart}
 use Rattle.exchange_defs.specs.Network.{Conn as Link}
 use Rattle.line_ends.specs.declared.config.Bound.{Bound}
 use Rattle.line_ends.specs.declared.config.ClientConfig.{ClientConfig}
 use Rattle.line_ends.specs.declared.dialog.Dialog.{Dialog}
-use Rattle.line_ends.specs.declared.dialog.Stage.{Stage as DialogStage}
 use Rattle.session_defs.specs.declared.material.Keys.{Keys}
 use Rattle.world_defs.specs.Ends.{ClientEnd}
 use Rattle.world_defs.specs.World.{Wires}
-use Rattle.world_ends.specs.Channels.{IsBinding, IsFor, IsMaking, IsPrevious, Seen, ShowsChannel, ShowsClientSide, session_at}
+use Rattle.world_ends.specs.Channels.{IsFor, IsPrevious, Seen, ShowsChannel, ShowsClientSide, session_at}
 use Rattle.world_ends.specs.declared.sides.Channel.{Channel}
 use Rattle.world_ends.specs.declared.sides.ClientSide.{ClientSide}
 use Rattle.world_ends.specs.declared.sides.ClientSide.TheVariants.{Closed, Talks, Ready}

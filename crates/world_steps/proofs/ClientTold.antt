@@ -1,7 +1,7 @@
 -- What connections and places show behind an operation more.
-use Rattle.std.proofs.Common.{◌≡◌, ℕ, zero, suc, ◌+◌, ◌≤◌, ◌<◌, ◌==◌, ◌&&◌, nat_lt, Bool, true, false, if◌then◌else◌, refl, sym, ap, subst, ◌∙◌, arith}
-use Rattle.std.proofs.Common.{List, [], ◌∷◌, ◌++◌, length, slice_get, Option, Some, None}
-use Rattle.std.specs.Prelude.{slice_index, slice_index_or}
+use Rattle.std.proofs.Common.{◌≡◌, ℕ, zero, suc, ◌+◌, ◌≤◌, ◌<◌, nat_lt, Bool, true, false, if◌then◌else◌, refl, sym, ap, subst, ◌∙◌, arith}
+use Rattle.std.proofs.Common.{List, [], ◌∷◌, ◌++◌, length, Option}
+use Rattle.std.specs.Prelude.{slice_index}
 use Rattle.std.proofs.lemmas.Bool.Decides.{nat_tests}
 use Rattle.exchange_defs.specs.Operations.{Op}
 use Rattle.exchange_defs.specs.Client.{Client, take_op}
@@ -14,7 +14,7 @@ use Rattle.line_ends.specs.declared.config.ClientConfig.{ClientConfig}
 use Rattle.session_defs.specs.declared.material.Keys.{Keys}
 use Rattle.world_defs.specs.Settings.{WorldSettings}
 use Rattle.world_defs.specs.World.{Wires}
-use Rattle.world_ends.specs.Channels.{AreUp, IsUp, Seen, ShowsChannel, ShowsChannels, seen_of}
+use Rattle.world_ends.specs.Channels.{AreUp, Seen, ShowsChannel, ShowsChannels, seen_of}
 use Rattle.world_ends.specs.Places.{ShowsPlaces, marks_at, no_marks}
 use Rattle.world_ends.specs.Shown.{ShowsOwn}
 use Rattle.world_ends.specs.declared.sides.Channel.{Channel}

@@ -1,10 +1,10 @@
 -- Connections of which an end closes.
-use Rattle.std.proofs.Common.{◌≡◌, ℕ, ◌==◌, Bool, true, false, if◌then◌else◌, refl, sym, ap, subst, ◌∙◌, arith}
-use Rattle.std.proofs.Common.{List, [], ◌∷◌, length, slice_get, Option, Some, None, is_some}
+use Rattle.std.proofs.Common.{◌≡◌, ℕ, ◌==◌, Bool, true, false, if◌then◌else◌, refl, sym, subst, ◌∙◌, arith}
+use Rattle.std.proofs.Common.{List, [], slice_get, Option, Some, None, is_some}
 use Rattle.std.proofs.lemmas.Bool.Decides.{nat_tests}
 use Rattle.conn_ends.specs.declared.conn.Conn.{Conn}
 use Rattle.exchange_defs.specs.Table.{put}
-use Rattle.exchange_defs.specs.Network.{Conn as Link, Received, Sent, client_off, server_off}
+use Rattle.exchange_defs.specs.Network.{Conn as Link, client_off, server_off}
 use Rattle.line_ends.specs.declared.config.ClientConfig.{ClientConfig}
 use Rattle.session_defs.specs.declared.material.Keys.{Keys}
 use Rattle.world_defs.specs.Ends.{ClientEnd, ServerEnd}

@@ -1,20 +1,20 @@
 -- The client closes its end of a connection.
 use Rattle.std.proofs.Common.{◌≡◌, ℕ, ◌+◌, ◌==◌, ◌&&◌, Bool, true, false, if◌then◌else◌, refl, sym, ap, subst, ◌∙◌, arith}
-use Rattle.std.proofs.Common.{slice_get, Option, Some, None, is_some, List}
+use Rattle.std.proofs.Common.{slice_get, Option, Some, None, is_some}
 use Rattle.std.proofs.lemmas.Bool.Decides.{nat_tests}
 use Rattle.world_ends.specs.ClientCore.Shown.{ShowsClient}
 use Rattle.world_ends.specs.ClientCore.declared.client.Client.{Client as Core}
-use Rattle.world_ends.specs.ClientEvent.Events.{act_of, event_of}
+use Rattle.world_ends.specs.ClientEvent.Events.{act_of}
 use Rattle.world_ends.specs.ClientEvent.declared.steps.Event.TheVariants as happens
 use Rattle.client_law.proofs.Events.{keeps}
 use Rattle.client_law.specs.Kept.{Kept}
 use Rattle.client_world_law.specs.Asking.{AsksFit}
 use Rattle.client_world_law.proofs.Columns.{left as kept_left}
 use Rattle.client_world_law.proofs.Events.{asks_alike, asks_on}
-use Rattle.exchange_defs.specs.Client.{Client, Apart, Stage, cut_channel, end_session, ends_at_cut, leave_dialog, unmade}
-use Rattle.exchange_defs.specs.ClientStep.{Act, CloseChannel, CloseChannels, IsCut, Nothing, Sends, Asks, AllSettled, act, client_after}
+use Rattle.exchange_defs.specs.Client.{Client, Apart, cut_channel, end_session, ends_at_cut, leave_dialog, unmade}
+use Rattle.exchange_defs.specs.ClientStep.{CloseChannels, IsCut, Nothing, client_after}
 use Rattle.exchange_defs.specs.Network as network
-use Rattle.exchange_defs.specs.Network.{Cut, all_cut, client_off, cut_by, cut_off, one_cut, with_client}
+use Rattle.exchange_defs.specs.Network.{Cut, client_off, cut_by, one_cut, with_client}
 use Rattle.exchange_defs.specs.State.{no_later}
 use Rattle.exchange_defs.specs.Table.{put}
 use Rattle.free_columns_law.proofs.Columns.{left as shown_left}
@@ -23,8 +23,8 @@ use Rattle.world_defs.specs.Notes as notes
 use Rattle.world_defs.specs.Notes.{step_error, unless_open}
 use Rattle.world_defs.specs.Settings.{WorldSettings}
 use Rattle.world_defs.specs.World as bytes
-use Rattle.world_defs.specs.World.{all_off, client_end_off, cut_wires, off_by, one_off, with_values}
-use Rattle.world_ends.specs.Channels.{Seen, ShowsChannels, seen_of}
+use Rattle.world_defs.specs.World.{client_end_off, cut_wires, off_by, one_off, with_values}
+use Rattle.world_ends.specs.Channels.{Seen, seen_of}
 use Rattle.world_ends.specs.Shown.{ShowsOwn, ShowsWorld}
 use Rattle.world_ends.specs.Tests.{opened_in, readied_in}
 use Rattle.world_ends.specs.declared.world.World.{World}

@@ -1,5 +1,5 @@
 -- The server ends a connection.
-use Rattle.std.proofs.Common.{◌≡◌, ℕ, ◌+◌, ◌++◌, Bool, true, false, if◌then◌else◌, refl, sym, ap, subst, ◌∙◌, slice_get, Some, None}
+use Rattle.std.proofs.Common.{◌≡◌, ℕ, ◌+◌, ◌++◌, Bool, true, false, if◌then◌else◌, sym, ap, subst, ◌∙◌, slice_get, Some, None}
 use Rattle.exchange_defs.specs.Network.{Drop, server_off}
 use Rattle.exchange_defs.specs.State.{End, no_later}
 use Rattle.exchange_defs.specs.Step.{step}

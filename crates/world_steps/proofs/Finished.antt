@@ -1,5 +1,5 @@
 -- The client gives up.
-use Rattle.std.proofs.Common.{◌≡◌, ℕ, ◌+◌, Bool, true, false, not, if◌then◌else◌, refl, sym, ap, subst, ◌∙◌}
+use Rattle.std.proofs.Common.{◌≡◌, ◌+◌, Bool, true, false, not, if◌then◌else◌, refl, sym, subst}
 use Rattle.world_ends.specs.ClientEvent.declared.steps.Event.TheVariants as happens
 use Rattle.client_law.proofs.Events.{keeps}
 use Rattle.client_outcomes.specs.Meaning.{refusal_of}

@@ -1,5 +1,5 @@
 -- The server starts anew.
-use Rattle.std.proofs.Common.{◌≡◌, ℕ, ◌+◌, refl, None}
+use Rattle.std.proofs.Common.{◌≡◌, ◌+◌, refl, None}
 use Rattle.exchange_defs.specs.Network.{Restart, server_off}
 use Rattle.exchange_defs.specs.State.{no_later}
 use Rattle.world_defs.specs.Events.{Plain, bytes_happen}

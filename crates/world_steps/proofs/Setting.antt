@@ -1,9 +1,9 @@
 -- Connections of which one is set, and each in turn.
 use Rattle.std.proofs.Common.{◌≡◌, ℕ, zero, suc, ◌+◌, ◌≤◌, ◌<◌, ◌==◌, nat_lt, Bool, true, false, refl, sym, ap, subst, ◌∙◌, arith}
-use Rattle.std.proofs.Common.{List, [], ◌∷◌, length, take, drop, ◌++◌, set, get_or, slice_get, Option, Some, None}
+use Rattle.std.proofs.Common.{List, [], ◌∷◌, length, take, drop, ◌++◌, set, get_or, slice_get, Some, None}
 use Rattle.std.proofs.Math.ListN.{length-set}
 use Rattle.std.proofs.lemmas.Bool.Decides.{nat_tests}
-use Rattle.std.proofs.lemmas.Option.{get_or_from_slice_get, slice_get_past, slice_get_within}
+use Rattle.std.proofs.lemmas.Option.{get_or_from_slice_get, slice_get_within}
 use Rattle.world_ends.specs.declared.sides.Channel.{Channel}
 use Rattle.world_steps.specs.Lists.{ChangedAll, ChangedAt, ChangedBelow}
 

@@ -1,10 +1,10 @@
 -- An operation comes.
-use Rattle.std.proofs.Common.{◌≡◌, ℕ, ◌+◌, ◌==◌, ◌&&◌, Bool, true, false, if◌then◌else◌, refl, sym, ap, subst, ◌∙◌, arith, None}
+use Rattle.std.proofs.Common.{◌≡◌, ℕ, ◌+◌, ◌==◌, ◌&&◌, Bool, true, false, refl, arith, None}
 use Rattle.std.proofs.lemmas.Bool.Decides.{nat_tests}
 use Rattle.world_ends.specs.ClientCore.Shown.{ShowsClient}
 use Rattle.client_law.proofs.Events.{keeps}
 use Rattle.client_world_law.proofs.Events.{asks_on}
-use Rattle.exchange_defs.specs.Client.{Client, may_take, take_op}
+use Rattle.exchange_defs.specs.Client.{Client, may_take}
 use Rattle.exchange_defs.specs.ClientStep.{TakesOp, client_after}
 use Rattle.exchange_defs.specs.Network.{Submit}
 use Rattle.operation_values.specs.Meaning.{op_of}

@@ -1,6 +1,6 @@
 -- The front of what goes up, or comes down, becomes another one.
-use Rattle.std.proofs.Common.{◌≡◌, ℕ, zero, suc, ◌+◌, ◌<◌, ◌≤◌, ◌^◌, ◌==◌, ◌&&◌, nat_lt, Bool, true, false, not, if◌then◌else◌, refl, sym, ap, subst, ◌∙◌}
-use Rattle.std.proofs.Common.{List, [], ◌∷◌, ◌++◌, length, slice_get, Option, Some, None, arith}
+use Rattle.std.proofs.Common.{◌≡◌, ℕ, suc, ◌+◌, ◌<◌, ◌^◌, ◌==◌, ◌&&◌, nat_lt, Bool, true, false, not, if◌then◌else◌, refl, sym, ap, subst, ◌∙◌}
+use Rattle.std.proofs.Common.{List, [], ◌∷◌, length, slice_get, Option, Some, None, arith}
 use Rattle.std.proofs.lemmas.Bool.Decides.{nat_tests}
 use Rattle.conn_ends.specs.declared.conn.Conn.{Conn}
 use Rattle.exchange_defs.specs.Network.{Conn as Link, Received, Sent}
@@ -11,13 +11,12 @@ use Rattle.line_ends.specs.declared.config.ClientConfig.{ClientConfig}
 use Rattle.session_defs.specs.declared.material.Keys.{Keys}
 use Rattle.world_defs.specs.Events.{Tamper, bytes_happen, bytes_later, tampered, with_front}
 use Rattle.world_defs.specs.Notes as notes
-use Rattle.world_defs.specs.Notes.{step_error, unless_there}
+use Rattle.world_defs.specs.Notes.{step_error}
 use Rattle.world_defs.specs.Settings.{WorldSettings}
 use Rattle.world_defs.specs.World as bytes
-use Rattle.world_defs.specs.World.{Wires, with_wires}
+use Rattle.world_defs.specs.World.{Wires}
 use Rattle.world_ends.specs.Channels.{AreDown, AreUp, Seen, ShowsChannel, ShowsChannels, ShowsClientSide, ShowsServerSide, seen_of}
 use Rattle.world_ends.specs.Shown.{ShowsWorld}
-use Rattle.world_ends.specs.Tests.{opened_in, served_in}
 use Rattle.world_ends.specs.declared.sides.Channel.{Channel}
 use Rattle.world_ends.specs.declared.sides.ClientSide.{ClientSide}
 use Rattle.world_ends.specs.declared.sides.Down.{Down}

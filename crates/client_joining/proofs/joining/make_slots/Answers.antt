@@ -1,5 +1,4 @@
-use Rattle.std.proofs.Common.{◌≡◌, ℕ, ◌+◌, ◌≤◌, true, vec_capacity, refl, arith}
-use Rattle.client_attached.specs.Opens.{IsRoomy}
+use Rattle.std.proofs.Common.{ℕ, ◌+◌, ◌≤◌, true, vec_capacity, refl, arith}
 use Rattle.client_attached.proofs.Roomy.{roomy_all, roomy_less, roomy_one}
 use Rattle.client_joining.proofs.Onto.{clash}
 use Rattle.client_joining.proofs.joining.make_slots.Goals as goal

@@ -1,4 +1,4 @@
-use Rattle.std.proofs.Common.{◌<◌, length, sym, subst}
+use Rattle.std.proofs.Common.{◌<◌, sym, subst}
 use Rattle.exchange_defs.specs.Client.{create_for}
 use Rattle.client_pushes.proofs.Sent.{have_moved, lock_again, lock_slots_again}
 use Rattle.client_pushes.proofs.sending.send_lock_again.Goals as goal

@@ -1,4 +1,4 @@
-use Rattle.std.proofs.Common.{◌≡◌, ℕ, ◌<◌, ◌≤◌, not, true, false, length, set, slice_index_or, vec_capacity, sym, ap, ◌∙◌, subst}
+use Rattle.std.proofs.Common.{◌≡◌, ℕ, ◌<◌, not, true, false, length, set, slice_index_or, vec_capacity, sym, ap, ◌∙◌, subst}
 use Rattle.exchange_defs.specs.Operations.{is_lock}
 use Rattle.exchange_defs.specs.Client.{Client, begun, create_for, goes_itself, outstanding}
 use Rattle.operation_rows.specs.Rows.{row_at, owner}

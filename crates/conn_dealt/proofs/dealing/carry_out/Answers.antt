@@ -1,4 +1,4 @@
-use Rattle.std.proofs.Common.{◌≡◌, ◌+◌, ◌≤◌, ◌<◌, ◌∙◌, [], ◌++◌, List, length}
+use Rattle.std.proofs.Common.{◌≡◌, ◌+◌, ◌≤◌, ◌∙◌, [], List, length}
 use Rattle.std.proofs.Common.{vec_capacity, sym, ap, subst, refl, append-nil, option_map, arith}
 use Rattle.exchange_defs.specs.State.{Record}
 use Rattle.world_defs.specs.Mishaps.{owning}

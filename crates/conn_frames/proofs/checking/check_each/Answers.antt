@@ -1,4 +1,4 @@
-use Rattle.std.proofs.Common.{◌≡◌, ℕ, ◌+◌, ◌≤◌, ◌==◌, ◌||◌, Bool, false, List, drop, length, vec_len, slice_index_or, refl, sym, ap, subst, ◌∙◌, Ok, Err}
+use Rattle.std.proofs.Common.{◌≡◌, ℕ, ◌+◌, ◌==◌, ◌||◌, Bool, false, List, drop, length, vec_len, slice_index_or, refl, sym, ap, subst, ◌∙◌, Ok, Err}
 use Rattle.std.proofs.Common.{arith}
 use Rattle.wire_defs.specs.declared.header.Span.{Span}
 use Rattle.world_defs.specs.Messages.{has_header}

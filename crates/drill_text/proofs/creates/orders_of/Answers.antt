@@ -1,4 +1,4 @@
-use Rattle.std.proofs.Common.{◌≡◌, ◌+◌, ◌≤◌, length, refl, ap, ◌∙◌, arith}
+use Rattle.std.proofs.Common.{◌+◌, ◌≤◌, length, refl, ap, ◌∙◌, arith}
 use Rattle.drill_text.specs.Text.{orders_to}
 use Rattle.drill_text.proofs.Added.{all_told, first, more_told, next}
 use Rattle.drill_text.proofs.creates.orders_of.Goals as goal

@@ -1,6 +1,5 @@
-use Rattle.std.proofs.Common.{◌≡◌, List, map, sym, ap, subst, ◌∙◌}
+use Rattle.std.proofs.Common.{List, sym, subst, ◌∙◌}
 use Rattle.std.specs.String.{string_bytes}
-use Rattle.client_outcomes.specs.Meaning.{dialog_of, outcome_of}
 use Rattle.file_store.specs.Stored.{AreFiles}
 use Rattle.file_store.specs.declared.files.StoredFile.{StoredFile}
 use Rattle.drill_text.proofs.Added.{ok_with}

@@ -1,5 +1,5 @@
-use Rattle.std.proofs.Common.{◌≡◌, ◌==◌, ℕ, List, get_or, subst, sym, ap, ◌∙◌, arith}
-use Rattle.file_store.proofs.Slashes.{no_slash, none_more, cut_there}
+use Rattle.std.proofs.Common.{ℕ, List, get_or, sym, ap, ◌∙◌, arith}
+use Rattle.file_store.proofs.Slashes.{no_slash, cut_there}
 use Rattle.file_store.proofs.list.directory_in.Goals as goal
 
 pub loop-i-init : goal.loop-i-init

@@ -1,4 +1,4 @@
-use Rattle.std.proofs.Common.{◌≡◌, sym, ap, ◌∙◌}
+use Rattle.std.proofs.Common.{ap, ◌∙◌}
 use Rattle.exchange_defs.specs.Texts.{utf16_length}
 use Rattle.exchange_defs.specs.Listing.{entry_part}
 use Rattle.file_store.proofs.Listings.{too_long, not_long, ends_at}

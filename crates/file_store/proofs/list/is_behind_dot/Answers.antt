@@ -1,4 +1,4 @@
-use Rattle.std.proofs.Common.{◌≡◌, option_map, ap, ◌∙◌}
+use Rattle.std.proofs.Common.{option_map, ap, ◌∙◌}
 use Rattle.file_store.proofs.Listings.{behind_dot, behind_none}
 use Rattle.file_store.proofs.list.is_behind_dot.Goals as goal
 

@@ -1,4 +1,4 @@
-use Rattle.std.proofs.Common.{◌≡◌, List, ◌∷◌, [], option_map, ap, ◌∙◌}
+use Rattle.std.proofs.Common.{List, ◌∷◌, [], option_map, ap, ◌∙◌}
 use Rattle.exchange_defs.specs.State as model
 use Rattle.file_store.specs.Listed.{given, any_at, with_accepted}
 use Rattle.file_store.proofs.Found.{found_info}

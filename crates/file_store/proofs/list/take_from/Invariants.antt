@@ -1,4 +1,4 @@
-use Rattle.std.proofs.Common.{◌≡◌, ℕ, true, List, length, nat_eq}
+use Rattle.std.proofs.Common.{◌≡◌, ℕ, true, length, nat_eq}
 use Rattle.std.specs.HashMap.{get}
 use Rattle.std.specs.BTreeMap.{get_by_text}
 use Rattle.std.specs.String.{string_bytes}

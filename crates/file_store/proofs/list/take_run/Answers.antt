@@ -1,10 +1,8 @@
-use Rattle.std.proofs.Common.{◌≡◌, List, nat_eq, refl, sym, ap, ◌∙◌, subst}
-use Rattle.std.specs.HashMap.{get}
+use Rattle.std.proofs.Common.{◌≡◌, refl, sym, ap, ◌∙◌}
 use Rattle.std.specs.String.{string_bytes, string_cmp}
 use Rattle.std.specs.declared.ops.Bound.TheVariants.{Included, Unbounded}
 use Rattle.std.specs.BTreeMap.Range.{entries_between}
-use Rattle.exchange_defs.specs.State.{Named}
-use Rattle.file_store.specs.Listed.{given, any_at, accepted, kids, from_key}
+use Rattle.file_store.specs.Listed.{given, any_at, accepted, kids}
 use Rattle.file_store.proofs.Listings.{full_given, full_any}
 use Rattle.file_store.proofs.Passing.{run_begun, run_on, run_found, run_stopped, run_taken, run_jumped, run_behind, run_fewer}
 use Rattle.file_store.proofs.list.take_run.Goals as goal

@@ -1,4 +1,4 @@
-use Rattle.std.proofs.Common.{◌==◌, ◌≡◌, Bool, true, false}
+use Rattle.std.proofs.Common.{◌==◌, true, false}
 use Rattle.world_defs.specs.Dialog.{was_offered}
 use Rattle.line_ends.specs.Shown.{settings_of}
 use Rattle.line_hearing.proofs.Offered.{by_cipher, by_dialect, by_hash, by_none, by_sha512, by_signing, is_other, is_same, offered_as}

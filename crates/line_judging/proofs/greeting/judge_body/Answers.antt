@@ -1,4 +1,4 @@
-use Rattle.std.proofs.Common.{Result, Ok, Err, subst}
+use Rattle.std.proofs.Common.{Result, subst}
 use Rattle.session_defs.specs.declared.choice.Chosen.{Chosen}
 use Rattle.msg_session.specs.declared.refusal.Refusal.{Refusal}
 use Rattle.line_ends.specs.Shown.{settings_of}

@@ -1,4 +1,4 @@
-use Rattle.std.proofs.Common.{ℕ, Bool, true, false, List, Result, Ok, Err, sym, ap, ◌∙◌}
+use Rattle.std.proofs.Common.{true, false, sym, ◌∙◌}
 use Rattle.std.specs.Prelude.{is_some}
 use Rattle.token_defs.specs.Tokens.{is_final}
 use Rattle.line_ends.specs.Shown.{settings_of}

@@ -1,4 +1,4 @@
-use Rattle.std.proofs.Common.{List, ℕ, ◌++◌, take, drop}
+use Rattle.std.proofs.Common.{List, ℕ, ◌++◌, take}
 use Rattle.std.proofs.lemmas.List.{drop-drop}
 use Rattle.line_messages.proofs.frame.put_signature.Goals as goal
 

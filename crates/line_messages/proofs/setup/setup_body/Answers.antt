@@ -1,5 +1,4 @@
-use Rattle.std.proofs.Common.{ℕ, ◌<◌, List, length, ap, sym, subst, ◌∙◌}
-use Rattle.wire_defs.specs.SessionSetup.{session_setup_request_spelling}
+use Rattle.std.proofs.Common.{ℕ, ◌<◌, List, length, sym, subst, ◌∙◌}
 use Rattle.line_messages.specs.Dialogs.{setup_value}
 use Rattle.line_messages.proofs.Setups.{flagged, size_of}
 use Rattle.line_messages.proofs.setup.setup_body.Goals as goal

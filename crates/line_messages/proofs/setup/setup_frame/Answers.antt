@@ -1,4 +1,3 @@
-use Rattle.std.proofs.Common.{refl, ap, ◌∙◌}
 use Rattle.line_messages.proofs.Setups.{in_binding, alone}
 use Rattle.line_messages.proofs.setup.setup_frame.Goals as goal
 

@@ -1,4 +1,3 @@
-use Rattle.std.proofs.Common.{◌≡◌}
 use Rattle.ntlmv2.proofs.Info.{info_spelled}
 use Rattle.ntlmv2.proofs.acceptor.info_at.Goals as goal
 

@@ -1,4 +1,4 @@
-use Rattle.std.proofs.Common.{◌≡◌, ◌%◌, ◌<◌, ℕ, length, sym, subst, ◌∙◌, true, false, arith}
+use Rattle.std.proofs.Common.{◌≡◌, ℕ, length, sym, subst, ◌∙◌, true, false, arith}
 use Rattle.token_defs.specs.Acceptor.{ascii_below}
 use Rattle.ntlmv2.proofs.Texts.{odd_is_not, byte_is_not, none_below, one_more, all_are}
 use Rattle.ntlmv2.proofs.acceptor.is_ascii.Goals as goal

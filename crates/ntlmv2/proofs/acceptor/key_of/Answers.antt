@@ -1,9 +1,9 @@
-use Rattle.std.proofs.Common.{◌≡◌, Bool, true, false, ◌&&◌, List, ℕ, take, drop, refl, sym, ap, subst, ◌∙◌, arith}
+use Rattle.std.proofs.Common.{◌≡◌, true, false, List, ℕ, take, drop, refl, sym, ap, subst, ◌∙◌, arith}
 use Rattle.std.specs.Str.{bytes_eq}
 use Rattle.token_defs.specs.Formulas.{ntowf_in, proof}
 use Rattle.token_defs.specs.Acceptor.{has_form, proves, exported_key}
 use Rattle.ntlmv2.specs.Views.{type3_view}
-use Rattle.ntlmv2.specs.Judging.{user_of, exported_by}
+use Rattle.ntlmv2.specs.Judging.{exported_by}
 use Rattle.ntlmv2.proofs.Forms.{has_proof, has_key}
 use Rattle.ntlmv2.proofs.acceptor.key_of.Goals as goal
 

@@ -1,4 +1,4 @@
-use Rattle.std.proofs.Common.{◌≡◌, ◌<◌, List, ℕ, length, ◌∙◌, arith}
+use Rattle.std.proofs.Common.{◌<◌, length, ◌∙◌, arith}
 use Rattle.ntlmv2.proofs.Named.{compared, found, passed, none_left}
 use Rattle.ntlmv2.proofs.acceptor.place_of.Goals as goal
 

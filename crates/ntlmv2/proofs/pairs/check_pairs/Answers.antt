@@ -1,4 +1,4 @@
-use Rattle.std.proofs.Common.{◌≡◌, ◌<◌, length, length-drop, refl, ap, arith}
+use Rattle.std.proofs.Common.{length, length-drop, refl, ap, arith}
 use Rattle.token_defs.specs.Pairs.{pair_size}
 use Rattle.token_defs.specs.Messages.{info_fault, pairs_fault}
 use Rattle.ntlmv2.proofs.Walks.{checked_at_start, checked_on, checked_break, checked_end}

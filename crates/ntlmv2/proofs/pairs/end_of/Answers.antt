@@ -1,4 +1,4 @@
-use Rattle.std.proofs.Common.{◌≡◌, ◌<◌, length, length-drop, refl, ap, arith}
+use Rattle.std.proofs.Common.{length, length-drop, ap, arith}
 use Rattle.token_defs.specs.Pairs.{pair_size}
 use Rattle.ntlmv2.proofs.Walks.{measured_at_start, measured_on, measured_break, measured_end}
 use Rattle.ntlmv2.proofs.pairs.end_of.Goals as goal

@@ -1,5 +1,4 @@
-use Rattle.std.proofs.Common.{◌≡◌, ◌<◌, ℕ, length, length-drop, refl, sym, subst, ap, ◌∙◌, arith, Some}
-use Rattle.wire_defs.specs.Places.{number}
+use Rattle.std.proofs.Common.{◌≡◌, ℕ, length, length-drop, sym, subst, ap, ◌∙◌, arith, Some}
 use Rattle.token_defs.specs.Pairs.{pair_size}
 use Rattle.ntlmv2.proofs.Walks.{searched_at_start, searched_on, searched_found, searched_break, searched_end}
 use Rattle.ntlmv2.proofs.pairs.pair_of.Goals as goal

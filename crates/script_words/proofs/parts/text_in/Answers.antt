@@ -1,4 +1,4 @@
-use Rattle.std.proofs.Common.{sym, refl}
+use Rattle.std.proofs.Common.{sym}
 use Rattle.std.proofs.lemmas.Str.{is_utf8-from_IsUtf8}
 use Rattle.script_words.proofs.TextLemmas.{not_text}
 use Rattle.script_words.proofs.parts.text_in.Goals as goal

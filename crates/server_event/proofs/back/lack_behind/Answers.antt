@@ -1,4 +1,4 @@
-use Rattle.std.proofs.Common.{List, refl, sym, subst, ◌∙◌}
+use Rattle.std.proofs.Common.{List, refl, sym, subst}
 use Rattle.exchange_defs.specs.State as model
 use Rattle.holds_law.proofs.Lone.{expires, lone}
 use Rattle.server_asked.specs.Heard.{heard_event}

@@ -1,4 +1,4 @@
-use Rattle.std.proofs.Common.{◌≡◌, ◌∙◌, List, ℕ, ◌++◌, ◌-◌, length, take, drop, replicate, refl, sym, ap, length-drop, arith, rules}
+use Rattle.std.proofs.Common.{◌≡◌, ◌∙◌, List, ℕ, ◌++◌, ◌-◌, length, drop, replicate, refl, sym, ap, length-drop, rules}
 use Rattle.std.proofs.lemmas.List.{length-take-le}
 use Rattle.session_defs.specs.Sealing.{protocol, tag_of, ciphertext, sealed_by, added_of}
 use Rattle.session_keys.proofs.InPlace.{sealed_frame, in_front}

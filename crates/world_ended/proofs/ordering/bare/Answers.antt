@@ -1,4 +1,4 @@
-use Rattle.std.proofs.Common.{◌≡◌, ◌≤◌, ◌+◌, ℕ, List, subst, sym, arith}
+use Rattle.std.proofs.Common.{◌≡◌, ◌+◌, ℕ, List, subst, sym, arith}
 use Rattle.world_ended.proofs.Adding.{none_bare, one_bare}
 use Rattle.world_ended.specs.Listing.{AreBare}
 use Rattle.world_ended.specs.declared.ordering.Order.{Order}

@@ -1,5 +1,5 @@
 use Rattle.std.proofs.Common.{sym, ap, ◌∙◌, slice_get, List}
-use Rattle.exchange_defs.specs.Network.{Serve, Take}
+use Rattle.exchange_defs.specs.Network.{Serve}
 use Rattle.world_defs.specs.Courses.{went}
 use Rattle.world_run.specs.WorldEnds.declared.sides.Channel.{Channel}
 use Rattle.world_settles.specs.Tests.{serving_in}

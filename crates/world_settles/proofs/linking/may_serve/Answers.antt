@@ -1,6 +1,5 @@
 use Rattle.std.proofs.Common.{Bool, ◌&&◌, ap, ◌∙◌, slice_get}
 use Rattle.world_run.specs.WorldEnds.Tests.{served_in}
-use Rattle.world_run.specs.WorldSteps.Changes.{coming_in}
 use Rattle.world_settles.proofs.linking.may_serve.Goals as goal
 
 pub returns : goal.returns

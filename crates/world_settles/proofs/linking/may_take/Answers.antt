@@ -1,6 +1,5 @@
 use Rattle.std.proofs.Common.{Bool, ◌&&◌, ap, ◌∙◌, slice_get}
 use Rattle.world_run.specs.WorldEnds.Tests.{opened_in}
-use Rattle.world_run.specs.WorldSteps.Changes.{coming_in}
 use Rattle.world_settles.proofs.linking.may_take.Goals as goal
 
 pub returns : goal.returns

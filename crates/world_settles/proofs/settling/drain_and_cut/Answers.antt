@@ -1,7 +1,6 @@
-use Rattle.std.proofs.Common.{Bool, sym, ap, subst, ◌∙◌}
+use Rattle.std.proofs.Common.{sym, ap, ◌∙◌}
 use Rattle.exchange_defs.specs.Table.{is_at}
-use Rattle.world_defs.specs.Courses.{Course, drain, finished_after}
-use Rattle.world_run.specs.WorldEnds.Shown.{ShowsWorld}
+use Rattle.world_defs.specs.Courses.{drain, finished_after}
 use Rattle.world_run.proofs.Coming.{as_course, result_as}
 use Rattle.world_settles.proofs.Rounds.{cut_is, drained}
 use Rattle.world_settles.proofs.settling.drain_and_cut.Goals as goal

@@ -1,5 +1,5 @@
-use Rattle.std.proofs.Common.{◌≡◌, sym, ap, subst, ◌∙◌, List, Option, option_map, option_copied, slice_get}
-use Rattle.client_outcomes.specs.Meaning.{dialog_of, refusal_of}
+use Rattle.std.proofs.Common.{sym, ap, ◌∙◌, option_map, option_copied}
+use Rattle.client_outcomes.specs.Meaning.{refusal_of}
 use Rattle.client_outcomes.specs.declared.outcome.RefusedDialog.{RefusedDialog}
 use Rattle.exchange_defs.specs.Schedules.{last_refusal}
 use Rattle.world_settles.proofs.Rounds.{last_told}

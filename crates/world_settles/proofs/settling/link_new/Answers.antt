@@ -1,4 +1,4 @@
-use Rattle.std.proofs.Common.{◌≡◌, ℕ, ◌==◌, true, sym, ap, ◌∙◌, slice_get, List}
+use Rattle.std.proofs.Common.{◌≡◌, ℕ, true, sym, ap, ◌∙◌, slice_get, List}
 use Rattle.exchange_defs.specs.Schedules.{is_apart, least}
 use Rattle.world_defs.specs.Courses.{finished_after, link}
 use Rattle.world_run.specs.WorldEnds.declared.sides.Channel.{Channel}

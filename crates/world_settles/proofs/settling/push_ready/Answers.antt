@@ -1,4 +1,4 @@
-use Rattle.std.proofs.Common.{◌≡◌, ℕ, ◌==◌, sym, ap, ◌∙◌, slice_get, List}
+use Rattle.std.proofs.Common.{◌≡◌, ℕ, sym, ap, ◌∙◌, slice_get, List}
 use Rattle.exchange_defs.specs.Schedules.{least}
 use Rattle.world_defs.specs.Courses.{pushed_round}
 use Rattle.world_run.specs.WorldEnds.Tests.{readied_in}

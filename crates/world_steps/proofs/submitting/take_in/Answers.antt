@@ -1,4 +1,3 @@
-use Rattle.world_ends.specs.ClientCore.Shown.{ShowsClient}
 use Rattle.world_steps.proofs.Refusing.{result_with}
 use Rattle.world_steps.proofs.submitting.take_in.Goals as goal
 

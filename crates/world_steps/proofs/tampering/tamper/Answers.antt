@@ -1,4 +1,3 @@
-use Rattle.std.proofs.Common.{Bool}
 use Rattle.world_steps.specs.Changes.{change_of, coming_in, heard_in}
 use Rattle.world_steps.proofs.Refusing.{memory, passed_by, refused_by}
 use Rattle.world_steps.proofs.Tampered.{not_heard, nothing_there, tampers}

@@ -1,4 +1,4 @@
-use Rattle.std.proofs.Common.{◌≡◌, List, map, sym, ap, ◌∙◌}
+use Rattle.std.proofs.Common.{List, sym, ap, ◌∙◌}
 use Rattle.exchange_defs.specs.State.{Named}
 use Rattle.exchange_defs.specs.Listing.{accepts}
 use Rattle.file_store.specs.Shown.{model_info}

@@ -1,4 +1,3 @@
-use Rattle.std.proofs.Common.{◌≡◌, ℕ}
 use Rattle.exchange_defs.specs.State.{Server}
 use Rattle.file_store.specs.Shown.{ShowsFiles}
 use Rattle.file_store.proofs.Pairs.{at_text}

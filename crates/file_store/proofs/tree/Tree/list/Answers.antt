@@ -1,4 +1,4 @@
-use Rattle.std.proofs.Common.{◌≡◌, None, false, refl, sym, ◌∙◌}
+use Rattle.std.proofs.Common.{None, false, refl, sym, ◌∙◌}
 use Rattle.file_store.proofs.Listings.{listed}
 use Rattle.file_store.proofs.tree.Tree.list.Goals as goal
 

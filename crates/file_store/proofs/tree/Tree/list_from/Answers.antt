@@ -1,4 +1,4 @@
-use Rattle.std.proofs.Common.{◌≡◌, List, ℕ, Some, option_map, sym, ap, ◌∙◌}
+use Rattle.std.proofs.Common.{List, ℕ, Some, option_map, sym, ap, ◌∙◌}
 use Rattle.exchange_defs.specs.Table.{is_filled}
 use Rattle.exchange_defs.specs.Listing.{all_named, fitting, one_or_all, wanted}
 use Rattle.file_store.proofs.Listings.{given_end}

@@ -1,4 +1,4 @@
-use Rattle.std.proofs.Common.{◌≡◌, ap, ◌∙◌}
+use Rattle.std.proofs.Common.{ap, ◌∙◌}
 use Rattle.exchange_defs.specs.Files.{find}
 use Rattle.exchange_defs.specs.Texts.{parent_of}
 use Rattle.exchange_defs.specs.Listing.{parent_file}

@@ -2,7 +2,6 @@ use Rattle.std.proofs.Common.{◌==◌, [], nat_eq, refl, sym, ap, ◌∙◌, ar
 use Rattle.std.proofs.lemmas.Grind.{common_steps}
 use Rattle.std.specs.HashMap.{get}
 use Rattle.file_store.specs.Shown.{folded}
-use Rattle.file_store.proofs.Keys.{exists_is}
 use Rattle.file_store.proofs.Entries.{apart_gone, key_gone, path_gone, none_if, key_stays_free}
 use Rattle.file_store.proofs.Counts.{length_gone, sizes_gone}
 use Rattle.file_store.proofs.RowsMade.{row_gone, row_there}

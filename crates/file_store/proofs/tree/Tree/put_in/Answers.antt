@@ -1,4 +1,4 @@
-use Rattle.std.proofs.Common.{◌≡◌, ◌+◌, ◌==◌, Some, nat_eq, refl, sym, ap, ◌∙◌, arith}
+use Rattle.std.proofs.Common.{nat_eq, refl, ◌∙◌, arith}
 use Rattle.std.specs.HashMap.{get}
 use Rattle.file_store.proofs.Counts.{length_gone, sizes_gone}
 use Rattle.file_store.proofs.RowsMade.{no_row, same_rows}

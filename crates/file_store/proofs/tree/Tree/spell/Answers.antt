@@ -1,4 +1,4 @@
-use Rattle.std.proofs.Common.{◌≡◌, ℕ, List, Some, nat_eq, if◌then◌else◌, sym, ap, ◌∙◌}
+use Rattle.std.proofs.Common.{ℕ, List, Some, if◌then◌else◌, sym, ap, ◌∙◌}
 use Rattle.std.specs.BTreeMap.{get_by_text}
 use Rattle.std.specs.Str.{bytes_eq}
 use Rattle.file_store.proofs.Gathered.{no_row_there}

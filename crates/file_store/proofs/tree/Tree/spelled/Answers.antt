@@ -1,4 +1,4 @@
-use Rattle.std.proofs.Common.{◌≡◌, refl, ap}
+use Rattle.std.proofs.Common.{refl, ap}
 use Rattle.std.specs.BTreeMap.{get_by_text}
 use Rattle.file_store.proofs.Pairs.{at_text}
 use Rattle.file_store.proofs.Spelled.{spells_begun, spells_on, spells_end}

@@ -1,4 +1,4 @@
-use Rattle.std.proofs.Common.{◌≡◌, List, option_map, refl, sym, ap, ◌∙◌}
+use Rattle.std.proofs.Common.{List, option_map, ap, ◌∙◌}
 use Rattle.std.specs.String.{string_bytes}
 use Rattle.exchange_defs.specs.State.{Named}
 use Rattle.file_store.specs.Listed.{given, any_at, named_of}

@@ -1,8 +1,5 @@
-use Rattle.std.proofs.Common.{◌≡◌, List, ◌∷◌, [], option_map, refl, sym, ap, ◌∙◌}
+use Rattle.std.proofs.Common.{List, ◌∷◌, [], option_map, sym, ap, ◌∙◌}
 use Rattle.exchange_defs.specs.State as model
-use Rattle.exchange_defs.specs.Texts.{parent_of}
-use Rattle.exchange_defs.specs.Files.{exists, find, info_of, path_of}
-use Rattle.exchange_defs.specs.Listing.{parent_file}
 use Rattle.file_store.specs.Listed.{given, any_at, with_accepted}
 use Rattle.file_store.proofs.Listings.{dots_there, dots_not}
 use Rattle.file_store.proofs.Indexed.{dots_info}

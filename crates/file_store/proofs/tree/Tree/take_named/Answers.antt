@@ -1,4 +1,3 @@
-use Rattle.std.proofs.Common.{◌≡◌}
 use Rattle.file_store.proofs.Found.{never_missing}
 use Rattle.file_store.proofs.tree.Tree.take_named.Goals as goal
 

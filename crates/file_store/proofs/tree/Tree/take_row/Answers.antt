@@ -1,9 +1,9 @@
-use Rattle.std.proofs.Common.{◌≡◌, List, option_map, refl, sym, ap, ◌∙◌}
+use Rattle.std.proofs.Common.{List, option_map, sym, ap, ◌∙◌}
 use Rattle.exchange_defs.specs.State.{Named}
 use Rattle.exchange_defs.specs.Table.{is_filled}
 use Rattle.exchange_defs.specs.Files.{path_of}
 use Rattle.exchange_defs.specs.Listing.{children, wanted, one_or_all}
-use Rattle.file_store.specs.Listed.{given, any_at, with_dot, with_dots, fitting_of}
+use Rattle.file_store.specs.Listed.{with_dot, with_dots, fitting_of}
 use Rattle.file_store.proofs.Listings.{all_wanted, begun_given, begun_any}
 use Rattle.file_store.proofs.tree.Tree.take_row.Goals as goal
 

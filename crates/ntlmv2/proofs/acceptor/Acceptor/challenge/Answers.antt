@@ -1,5 +1,5 @@
-use Rattle.std.proofs.Common.{◌≡◌, refl, sym, ap, ◌∙◌, Ok}
-use Rattle.token_defs.specs.Messages.{type1_in, type2_spelling}
+use Rattle.std.proofs.Common.{◌≡◌, refl, sym, ap, Ok}
+use Rattle.token_defs.specs.Messages.{type1_in}
 use Rattle.token_defs.specs.Acceptor.{challenge}
 use Rattle.ntlmv2.proofs.acceptor.Acceptor.challenge.Goals as goal
 

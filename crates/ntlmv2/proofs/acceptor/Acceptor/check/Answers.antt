@@ -1,4 +1,4 @@
-use Rattle.std.proofs.Common.{◌≡◌, true, false, List, sym, subst, ap, ◌∙◌, Option, Some, None}
+use Rattle.std.proofs.Common.{◌≡◌, true, false, List, sym, subst, ap, ◌∙◌, Some, None}
 use Rattle.token_defs.specs.Acceptor.{User, user_named, is_ascii_utf16}
 use Rattle.ntlmv2.specs.Views.{type3_view, Judges}
 use Rattle.ntlmv2.specs.Judging.{user_of}
