@@ -1,0 +1,99 @@
+use crate::calls::{AT, Outcome, served_alone};
+use client_peer::{Client, Fresh, plain_config};
+use serve_command::Ending;
+use smb_bytes::Bytes;
+use smb_io::MemDisk;
+use smb_net::{MemNet, Net};
+use std::alloc::{AllocError, Global};
+use std::process::Abort;
+use std::sync::Wait;
+use std::test::Fail;
+use std::thread::{self, Threads};
+
+/// FILE_CREATE and FILE_OPEN (MS-SMB2 2.2.13)
+const CREATE: u32 = 2;
+
+const OPEN: u32 = 1;
+
+fn logged_on<N: Net>(alloc: Global, net: &mut N) -> Option<Client<N::L>> {
+    let link = net.connect(AT).ok()?;
+    let config = plain_config(alloc).ok()?;
+    let fresh = Fresh {
+        salt: [1; 32],
+        challenge: [2; 8],
+        key: [3; 16],
+    };
+    Client::log_on(alloc, link, &config, fresh)
+}
+
+// Makes the file `a`, and says how many bytes were written into it.
+fn writes<N: Net + Drop>(alloc: Global, mut net: N) -> Option<u32> {
+    let mut client = logged_on(alloc, &mut net)?;
+    let file = client.create("a", CREATE)?;
+    client.write(file, 0, b"ab")
+}
+
+// Gives what stands in it.
+fn reads<N: Net + Drop>(alloc: Global, mut net: N) -> Option<Bytes> {
+    let mut client = logged_on(alloc, &mut net)?;
+    let file = client.create("a", OPEN)?;
+    client.read(file, 0, 16)
+}
+
+type Both<T> = (Result<Outcome<MemDisk>, AllocError>, Option<T>);
+
+fn while_one_writes<W: Wait + Threads + Sync>(
+    rt: &W,
+    alloc: Global,
+    disk: MemDisk,
+) -> Result<Both<u32>, AllocError> {
+    let (ours, theirs) = MemNet::new(rt, alloc, 1, Bytes::new(alloc), Bytes::new(alloc))?;
+    Ok(thread::join(
+        rt,
+        move || served_alone(rt, alloc, 1, disk, ours),
+        move || writes(alloc, theirs),
+    ))
+}
+
+fn while_one_reads<W: Wait + Threads + Sync>(
+    rt: &W,
+    alloc: Global,
+    disk: MemDisk,
+) -> Result<Both<Bytes>, AllocError> {
+    let (ours, theirs) = MemNet::new(rt, alloc, 1, Bytes::new(alloc), Bytes::new(alloc))?;
+    Ok(thread::join(
+        rt,
+        move || served_alone(rt, alloc, 1, disk, ours),
+        move || reads(alloc, theirs),
+    ))
+}
+
+fn is_done<W: Abort>(rt: &W, served: &Outcome<MemDisk>) {
+    assert_eq!(rt; served.ending, Ending::Done);
+    assert_eq!(rt;
+        served.sink.bytes(),
+        b"INFO connection 1 closed\n".as_slice()
+    );
+}
+
+#[test]
+fn a_file_outlives_its_server(rt: HostRuntime) -> Result<(), Fail> {
+    let alloc = rt.alloc();
+    let disk = MemDisk::new(alloc, Bytes::new(alloc), Bytes::new(alloc))?;
+    let (served, count) = while_one_writes(&rt, alloc, disk)?;
+    let served = served?;
+    assert_eq!(rt; count, Some(2));
+    is_done(&rt, &served);
+    let Outcome {
+        ending: _,
+        sink: _sink,
+        disk,
+    } = served;
+    let Some(disk) = disk else {
+        return Err(Fail::new("no disk"));
+    };
+    let (served, bytes) = while_one_reads(&rt, alloc, disk)?;
+    is_done(&rt, &served?);
+    assert_eq!(rt; bytes.ok_or("no bytes")?.as_slice(), b"ab".as_slice());
+    Ok(())
+}
