@@ -131,7 +131,7 @@ fn meeting_end<'a, W: Wait + time::Clock>(
     is_second: bool,
     ahead: usize,
 ) -> MeetingEnd<'a, W>
-    ensures { (result.ended ≡ false) × (result.link ≡ link) }
+    ensures { (result.ended ≡ false) × (result.link ≡ link.entry) }
 {
     MeetingEnd {
         rt,
