@@ -2,9 +2,10 @@
 // hexadecimal digits, or its SHA-256 where it is long. Another implementation wrote what is due; the rows of `ccm-example` are SP 800-38C's
 // examples 1 to 4, whose bytes count upwards. A mode with `-zeros` has bytes of zero; one with `-through` stands for all lengths of text
 // up to the row's, and the SHA-256 of all their results.
+use crate::words::aes_with;
 use aes_block::Aes;
 use aes_modes::{ccm_fits, ccm_open, ccm_seal, cmac, gcm_open, gcm_seal, gmac};
-use anyhow::{Context, Result, bail, ensure};
+use anyhow::{Context, Result, ensure};
 use sha2::{Digest, Sha256};
 use smb_bytes::Bytes;
 use std::alloc::Global;
@@ -94,14 +95,7 @@ fn key_of(alloc: Global, row: &Row<'_>) -> Result<Vec<u8>> {
 }
 
 fn aes_of(alloc: Global, row: &Row<'_>) -> Result<Aes> {
-    let key = key_of(alloc, row)?;
-    if let Ok(short) = <[u8; 16]>::try_from(key.as_slice()) {
-        Ok(Aes::new_128(&short))
-    } else if let Ok(long) = <[u8; 32]>::try_from(key.as_slice()) {
-        Ok(Aes::new_256(&long))
-    } else {
-        bail!("a key of another length")
-    }
+    aes_with(key_of(alloc, row)?.as_slice())
 }
 
 /// The bytes that a mode seals, and what is sealed with them.

@@ -31,14 +31,18 @@ pub fn array_in<const N: usize>(alloc: Global, words: &mut SplitWhitespace<'_>) 
         .context("another number of bytes")
 }
 
-/// The key that the next word has.
-pub fn key_in(alloc: Global, words: &mut SplitWhitespace<'_>) -> Result<Aes> {
-    let key = bytes_in(alloc, words)?;
-    if let Ok(short) = <[u8; 16]>::try_from(key.as_slice()) {
+/// AES with a key of 16 or 32 bytes.
+pub fn aes_with(key: &[u8]) -> Result<Aes> {
+    if let Ok(short) = <[u8; 16]>::try_from(key) {
         Ok(Aes::new_128(&short))
-    } else if let Ok(long) = <[u8; 32]>::try_from(key.as_slice()) {
+    } else if let Ok(long) = <[u8; 32]>::try_from(key) {
         Ok(Aes::new_256(&long))
     } else {
         bail!("a key of another length")
     }
+}
+
+/// The key that the next word has.
+pub fn key_in(alloc: Global, words: &mut SplitWhitespace<'_>) -> Result<Aes> {
+    aes_with(bytes_in(alloc, words)?.as_slice())
 }
