@@ -40,6 +40,12 @@ fn reads<N: Net + Drop>(alloc: Global, mut net: N) -> Option<Bytes> {
     client.read(file, 0, 16)
 }
 
+// Whether a file can be created; `None` where nobody logs on.
+fn creates<N: Net + Drop>(alloc: Global, mut net: N) -> Option<bool> {
+    let mut client = logged_on(alloc, &mut net)?;
+    Some(client.create("a", CREATE).is_some())
+}
+
 type Both<T> = (Result<Outcome<MemDisk>, AllocError>, Option<T>);
 
 fn while_one_writes<W: Wait + Threads + Sync>(
@@ -65,6 +71,19 @@ fn while_one_reads<W: Wait + Threads + Sync>(
         rt,
         move || served_alone(rt, alloc, 1, disk, ours),
         move || reads(alloc, theirs),
+    ))
+}
+
+fn while_one_creates<W: Wait + Threads + Sync>(
+    rt: &W,
+    alloc: Global,
+    disk: MemDisk,
+) -> Result<Both<bool>, AllocError> {
+    let (ours, theirs) = MemNet::new(rt, alloc, 1, Bytes::new(alloc), Bytes::new(alloc))?;
+    Ok(thread::join(
+        rt,
+        move || served_alone(rt, alloc, 1, disk, ours),
+        move || creates(alloc, theirs),
     ))
 }
 
@@ -95,5 +114,20 @@ fn a_file_outlives_its_server(rt: HostRuntime) -> Result<(), Fail> {
     let (served, bytes) = while_one_reads(&rt, alloc, disk)?;
     is_done(&rt, &served?);
     assert_eq!(rt; bytes.ok_or("no bytes")?.as_slice(), b"ab".as_slice());
+    Ok(())
+}
+
+// The start makes twelve calls on an empty disk; the third one behind these opens the gate of the create's records.
+#[test]
+fn a_create_that_the_disk_fails_is_not_answered(rt: HostRuntime) -> Result<(), Fail> {
+    let alloc = rt.alloc();
+    let mut failing = vec![in alloc; 0; 15]?;
+    failing[14] = 1;
+    let disk = MemDisk::new(alloc, Bytes::new(alloc), Bytes::from_vec(failing))?;
+    let (served, created) = while_one_creates(&rt, alloc, disk)?;
+    assert_eq!(rt; created, Some(false));
+    let served = served?;
+    assert_eq!(rt; served.ending, Ending::DiskFailed);
+    assert_eq!(rt; served.sink.bytes(), b"".as_slice());
     Ok(())
 }
