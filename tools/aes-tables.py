@@ -1,5 +1,5 @@
 #!/usr/bin/env python3
-"""Writes crates/aes_block/src/tables.rt, the tables of AES's rounds.
+"""Writes crates/crypto_ciphers/src/aes_block/tables.rt, the tables of AES's rounds.
 
     tools/aes-tables.py
 
@@ -11,7 +11,7 @@ import os
 import sys
 
 TOP = os.path.join(os.path.dirname(os.path.abspath(__file__)), "..")
-TARGET = os.path.join(TOP, "crates", "aes_block", "src", "tables.rt")
+TARGET = os.path.join(TOP, "crates", "crypto_ciphers", "src", "aes_block", "tables.rt")
 
 
 def doubled(a):

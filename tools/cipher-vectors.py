@@ -1,5 +1,5 @@
 #!/usr/bin/env python3
-"""Writes what is due of the rows `cipher vector ..` of crates/byte_rows, by Python's `cryptography` (which is OpenSSL's code).
+"""Writes what is due of the rows `cipher vector ..` of crates/test_rows, by Python's `cryptography` (which is OpenSSL's code).
 
     tools/cipher-vectors.py
 
@@ -9,9 +9,9 @@ behind the other; one with `-zeros` has a key, nonce and text of zeros."""
 
 import hashlib
 import os
+import sys
 
 import vector_parts
-import sys
 
 from cryptography.hazmat.primitives.ciphers.aead import AESCCM, AESGCM
 from cryptography.hazmat.primitives.ciphers.algorithms import AES
@@ -65,10 +65,12 @@ def answer(line):
 
 
 def main():
-    path = os.path.join(vector_parts.CRATES, "byte_rows", "stdin")
+    if len(sys.argv) > 1:
+        sys.exit(__doc__)
+    path = os.path.join(vector_parts.CRATES, "test_rows", "stdin")
     with open(path, encoding="utf-8") as file:
         given = [line.partition(" = ")[0] for line in file.read().splitlines() if line.startswith(ROWS)]
-    vector_parts.put("byte_rows", "stdin", "cipher-vectors.py", ["%s = %s" % (row, answer(row[len(ROWS):])) for row in given])
+    vector_parts.put("test_rows", "stdin", "cipher-vectors.py", ["%s = %s" % (row, answer(row[len(ROWS):])) for row in given])
 
 
 if __name__ == "__main__":

@@ -1,7 +1,7 @@
 #!/usr/bin/env python3
 """Draws the run of a script as SVG: draw_drill.py SCRIPT STEPS > PICTURE.
 
-SCRIPT is the script, STEPS what `smb311_drill steps` prints of it. The client, each connection, the server and its journal
+SCRIPT is the script, STEPS what `drill_steps steps` (a program of figures/) prints of it. The client, each connection, the server and its journal
 are lifelines. A message is an arrow into its connection where it is sent and out of it where it is heard; one that never
 arrives ends in a cross. A restart is a bar, an event that acted an arrow into the journal, and the outcomes stand at the end."""
 import sys

@@ -1,9 +1,9 @@
 #!/usr/bin/env python3
-"""Changes each byte of a logon's messages, one at a time, and counts what becomes of these logons: tools/drill-flips.py PROGRAM
+"""Changes each byte of a logon's messages, one at a time, and counts what becomes of these logons: tools/drill-flips.py PROGRAM STEPS
 
-PROGRAM is the built `smb311_drill` by its whole path. The lengths of the messages come from its word `steps`, each logon is a script of its
-own: `flip` changes the byte by 1, the refused dialog is told in front, and a create that is answered says that the logon was accepted. A
-line for each message: how many bytes it has, and how many logons came out how. Some 1,300 runs of the program."""
+PROGRAM is the built `smb311`, STEPS the built `drill_steps` of figures/, by their whole paths. The lengths of the messages come from
+`drill_steps steps`, each logon is a script of its own: `flip` changes the byte by 1, the refused dialog is told in front, and a create
+that is answered says that the logon was accepted. A line for each message: how many bytes it has, and how many logons came out how. Some 1,300 runs of the program."""
 import collections
 import subprocess
 import sys
@@ -58,9 +58,9 @@ def outcome(program, message, at):
 
 
 def main(words):
-    if len(words) != 1:
+    if len(words) != 2 or words[0].startswith("-"):
         sys.exit(__doc__)
-    for message, length in enumerate(lengths(words[0])):
+    for message, length in enumerate(lengths(words[1])):
         counts = collections.Counter(outcome(words[0], message, at) for at in range(length))
         print("%s, %d bytes: %s" % (MESSAGES[message], length, ", ".join("%d %s" % (counts[word], word) for word in WORDS)))
 

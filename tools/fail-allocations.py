@@ -1,7 +1,7 @@
 #!/usr/bin/env python3
 """Lets each allocation of a row of events fail in turn: tools/fail-allocations.py PROGRAM
 
-PROGRAM is `event_rows` as `rt run` built it. A library that is loaded in front of the C library answers the Nth call of
+PROGRAM is `test_events` as `rt run` built it. A library that is loaded in front of the C library answers the Nth call of
 malloc with no memory. Where an event then answers `Memory`, each other event must be answered as in a run without that
 one; else the server didn't start, or the program says why it gives up. It prints how often each came about, and each
 answer that is another. The status is 0 where there is none. It needs a C compiler (`cc`), and proves nothing."""

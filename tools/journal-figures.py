@@ -14,13 +14,14 @@ def main():
     folder = os.path.abspath(sys.argv[1])
     top = os.path.dirname(os.path.dirname(os.path.abspath(__file__)))
     os.makedirs(folder)
-    below = {line.split(":")[0]: line for line in open(f"{top}/crates.txt", encoding="utf-8") if ":" in line}
-    names = ["persist_journal"]
+    lines = [line for line in open(f"{top}/crates.txt", encoding="utf-8") if ":" in line and line[0] != "#"]
+    below = {line.split(":")[0].split()[0]: line for line in lines}
+    names = ["journal"]
     for name in names:
         names += [it for it in below[name].split(":")[1].split() if it in below and it not in names]
         shutil.copytree(f"{top}/crates/{name}", f"{folder}/crates/{name}")
     lines = [line for name, line in below.items() if name in names]
-    lines.append("journal_figures: anyhow smb_bytes smb_io persist_journal\n")
+    lines.append("journal_figures: base_outside wire_bytes journal anyhow\n")
     with open(f"{folder}/crates.txt", "w", encoding="utf-8") as out:
         out.writelines(lines)
     shutil.copy(f"{top}/HANDLES", folder)

@@ -13,7 +13,7 @@ from law_text import (
     step, type_name, write_list, write_module, write_wanted,
 )
 
-TOP = proofs_of("exchange_law")
+TOP = proofs_of("law_sessions", "messages")
 
 # part: (its type's arguments, the variables that it is quantified by, whether it speaks of what waits)
 PARTS = {
@@ -60,22 +60,22 @@ use Rattle.std.proofs.lemmas.Bool.Decides.{nat_tests}
 use Rattle.std.proofs.Common.{eqb-true, ◌≡◌, ◌≢◌, ℕ, ◌+◌, ◌≤◌, ◌<◌, ◌==◌, ◌%◌, Bool, true, false, not, ◌&&◌, ◌||◌,
     if◌then◌else◌, List, [], ◌∷◌, ◌++◌, ◌⊎◌, inl, inr, refl, arith, sym, subst, ◌∙◌, ap, Option, Some, None,
     slice_get, is_some, zero, suc}
-use Rattle.exchange_defs.specs.Table.{put, put2}
-use Rattle.exchange_defs.specs.Status.{user_session_deleted}
-use Rattle.exchange_defs.specs.State.{Message, Reply}
-use Rattle.exchange_defs.specs.Operations.{Op, Outcome, Why, HadStatus, is_unsettled, is_ok, is_create, is_close,
+use Rattle.spec_exchange.specs.Table.{put, put2}
+use Rattle.spec_exchange.specs.Status.{user_session_deleted}
+use Rattle.spec_exchange.specs.State.{Message, Reply}
+use Rattle.spec_exchange.specs.Operations.{Op, Outcome, Why, HadStatus, is_unsettled, is_ok, is_create, is_close,
     is_lock, create_of, holds_up, request_of}
-use Rattle.exchange_defs.specs.Client.{Client, Stage, create_for, guid_for, has_open, may_take, take_op, waits,
+use Rattle.spec_exchange.specs.Client.{Client, Stage, create_for, guid_for, has_open, may_take, take_op, waits,
     take_slot, outstanding as put_out, asked, cut_channel, end_session, bind_channel, begin_session, leave_dialog,
     note_refusal, finish}
-use Rattle.exchange_defs.specs.Settling.{answered, joined, settled as settled_by}
-use Rattle.exchange_defs.specs.Dialogs.{open_channel, went_on, accepted}
-use Rattle.exchange_defs.specs.Network.{Conn, Sent, Received, Token, ForDialog, ForOp, ForAttach, op_of, is_own,
+use Rattle.spec_exchange.specs.Settling.{answered, joined, settled as settled_by}
+use Rattle.spec_exchange.specs.Dialogs.{open_channel, went_on, accepted}
+use Rattle.spec_exchange.specs.Network.{Conn, Sent, Received, Token, ForDialog, ForOp, ForAttach, op_of, is_own,
     fresh as fresh_conn, server_off, client_off, send_up, behind_front, take_front}
-use Rattle.exchange_defs.specs.Runs.{is_once, is_send_of}
-use Rattle.exchange_law.specs.Connections.{Connections, copies, count_up, count_down, no_copy_out, is_bound,
+use Rattle.spec_exchange.specs.Runs.{is_once, is_send_of}
+use Rattle.law_sessions.specs.messages.Connections.{Connections, copies, count_up, count_down, no_copy_out, is_bound,
     makes_open, shuts_open, acts_once, its_create, its_request, create_at, opens, PARTS}
-use Rattle.exchange_law.proofs.Lists.{get-push, count_up-push, count_down-push, counted_up, counted_down, rest_of,
+use Rattle.law_sessions.proofs.messages.Lists.{get-push, count_up-push, count_down-push, counted_up, counted_down, rest_of,
     own_up_count, attach_up_count, own_down_count, attach_down_count, front_up, front_down, waited, waited_down}
 """.replace("PARTS", ", ".join(type_name(p) for p in PARTS))
 

@@ -27,30 +27,30 @@ HEAD = """use Rattle.std.proofs.lemmas.Bool.{eqb-false}
 use Rattle.std.proofs.lemmas.Bool.Decides.{nat_tests}
 use Rattle.std.proofs.Common.{eqb-true, ◌≡◌, ◌≢◌, ℕ, ◌+◌, ◌≤◌, ◌<◌, ◌==◌, Bool, true, false, not, ◌&&◌, ◌||◌,
     if◌then◌else◌, List, [], ◌∷◌, ◌++◌, ◌⊎◌, inl, inr, refl, arith, sym, subst, ◌∙◌, ap, Option, Some, None, slice_get, is_some, zero, suc}
-use Rattle.exchange_defs.specs.Table.{put, put2, is_at}
-use Rattle.exchange_defs.specs.Status.{success, file_not_available, file_closed, user_session_deleted, end_of_file}
-use Rattle.exchange_defs.specs.Content.{ContentReply}
-use Rattle.exchange_defs.specs.Order.{Log, Says_ok, Says_end, Settled_ok, Settled_end}
-use Rattle.exchange_defs.specs.State.{Server, Message, Reply}
-use Rattle.exchange_defs.specs.Operations.{Op, Outcome, Unsettled, Why, is_unsettled, is_firm, is_ok, is_create,
+use Rattle.spec_exchange.specs.Table.{put, put2, is_at}
+use Rattle.spec_exchange.specs.Status.{success, file_not_available, file_closed, user_session_deleted, end_of_file}
+use Rattle.spec_exchange.specs.Content.{ContentReply}
+use Rattle.spec_exchange.specs.Order.{Log, Says_ok, Says_end, Settled_ok, Settled_end}
+use Rattle.spec_exchange.specs.State.{Server, Message, Reply}
+use Rattle.spec_exchange.specs.Operations.{Op, Outcome, Unsettled, Why, is_unsettled, is_firm, is_ok, is_create,
     persists, create_of, id_in, share_of, reconnect_of, HadStatus}
-use Rattle.exchange_defs.specs.Client.{Client, Stage, Apart, AskedTree, guid_for, SaidNegotiate, create_for,
+use Rattle.spec_exchange.specs.Client.{Client, Stage, Apart, AskedTree, guid_for, SaidNegotiate, create_for,
     outstanding as put_out, take_slot, asked, cut_channel, end_session, finish, is_taken, outcome_after_end,
     given_up_after_end, outcome_after_finish, given_up_after_finish, bind_channel, begin_session, leave_dialog, note_refusal}
-use Rattle.exchange_defs.specs.Settling.{answered, joined, settled as settled_by}
-use Rattle.exchange_defs.specs.Dialogs.{open_channel, went_on, accepted, told_session}
-use Rattle.exchange_defs.specs.Runs.{settlement}
-use Rattle.exchange_defs.specs.Network.{Conn, Sent, Received, Trace, Token, ForDialog, ForOp, ForAttach, op_of, is_own,
+use Rattle.spec_exchange.specs.Settling.{answered, joined, settled as settled_by}
+use Rattle.spec_exchange.specs.Dialogs.{open_channel, went_on, accepted, told_session}
+use Rattle.spec_exchange.specs.Runs.{settlement}
+use Rattle.spec_exchange.specs.Network.{Conn, Sent, Received, Trace, Token, ForDialog, ForOp, ForAttach, op_of, is_own,
     fresh as fresh_conn, server_off, client_off, send_up, behind_front, take_front, said}
-use Rattle.exchange_law.specs.Connections.{create_at, makes_open, its_create, no_copy_out, count_up, count_down, CONNECTIONS}
-use Rattle.exchange_law.proofs.Lists.{get-push, own_up_count, attach_up_count, own_down_count, attach_down_count,
+use Rattle.law_sessions.specs.messages.Connections.{create_at, makes_open, its_create, no_copy_out, count_up, count_down, CONNECTIONS}
+use Rattle.law_sessions.proofs.messages.Lists.{get-push, own_up_count, attach_up_count, own_down_count, attach_down_count,
     front_up, front_down, waited, waited_down}
-use Rattle.session_law.specs.Sessions.{is_ops}
-use Rattle.order_law.specs.Newest.{Pair}
-use Rattle.order_law.specs.Contents.{Contents, edits, lists, formed, isolating, clashes, bytes_after, reply_to,
+use Rattle.law_sessions.specs.sessions.Sessions.{is_ops}
+use Rattle.law_order.specs.order.Newest.{Pair}
+use Rattle.law_order.specs.order.Contents.{Contents, edits, lists, formed, isolating, clashes, bytes_after, reply_to,
     ends_before, file_at, pends, last_id, is_final, PARTS}
-use Rattle.order_law.proofs.Moved.{Steps, Moves, live_back}
-use Rattle.order_law.proofs.Words.{WORDS}
+use Rattle.law_order.proofs.order.Moved.{Steps, Moves, live_back}
+use Rattle.law_order.proofs.order.Words.{WORDS}
 """.replace("PARTS", ", ".join(type_name(p) for p in PARTS))
 
 
@@ -94,7 +94,7 @@ def emit(event):
     used = sorted(set(re.findall(r"\bC\.(\w+)", text)))
     text = text.replace("CONNECTIONS", ", ".join("%s as C%s" % (u, u) for u in used) if used else "copies").replace("C.", "C")
     words_used = [w for w in WORDS if re.search(r"(?<![\w.])%s\b" % w, "".join(out[2:]))]
-    text = text.replace("use Rattle.order_law.proofs.Words.{WORDS}\n", "use Rattle.order_law.proofs.Words.{%s}\n"
+    text = text.replace("use Rattle.law_order.proofs.order.Words.{WORDS}\n", "use Rattle.law_order.proofs.order.Words.{%s}\n"
         % ", ".join(words_used) if words_used else "")
     write_module(TOP, "On" + event.name, text)
 

@@ -6,9 +6,9 @@ import re
 from law_text import CRATES, proofs_of, type_name
 
 HERE = os.path.dirname(os.path.abspath(__file__))
-TOP = proofs_of("order_law")
-SPEC = open(os.path.join(CRATES, "order_law", "specs", "Contents.antt")).read()
-CONNECTIONS = open(os.path.join(CRATES, "exchange_law", "specs", "Connections.antt")).read()
+TOP = proofs_of("law_order", "order")
+SPEC = open(os.path.join(CRATES, "law_order", "specs", "order", "Contents.antt")).read()
+CONNECTIONS = open(os.path.join(CRATES, "law_sessions", "specs", "messages", "Connections.antt")).read()
 
 # part: the variables that it is quantified by, and the columns that it speaks of
 PARTS = {

@@ -14,7 +14,7 @@ from law_text import (
     standing, step, type_name, write_list, write_module, write_wanted,
 )
 
-TOP = proofs_of("create_law")
+TOP = proofs_of("law_creates")
 
 # part: (its type's arguments, the variables that it is quantified by, the columns that it reads)
 PARTS = {
@@ -63,25 +63,25 @@ HEAD = """use Rattle.std.proofs.lemmas.Bool.{eqb-false}
 use Rattle.std.proofs.lemmas.Bool.Decides.{nat_tests}
 use Rattle.std.proofs.Common.{eqb-true, ◌≡◌, ◌≢◌, ℕ, ◌+◌, ◌≤◌, ◌<◌, ◌==◌, Bool, true, false, not, ◌&&◌, ◌||◌,
     if◌then◌else◌, List, [], ◌∷◌, ◌++◌, ◌⊎◌, inl, inr, refl, arith, sym, subst, ◌∙◌, ap, Option, Some, None, slice_get, is_some, zero, suc}
-use Rattle.exchange_defs.specs.Table.{put, put2}
-use Rattle.exchange_defs.specs.Status.{success, user_session_deleted}
-use Rattle.exchange_defs.specs.State.{Message, Reply, Open as OpenRow}
-use Rattle.exchange_defs.specs.Operations.{Op, Outcome, Unsettled, Why, is_unsettled, is_ok, id_in, HadStatus}
-use Rattle.exchange_defs.specs.Client.{Client, Stage, take_slot, outstanding as put_out, asked, cut_channel,
+use Rattle.spec_exchange.specs.Table.{put, put2}
+use Rattle.spec_exchange.specs.Status.{success, user_session_deleted}
+use Rattle.spec_exchange.specs.State.{Message, Reply, Open as OpenRow}
+use Rattle.spec_exchange.specs.Operations.{Op, Outcome, Unsettled, Why, is_unsettled, is_ok, id_in, HadStatus}
+use Rattle.spec_exchange.specs.Client.{Client, Stage, take_slot, outstanding as put_out, asked, cut_channel,
     end_session, finish, bind_channel, begin_session, leave_dialog, note_refusal}
-use Rattle.exchange_defs.specs.Settling.{answered, joined, settled as settled_by}
-use Rattle.exchange_defs.specs.Dialogs.{open_channel, went_on, accepted}
-use Rattle.exchange_defs.specs.Network.{Conn, Sent, Received, Token, ForDialog, ForOp, ForAttach, op_of,
+use Rattle.spec_exchange.specs.Settling.{answered, joined, settled as settled_by}
+use Rattle.spec_exchange.specs.Dialogs.{open_channel, went_on, accepted}
+use Rattle.spec_exchange.specs.Network.{Conn, Sent, Received, Token, ForDialog, ForOp, ForAttach, op_of,
     fresh as fresh_conn, server_off, client_off, send_up, behind_front, take_front}
-use Rattle.exchange_defs.specs.Runs.{never_acted}
-use Rattle.exchange_law.specs.Connections.{copies, makes_open, FIT}
-use Rattle.exchange_law.proofs.Lists.{get-push, counted_up, counted_down, own_up_count, own_down_count, front_up,
+use Rattle.spec_exchange.specs.Runs.{never_acted}
+use Rattle.law_sessions.specs.messages.Connections.{copies, makes_open, FIT}
+use Rattle.law_sessions.proofs.messages.Lists.{get-push, counted_up, counted_down, own_up_count, own_down_count, front_up,
     front_down, waited, waited_down}
-use Rattle.session_law.specs.Sessions.{logon_user}
-use Rattle.create_law.specs.Creates.{Seen, Creates, Restarts, own_guid, guid_at, named, is_kept, is_current, is_barred,
+use Rattle.law_sessions.specs.sessions.Sessions.{logon_user}
+use Rattle.law_creates.specs.Creates.{Seen, Creates, Restarts, own_guid, guid_at, named, is_kept, is_current, is_barred,
     is_full, refuses, outlives, keeps_form, is_of_dialog, is_of_ask, has_files, may_act, PARTS}
-use Rattle.create_law.proofs.Words.{guid_once, full_more, after_end}
-use Rattle.create_law.proofs.Moves.{refuse_in, attach_to, make_new, leave_by, closed_by, shut_in, expire_by, goes_with,
+use Rattle.law_creates.proofs.Words.{guid_once, full_more, after_end}
+use Rattle.law_creates.proofs.Moves.{refuse_in, attach_to, make_new, leave_by, closed_by, shut_in, expire_by, goes_with,
     named_still, end_of, begin_of}
 """
 CLASH = {"Named": "Named", "Attached": "Attached"}

@@ -14,7 +14,7 @@ from law_text import (
     standing, step, type_name, write_list, write_module, write_wanted,
 )
 
-TOP = proofs_of("lock_law")
+TOP = proofs_of("law_locks")
 
 # part: (its type's arguments, the variables that it is quantified by, the columns that it reads)
 PARTS = {
@@ -105,28 +105,28 @@ use Rattle.std.proofs.lemmas.Bool.Decides.{nat_tests}
 use Rattle.std.proofs.Common.{eqb-true, ◌≡◌, ◌≢◌, ℕ, ◌+◌, ◌≤◌, ◌<◌, ◌==◌, ◌%◌, Bool, true, false, not, ◌&&◌, ◌||◌,
     if◌then◌else◌, List, [], ◌∷◌, ◌++◌, ◌⊎◌, inl, inr, refl, arith, sym, subst, ◌∙◌, ap, Option, Some, None,
     slice_get, is_some, zero, suc}
-use Rattle.exchange_defs.specs.Table.{put, put2}
-use Rattle.exchange_defs.specs.Status.{success, user_session_deleted, file_closed, object_name_not_found, disk_full}
-use Rattle.exchange_defs.specs.Commands.{TreeConnect, deletes_on_close}
-use Rattle.exchange_defs.specs.CheckSetup.{tree_in}
-use Rattle.exchange_defs.specs.State.{Server, Message, Reply, Kept, Range}
-use Rattle.exchange_defs.specs.Records.{lower_limit}
-use Rattle.exchange_defs.specs.Operations.{Op, Outcome, Why, is_unsettled, is_ok, is_create, is_close, is_lock,
+use Rattle.spec_exchange.specs.Table.{put, put2}
+use Rattle.spec_exchange.specs.Status.{success, user_session_deleted, file_closed, object_name_not_found, disk_full}
+use Rattle.spec_exchange.specs.Commands.{TreeConnect, deletes_on_close}
+use Rattle.spec_exchange.specs.CheckSetup.{tree_in}
+use Rattle.spec_exchange.specs.State.{Server, Message, Reply, Kept, Range}
+use Rattle.spec_exchange.specs.Records.{lower_limit}
+use Rattle.spec_exchange.specs.Operations.{Op, Outcome, Why, is_unsettled, is_ok, is_create, is_close, is_lock,
     create_of, id_in, reconnect_of, HadStatus}
-use Rattle.exchange_defs.specs.Client.{Client, Stage, AskedTree, create_for, guid_for, outstanding as put_out, asked,
+use Rattle.spec_exchange.specs.Client.{Client, Stage, AskedTree, create_for, guid_for, outstanding as put_out, asked,
     cut_channel, end_session, finish, bind_channel, begin_session, leave_dialog, note_refusal}
-use Rattle.exchange_defs.specs.Settling.{answered}
-use Rattle.exchange_defs.specs.Dialogs.{open_channel, went_on, accepted}
-use Rattle.exchange_defs.specs.Network.{Conn, Sent, Received, Token, ForDialog, ForOp, ForAttach, op_of,
+use Rattle.spec_exchange.specs.Settling.{answered}
+use Rattle.spec_exchange.specs.Dialogs.{open_channel, went_on, accepted}
+use Rattle.spec_exchange.specs.Network.{Conn, Sent, Received, Token, ForDialog, ForOp, ForAttach, op_of,
     fresh as fresh_conn, server_off, client_off, send_up, behind_front, take_front}
-use Rattle.exchange_law.specs.Connections.{Connections, copies, count_up, count_down, no_copy_out, makes_open,
+use Rattle.law_sessions.specs.messages.Connections.{Connections, copies, count_up, count_down, no_copy_out, makes_open,
     shuts_open, acts_once, its_create, its_request, create_at, opens, CPARTS}
-use Rattle.exchange_law.proofs.Lists.{get-push, rest_of, own_up_count, own_down_count, attach_up_count,
+use Rattle.law_sessions.proofs.messages.Lists.{get-push, rest_of, own_up_count, own_down_count, attach_up_count,
     attach_down_count, front_up, front_down, waited, waited_down}
-use Rattle.session_law.specs.Sessions.{is_ops}
-use Rattle.lock_law.specs.Locks.{Locks, locking, kept_at, firm, is_unsent, refused_for_good, in_slots, user_at,
+use Rattle.law_sessions.specs.sessions.Sessions.{is_ops}
+use Rattle.law_locks.specs.Locks.{Locks, locking, kept_at, firm, is_unsent, refused_for_good, in_slots, user_at,
     open_at, kept_of, goes_with, piped, PARTS}
-use Rattle.lock_law.proofs.Words.{WORDS}
+use Rattle.law_locks.proofs.Words.{WORDS}
 """
 for marked, parts in (("CPARTS", C_PARTS), ("PARTS", PARTS)):
     HEAD = HEAD.replace(marked, ", ".join(type_name(p) for p in parts))

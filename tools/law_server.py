@@ -1,5 +1,5 @@
 #!/usr/bin/env python3
-"""Writes the regular part of the proofs of server_law: for each small effect on the server one lemma for each part of
+"""Writes the regular part of the proofs of `law_server::tables`: for each small effect on the server one lemma for each part of
 Fits that reads a column which the effect writes, and the record that joins them.
 
 Run `rt tidy` and `rt fmt` in the crate behind it: it writes all imports into each file.
@@ -354,7 +354,7 @@ ended_numbers s session is_quiet y left h = subst (λ n. 0 < y × y < n) left.ne
 """),
 ]
 
-MORE = {'EndSession': 'use Rattle.exchange_defs.specs.Effects.{plain_of}\nuse Rattle.server_law.proofs.Leaving.{AllLeft, '
+MORE = {'EndSession': 'use Rattle.spec_exchange.specs.Effects.{plain_of}\nuse Rattle.law_server.proofs.tables.Leaving.{AllLeft, '
     'files_left, not_plain}\n'}
 
 FILES = {}
@@ -365,7 +365,7 @@ for effect in EFFECTS:
 def main():
     for module, effects in FILES.items():
         head = sentence('; '.join(effect.says for effect in effects)) + HEAD + MORE.get(module, '')
-        write_module(proofs_of('server_law'), module, head + '\n' + '\n'.join(emit(effect) for effect in effects))
+        write_module(proofs_of("law_server", "tables"), module, head + '\n' + '\n'.join(emit(effect) for effect in effects))
 
 
 if __name__ == '__main__':

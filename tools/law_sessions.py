@@ -15,7 +15,7 @@ from law_text import (
     step, type_name, write_list, write_module, write_wanted,
 )
 
-TOP = proofs_of("session_law")
+TOP = proofs_of("law_sessions", "sessions")
 
 # part: (its type's arguments, the variables that it is quantified by, what it reads)
 PARTS = {
@@ -64,22 +64,22 @@ def default(part):
 HEAD = """use Rattle.std.proofs.Common.{◌≡◌, ◌≢◌, ℕ, ◌+◌, ◌-◌, ◌≤◌, ◌<◌, ◌==◌, Bool, true, false, not, ◌&&◌, ◌||◌,
     if◌then◌else◌, List, [], ◌∷◌, ◌++◌, ◌⊎◌, inl, inr, refl, arith, sym, subst, ◌∙◌, ap, Option, Some, None,
     slice_get, is_some, zero, suc}
-use Rattle.exchange_defs.specs.Table.{put}
-use Rattle.exchange_defs.specs.Status.{success, more_processing_required}
-use Rattle.exchange_defs.specs.Commands.{Command, Aside}
-use Rattle.exchange_defs.specs.State.{Server, Message, Reply}
-use Rattle.exchange_defs.specs.CheckSetup.{is_new, tree_in}
-use Rattle.exchange_defs.specs.Opens.{id_of}
-use Rattle.exchange_defs.specs.Operations.{Refusal}
-use Rattle.exchange_defs.specs.Client.{Client, Stage, Apart, SaidNegotiate, SaidFirst, SaidSecond, AskedTree,
+use Rattle.spec_exchange.specs.Table.{put}
+use Rattle.spec_exchange.specs.Status.{success, more_processing_required}
+use Rattle.spec_exchange.specs.Commands.{Command, Aside}
+use Rattle.spec_exchange.specs.State.{Server, Message, Reply}
+use Rattle.spec_exchange.specs.CheckSetup.{is_new, tree_in}
+use Rattle.spec_exchange.specs.Opens.{id_of}
+use Rattle.spec_exchange.specs.Operations.{Refusal}
+use Rattle.spec_exchange.specs.Client.{Client, Stage, Apart, SaidNegotiate, SaidFirst, SaidSecond, AskedTree,
     RefusedDialog, cut_channel, end_session, bind_channel, begin_session, leave_dialog, note_refusal, unmade}
-use Rattle.exchange_defs.specs.Dialogs.{open_channel, accepted}
-use Rattle.exchange_defs.specs.Network.{Conn, Sent, Received, Token, ForDialog, server_off, client_off, send_up, behind_front, take_front}
-use Rattle.exchange_law.specs.Connections.{copies}
-use Rattle.exchange_law.proofs.Lists.{get-push, waited, waited_down}
-use Rattle.session_law.specs.Sessions.{Sessions, is_ops, makes_session, logon_user, is_work, is_dialog, is_new_setup,
+use Rattle.spec_exchange.specs.Dialogs.{open_channel, accepted}
+use Rattle.spec_exchange.specs.Network.{Conn, Sent, Received, Token, ForDialog, server_off, client_off, send_up, behind_front, take_front}
+use Rattle.law_sessions.specs.messages.Connections.{copies}
+use Rattle.law_sessions.proofs.messages.Lists.{get-push, waited, waited_down}
+use Rattle.law_sessions.specs.sessions.Sessions.{Sessions, is_ops, makes_session, logon_user, is_work, is_dialog, is_new_setup,
     is_tree_connect, logs_on, user_in, previous_in, PARTS}
-use Rattle.session_law.proofs.Words.{SameSession, Moves, no_dialog_up, no_dialog_down, moved_unmade}
+use Rattle.law_sessions.proofs.sessions.Words.{SameSession, Moves, no_dialog_up, no_dialog_down, moved_unmade}
 """.replace("PARTS", ", ".join(type_name(p) for p in PARTS))
 
 

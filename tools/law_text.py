@@ -7,9 +7,9 @@ sys.dont_write_bytecode = True
 CRATES = os.path.join(os.path.dirname(os.path.abspath(__file__)), "..", "crates")
 
 
-def proofs_of(crate):
-    """the folder of a crate's lemmas"""
-    return os.path.join(CRATES, crate, "proofs")
+def proofs_of(crate, *module):
+    """the folder of the lemmas of a crate, or of its module"""
+    return os.path.join(CRATES, crate, "proofs", *module)
 
 
 def type_name(part):
@@ -116,5 +116,7 @@ def standing(folder, modules):
 
 
 def write_list(folder, modules):
-    """the file that names a crate's modules"""
-    write_module(folder, "Lib", "".join("pub mod %s\n" % module for module in modules))
+    """the file that names the modules of a crate, or of its module"""
+    module = os.path.basename(folder)
+    folder, module = (folder, "Lib") if module == "proofs" else (os.path.dirname(folder), module)
+    write_module(folder, module, "".join("pub mod %s\n" % module for module in modules))

@@ -3,7 +3,7 @@
 
 usage: tools/plain-client.py [figures]
 
-Writes `stdin` and `stdout` of crates/client_scripts; with `figures` it tells how often each answer comes, and writes
+Writes the rows `client ..` of crates/test_rows/stdin; with `figures` it tells how often each answer comes, and writes
 nothing. Each run first checks the plain client on answers that were worked by hand (tools/plain_client_checks.py).
 
 A row is an event, ` = ` and the answer: what is done, then, behind `; `, each operation that settles by it.
@@ -22,10 +22,10 @@ A row is an event, ` = ` and the answer: what is done, then, behind `; `, each o
     end                          all outcomes; what is outstanding; the order of the replies; the session; refused dialogs
 """
 import collections
-import os
 import sys
 
 import plain_client_checks
+import vector_parts
 from plain_client import LOCKS, NO_MEMORY, REPLIES, USER_SESSION_DELETED, Client, Operation
 from plain_client import DISK_FULL, DUPLICATE_OBJECTID, FILE_CLOSED, FILE_LOCK_CONFLICT, FILE_NOT_AVAILABLE, OBJECT_NAME_NOT_FOUND
 
@@ -522,11 +522,7 @@ def main(words):
     if words:
         figures(rows)
         return 0
-    folder = os.path.join(os.path.dirname(os.path.dirname(os.path.abspath(__file__))), "crates", "client_scripts")
-    with open(os.path.join(folder, "stdin"), "w", encoding="utf-8") as file:
-        file.write("# Written by tools/plain-client.py.\n" + "".join(row + "\n" for row in rows))
-    with open(os.path.join(folder, "stdout"), "w", encoding="utf-8") as file:
-        file.write("%d rows are answered as they say\n" % len(rows))
+    vector_parts.put("test_rows", "stdin", "plain-client.py", ["client " + row for row in rows])
     return 0
 
 

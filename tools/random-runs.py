@@ -89,27 +89,27 @@ def main():
     top = os.path.dirname(os.path.dirname(os.path.abspath(__file__)))
     copy = os.path.join(folder, "random")
     shutil.rmtree(copy, ignore_errors=True)
-    for crate in ("exchange_defs", "exchange_examples"):
+    for crate in ("spec_exchange", "examples_exchange"):
         shutil.copytree(os.path.join(top, "crates", crate), os.path.join(copy, "crates", crate))
     shutil.copy(os.path.join(top, "HANDLES"), copy)
     with open(os.path.join(copy, "crates.txt"), "w") as out:
-        out.write("exchange_defs:\nexchange_examples: exchange_defs\nrandom_runs: exchange_defs exchange_examples\n")
+        out.write("spec_exchange:\nexamples_exchange: spec_exchange\nrandom_runs: spec_exchange examples_exchange\n")
     subprocess.run(["git", "init", "-q"], cwd=copy, check=False)
     for part in ("src", "specs"):
         os.makedirs(os.path.join(copy, "crates", "random_runs", part))
-    examples = open(os.path.join(top, "crates", "exchange_examples", "src", "lib.rt"), encoding="utf-8").read()
+    examples = open(os.path.join(top, "crates", "examples_exchange", "src", "lib.rt"), encoding="utf-8").read()
     tactic = re.search(r"#!\[tactic\(auto.*?\)\)\]", examples, re.S).group(0)
-    defs, here = "Rattle.exchange_defs.specs", os.path.join(copy, "crates", "random_runs")
+    defs, here = "Rattle.spec_exchange.specs", os.path.join(copy, "crates", "random_runs")
     specs = (
         "use Rattle.std.specs.Prelude.{ℕ, List, [], ◌∷◌, Some, true, false}\n"
         f"use {defs}.Operations.{{OpCreate, OpWrite, OpRead, OpEnd, OpTime, OpRename, OpRemove, OpLock, OpUnlock, OpClose, HadStatus}}\n"
         f"use {defs}.Network.{{Push, Serve, Take, Cut, Drop, Restart, Crash, Wait, Finish}}\n"
-        f"use {defs}.Schedules.{{Line, Does, Pushes, Links, Settles}}\nuse Rattle.exchange_examples.specs.Scripts.{{submit}}\n"
+        f"use {defs}.Schedules.{{Line, Does, Pushes, Links, Settles}}\nuse Rattle.examples_exchange.specs.Scripts.{{submit}}\n"
     )
     source = (
         f"//! Runs made at random.\n{tactic}\n\nghost use Rattle.std.specs.Prelude.{{◌≡◌, ℕ, List, true}};\n"
-        f"ghost use {defs}.Schedules.{{course}};\nghost use Rattle.exchange_examples.specs.Servers.{{journal_stands}};\n"
-        "ghost use Rattle.exchange_examples.specs.Laws.{laws_hold};\nghost use Rattle.exchange_examples.specs.Scripts.{beginning};\n"
+        f"ghost use {defs}.Schedules.{{course}};\nghost use Rattle.examples_exchange.specs.Servers.{{journal_stands}};\n"
+        "ghost use Rattle.examples_exchange.specs.Laws.{laws_hold};\nghost use Rattle.examples_exchange.specs.Scripts.{beginning};\n"
         "ghost use Rattle.random_runs.specs.Runs.{" + ", ".join(f"script_{i}" for i in range(count)) + "};\n"
     )
     chance = random.Random(seed)

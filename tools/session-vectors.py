@@ -1,5 +1,5 @@
 #!/usr/bin/env python3
-"""Writes the table of logon tokens, keys, signatures and sealed messages, which are rows of the program crates/message_vectors.
+"""Writes the table of logon tokens, keys, signatures and sealed messages, which are rows of the program crates/test_messages.
 
 usage: tools/session-vectors.py
 
@@ -39,7 +39,7 @@ class Table:
 
     def write(self):
         for file, lines in (("stdin", self.asked), ("stdout", self.answered)):
-            vector_parts.put("message_vectors", file, "session-vectors.py", lines)
+            vector_parts.put("test_messages", file, "session-vectors.py", lines)
 
 
 def digits(data):

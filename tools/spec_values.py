@@ -322,8 +322,9 @@ class Terms:
 
     def __init__(self, top=os.path.join(TOP, "crates")):
         self.modules = {}
-        for path in glob.glob(os.path.join(top, "*", "specs", "*.antt")):
-            crate, base = path.split(os.sep)[-3], os.path.basename(path)[: -len(".antt")]
+        for path in glob.glob(os.path.join(top, "*", "specs", "**", "*.antt"), recursive=True):
+            crate, _, *module = os.path.relpath(path, top)[: -len(".antt")].split(os.sep)
+            base = ".".join(module)
             with open(path, encoding="utf-8") as file:
                 name = f"Rattle.{crate}.specs.{base}"
                 self.modules[name] = Module(self, name, file.read())

@@ -1,5 +1,6 @@
 #!/usr/bin/env python3
 """Writes random calls on a store of files, each with its answer by a plain model: a dict of paths and byte strings.
+They become the rows `file ..` of crates/test_rows/stdin.
 
 usage: tools/store-calls.py SEED COUNT [WORD..]       leaves out the calls of each WORD, of those that change nothing
 
@@ -37,6 +38,8 @@ The SUM of bytes is the sum of (i + 1) times byte i, modulo 2^32.
 import copy
 import random
 import sys
+
+import vector_parts
 
 INVALID, NAME_INVALID, NO_PATH, COLLISION = 0xC000000D, 0xC0000033, 0xC000003A, 0xC0000035
 DENIED, NOT_EMPTY, FULL, PAST_END, NO_FILE = 0xC0000022, 0xC0000101, 0xC000007F, 0xC0000011, 0xC000000F
@@ -557,11 +560,9 @@ def main():
     seed, count, left_out = int(sys.argv[1]), int(sys.argv[2]), sys.argv[3:]
     caller = Caller(seed, 120000)
     lines = ["new 120000 = ok", *(caller.line() for _ in range(count - 2)), "files = " + caller.call_files()[1]]
-    print(f"# Written by tools/{' '.join(['store-calls.py', *sys.argv[1:]])}.")
-    print(WORKED)
-    for line in lines:
-        if line.split(" ")[0] not in left_out:
-            print(line)
+    lines = [line for line in lines if line.split(" ")[0] not in left_out]
+    rows = [line if line.startswith("#") else "file " + line for line in [*WORKED.split("\n"), *lines] if line]
+    vector_parts.put("test_rows", "stdin", " ".join(["store-calls.py", *sys.argv[1:]]), rows)
     return 0
 
 

@@ -3,7 +3,7 @@
 
 usage: tools/wire-vectors.py
 
-Writes its part of `stdin` and `stdout` of crates/message_vectors. The bytes are made by `struct.pack` from the layouts of MS-SMB2 2.2,
+Writes its part of `stdin` and `stdout` of crates/test_messages. The bytes are made by `struct.pack` from the layouts of MS-SMB2 2.2,
 MS-FSCC 2.4 and 2.5, and of the journal; nothing here is the output of the program. A line of `stdin` is the name of a table, a
 word and the hexadecimal digits of a body, which stands behind a header of 64 zero bytes where the word is a message; a number
 behind them cuts the message to so many bytes. `stdout` has the value that stands in it, by name, and its canonical spelling, or
@@ -44,7 +44,7 @@ def write(tables):
     asked = [line for table in tables for line in table.asked]
     answered = [line for table in tables for line in table.answered]
     for file, lines in (("stdin", asked), ("stdout", answered)):
-        vector_parts.put("message_vectors", file, "wire-vectors.py", lines)
+        vector_parts.put("test_messages", file, "wire-vectors.py", lines)
 
 
 # ---- messages

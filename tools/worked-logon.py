@@ -3,12 +3,12 @@
 
 usage: tools/worked-logon.py [--shown | --run]
 
-Writes crates/world_examples/specs/Worked.antt: the third logon of worked_logon.py, its texts, its random bytes, and the
-signed frames of the second one; and for the program worked_logon the rows of a client's dialog through the first one, and
+Writes crates/examples_world/specs/runs/Worked.antt: the third logon of worked_logon.py, its texts, its random bytes, and the
+signed frames of the second one; and for the program test_logon the rows of a client's dialog through the first one, and
 what it is to print: each frame of all four on a line, and how many rows it answers. The
 formulas are compared with published numbers first: MS-NLMP 4.2.4, and Microsoft's derivations for SMB 3.0 and 3.1.1. Then each logon is heard from the other side: what was sealed is opened by OpenSSL,
 signatures and the proof are made anew. With --shown each logon is printed instead: what is drawn, tokens, keys and every frame.
-With --run the definitions are computed by spec_values.py instead: the world over bytes of crates/world_defs from its start
+With --run the definitions are computed by spec_values.py instead: the world over bytes of crates/spec_world from its start
 on, event by event, whose frames are to be those of each logon (a minute or two), and the clauses of the worked examples.
 """
 import os
@@ -26,9 +26,9 @@ from spec_values import Module, Terms
 from spec_words import Case, applied
 
 TOP = os.path.dirname(os.path.dirname(os.path.abspath(__file__)))
-FILE = os.path.join(TOP, "crates", "world_examples", "specs", "Worked.antt")
-ROWS = os.path.join(TOP, "crates", "worked_logon", "stdin")
-OUTPUT = os.path.join(TOP, "crates", "worked_logon", "stdout")
+FILE = os.path.join(TOP, "crates", "examples_world", "specs", "runs", "Worked.antt")
+ROWS = os.path.join(TOP, "crates", "test_logon", "stdin")
+OUTPUT = os.path.join(TOP, "crates", "test_logon", "stdout")
 WIDTH = 120
 
 
@@ -148,7 +148,7 @@ def show(logon):
 
 # ---- computed by the definitions
 
-EVENTS = "Rattle.world_defs.specs.Events"
+EVENTS = "Rattle.spec_world.specs.Events"
 
 
 def listed(data):
@@ -188,7 +188,7 @@ def run(terms, logon):
 
 def examples(terms):
     """The clauses of the worked examples, each with whether its sides are equal."""
-    with open(os.path.join(TOP, "crates", "world_examples", "src", "lib.rt"), encoding="utf-8") as file:
+    with open(os.path.join(TOP, "crates", "examples_world", "src", "runs.rt"), encoding="utf-8") as file:
         text = file.read()
     scope = Module(terms, "examples", "\n".join(re.findall(r"(?m)^ghost (use .*);$", text)))
     terms.modules["examples"] = scope

@@ -15,11 +15,11 @@ What each check printed is kept in FOLDER/logs. What earlier checks kept of the 
 With --texts nothing is proved: a line is printed for each text that doesn't stand once, each example that isn't there, and
 each change that has neither an example nor a law.
 """
-import os, re, shutil, signal, subprocess, sys
+import glob, os, re, shutil, signal, subprocess, sys
 
 TOP = os.path.dirname(os.path.dirname(os.path.abspath(__file__)))
 LIMIT = 900  # seconds of one check
-LISTS = {"wrong-models.txt": "exchange_examples", "wrong-worlds.txt": "world_examples"}  # with the crate of their examples
+LISTS = {"wrong-models.txt": "examples_exchange", "wrong-worlds.txt": "examples_world"}  # with the crate of their examples
 
 
 def read_changes():
@@ -46,7 +46,7 @@ def read_list(name):
 
 
 def failing(text):
-    names = re.findall(r"fn \w+::(\w+): no proof", text)
+    names = re.findall(r"fn (?:\w+::)*(\w+): no proof", text)
     names += re.findall(r"error: `([\w-]+)`", text)
     return sorted(set(names))
 
@@ -79,27 +79,42 @@ def misplaced(change, top):
     return found
 
 
-def functions_of(crate):
-    return re.findall(r"fn (\w+)\(", open(os.path.join(TOP, "crates", crate, "src", "lib.rt"), encoding="utf-8").read())
+def places_of(crate, function):
+    """Where functions of that name stand: their paths below the crate, as `rt check --only` takes them."""
+    src = os.path.join(TOP, "crates", crate, "src")
+    found = []
+    for path in sorted(glob.glob(os.path.join(src, "**", "*.rt"), recursive=True)):
+        words = os.path.relpath(path, src)[: -len(".rt")].split(os.sep)
+        modules = [word for word in words if word != "lib"]
+        times = len(re.findall(r"\bfn %s\(" % function, open(path, encoding="utf-8").read()))
+        found += ["::".join(modules + [function])] * times
+    return found
 
 
 def check_texts():
-    changes = read_changes()
+    changes, crates = read_changes(), crates_below()
     for change in changes:
-        functions = functions_of(change["crate"])
         for bad in misplaced(change, TOP):
             print(change["name"], bad)
-        if change.get("example", functions[0]) not in functions:
-            print(change["name"], "BAD: no example", change["example"])
+        if "example" in change and len(places_of(change["crate"], change["example"])) != 1:
+            print(change["name"], "BAD: no example, or more than one", change["example"])
+        for crate in change.get("laws", "").split():
+            if crate not in crates:
+                print(change["name"], "BAD: no crate", crate)
         if "example" not in change and "laws" not in change:
             print(change["name"], "BAD: neither an example nor a law")
     print(len(changes), "changes read")
 
 
+def crates_below():
+    """Each crate of the repository, with what it stands on."""
+    lines = [line.split("#")[0] for line in open(os.path.join(TOP, "crates.txt"), encoding="utf-8")]
+    return {line.split(":")[0].split()[0]: line.split(":")[1].split() for line in lines if ":" in line}
+
+
 def with_lower(crates):
     """These crates and all of the repository that they stand on."""
-    lines = [line.split("#")[0] for line in open(os.path.join(TOP, "crates.txt"), encoding="utf-8")]
-    below = {line.split(":")[0].split()[0]: line.split(":")[1].split() for line in lines if ":" in line}
+    below = crates_below()
     found, waiting = set(), list(crates)
     while waiting:
         crate = waiting.pop()
@@ -148,7 +163,7 @@ def keep_log(copy, name, crate, text):
 def verdict(copy, change, crate, words):
     status, text = run_check(copy, crate, words)
     keep_log(copy, change["name"], crate, text)
-    broken = re.findall(r"^(?:\./)?specs/\w+\.antt:\d+:\d+: error: .{0,120}", text, re.M)
+    broken = re.findall(r"^(?:\./)?specs/[\w/]+\.antt:\d+:\d+: error: .{0,120}", text, re.M)
     if broken:
         return "BAD: " + broken[0]
     if status is None:
@@ -156,6 +171,13 @@ def verdict(copy, change, crate, words):
     if status == 0:
         return "passes"
     return refusal(text, crate)
+
+
+def by_example(copy, change, crate):
+    places = places_of(crate, change["example"])
+    if len(places) != 1:
+        return "BAD: %d functions are named %s" % (len(places), change["example"])
+    return verdict(copy, change, crate, ["--only", places[0]])
 
 
 def by_laws(copy, change):
@@ -202,7 +224,8 @@ def main():
     crate = "" if mode == "--laws" else words.pop(0)
     folder, chosen = words[0], words[1:]
     needs = {"--laws": "laws", "--examples": "example"}.get(mode, "name")
-    decide = by_laws if crate == "" else lambda copy, c: verdict(copy, c, crate, ["--only", c["example"]] if mode else [])
+    by_crate = {"--examples": by_example, "": lambda copy, change, crate: verdict(copy, change, crate, [])}
+    decide = by_laws if mode == "--laws" else lambda copy, change: by_crate[mode](copy, change, crate)
     changes = [c for c in read_changes() if needs in c and (not chosen or c["name"] in chosen)]
     changes = [c for c in changes if mode != "--examples" or c["crate"] == crate]
     copy = copy_crates(folder, [name for c in changes for name in (c["laws"].split() if crate == "" else [crate])])

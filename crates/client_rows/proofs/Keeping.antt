@@ -1,10 +1,10 @@
 -- One row changes, and where each stands stays.
 use Rattle.std.proofs.Common.{◌≡◌, ℕ, ◌<◌, List, length, set, ap, sym}
-use Rattle.operation_rows.specs.declared.row.Row.{Row}
-use Rattle.operation_rows.specs.Rows.{row_at}
-use Rattle.operation_rows.specs.Moves.{KeepsPlace}
-use Rattle.operation_rows.proofs.Walking.{count_same, row_there}
-use Rattle.operation_rows.proofs.Changing.{col_kept}
+use Rattle.client_rows.specs.declared.operation_rows.row.Row.{Row}
+use Rattle.client_rows.specs.operation_rows.Rows.{row_at}
+use Rattle.client_rows.specs.operation_rows.Moves.{KeepsPlace}
+use Rattle.client_rows.proofs.operation_rows.Walking.{count_same, row_there}
+use Rattle.client_rows.proofs.operation_rows.Changing.{col_kept}
 use Rattle.client_rows.specs.Shown.{KeepsRow}
 
 -- a column that the new row keeps stays

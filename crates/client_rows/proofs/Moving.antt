@@ -1,19 +1,19 @@
 -- One row changes.
 use Rattle.std.proofs.Common.{◌≡◌, ℕ, ◌<◌, ◌≤◌, Bool, true, false, List, length, set, refl, ap, sym, ◌∙◌, arith}
 use Rattle.std.proofs.Common.{subst, ◌⊎◌, inl, inr, Option}
-use Rattle.watch_lists.specs.declared.Link.{Link as Watch}
-use Rattle.exchange_defs.specs.Table.{put}
-use Rattle.exchange_defs.specs.Operations.{Op, Outcome, is_firm, is_unsettled}
-use Rattle.exchange_defs.specs.Client.{Client}
-use Rattle.exchange_defs.specs.Schedules.{cost}
-use Rattle.client_law.specs.Columns.{IsFirst, ops_of, standing_of}
-use Rattle.operation_rows.specs.declared.row.Row.{Row}
-use Rattle.operation_rows.specs.Rows.{row_at, stands, costs}
-use Rattle.operation_rows.specs.Holding.{IsSafe}
-use Rattle.operation_rows.specs.Moves.{IsSettled, KeepsPlace, StandsRows}
-use Rattle.operation_rows.proofs.Walking.{count_same, positive, put_at, put_off, row_here, row_there}
-use Rattle.operation_rows.proofs.Changing.{col_kept, settled_row}
-use Rattle.client_rows.specs.Shown.{ShowsPlaces, ShowsRows, ShowsSends, waits_by, fills_by}
+use Rattle.base_lists.specs.declared.watch_lists.Link.{Link as Watch}
+use Rattle.spec_exchange.specs.Table.{put}
+use Rattle.spec_exchange.specs.Operations.{Op, Outcome, is_firm, is_unsettled}
+use Rattle.spec_exchange.specs.Client.{Client}
+use Rattle.spec_exchange.specs.Schedules.{cost}
+use Rattle.law_client.specs.table.Columns.{IsClientFirst, ops_of, standing_of}
+use Rattle.client_rows.specs.declared.operation_rows.row.Row.{Row}
+use Rattle.client_rows.specs.operation_rows.Rows.{row_at, stands, costs}
+use Rattle.client_rows.specs.operation_rows.Holding.{IsSafe}
+use Rattle.client_rows.specs.operation_rows.Moves.{IsSettled, KeepsPlace, StandsRows}
+use Rattle.client_rows.proofs.operation_rows.Walking.{count_same, positive, put_at, put_off, row_here, row_there}
+use Rattle.client_rows.proofs.operation_rows.Changing.{col_kept, settled_row}
+use Rattle.client_rows.specs.Shown.{RowShowsPlaces, ShowsRows, ShowsSends, waits_by, fills_by}
 
 ways : (x y : ℕ) → (x ≡ y) ⊎ (x ≡ y → ⊥)
 ways x y = grind arith
@@ -41,7 +41,7 @@ put_col f rows x r k v h e s g =
 places_kept : (rows : List Row) (x : ℕ) (r : Row) (taken : ℕ) (op : ℕ → Op) (outcome : ℕ → Outcome) (paid : ℕ → ℕ)
     → x < length rows → KeepsPlace (row_at rows x) r → r.firm ≡ (row_at rows x).firm → r.cost ≡ (row_at rows x).cost
     → r.charge ≡ (row_at rows x).charge
-    → ShowsPlaces rows taken op outcome paid → ShowsPlaces (set rows x r) taken op outcome paid
+    → RowShowsPlaces rows taken op outcome paid → RowShowsPlaces (set rows x r) taken op outcome paid
 places_kept rows x r taken op outcome paid h k f e q s =
     let n = count_same rows x r in
     record {
@@ -81,7 +81,7 @@ shown_moved rows x r holders prices prices2 watchers c sent out asks unanswered 
 -- ---- one settles
 
 pub is_first : (rows : List Row) (holders prices list : List ℕ) (watchers : List Watch) (c : Client) (g : ℕ) → IsSafe rows list
-    → ShowsRows rows holders prices watchers c → 0 < g → g ≤ c.taken → IsFirst (ops_of c) (standing_of c) g
+    → ShowsRows rows holders prices watchers c → 0 < g → g ≤ c.taken → IsClientFirst (ops_of c) (standing_of c) g
     → IsSettled (waits_by c.op) rows g
 is_first rows holders prices list watchers c g safe s p l first h k e w =
     elim (ways h 0) as (λ _. stands rows h ≡ false) [
@@ -97,9 +97,9 @@ module _ (rows : List Row) (x : ℕ) (firm : Bool) where
   abbrev new : List Row
   new = set rows x (settled_row rows x firm)
 
-  places_settled : (c : Client) (o : Outcome) → x < length rows → ShowsPlaces rows c.taken c.op c.outcome (λ g. cost c g)
+  places_settled : (c : Client) (o : Outcome) → x < length rows → RowShowsPlaces rows c.taken c.op c.outcome (λ g. cost c g)
       → is_unsettled o ≡ false → is_firm o ≡ firm
-      → ShowsPlaces new c.taken c.op (put c.outcome x o) (λ g. cost c g)
+      → RowShowsPlaces new c.taken c.op (put c.outcome x o) (λ g. cost c g)
   places_settled c o h s u f =
       let r = settled_row rows x firm in
       let n = count_same rows x r in

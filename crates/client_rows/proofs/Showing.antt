@@ -1,18 +1,18 @@
 -- What the rows tell of an operation is what the model's client tells: why it stays, and that it goes.
 use Rattle.std.proofs.Common.{◌≡◌, ℕ, ◌+◌, ◌<◌, ◌≤◌, Bool, true, false, List, length, refl, ap, sym, ◌∙◌, arith}
 use Rattle.std.proofs.Common.{subst, ◌⊎◌, inl, inr, is_some, Option, Some, None, MatchOption, IfSome, IfNone}
-use Rattle.watch_lists.specs.declared.Link.{Link as Watch}
-use Rattle.exchange_defs.specs.Operations.{holds_up}
-use Rattle.exchange_defs.specs.Client.{Client, create_for}
-use Rattle.exchange_defs.specs.Schedules.{choose, cost}
-use Rattle.client_law.specs.Kept.{Kept}
-use Rattle.choice_law.specs.Choosing.{Goes, Holder, Stays, chosen}
-use Rattle.choice_law.proofs.Picking.{first_goes, none_goes}
-use Rattle.operation_rows.specs.declared.row.Row.{Row}
-use Rattle.operation_rows.specs.Rows.{stands, owner, is_out, costs}
-use Rattle.operation_rows.specs.Holding.{Alike, Holder as RowHolder}
-use Rattle.operation_rows.specs.Choosing.{AllStay, IsLeast, Stands, Stays as RowStays}
-use Rattle.client_rows.specs.Shown.{ShowsPlaces, ShowsRows, ShowsSends, waits_by, fills_by}
+use Rattle.base_lists.specs.declared.watch_lists.Link.{Link as Watch}
+use Rattle.spec_exchange.specs.Operations.{holds_up}
+use Rattle.spec_exchange.specs.Client.{Client, create_for}
+use Rattle.spec_exchange.specs.Schedules.{choose, cost}
+use Rattle.law_client.specs.table.Kept.{TableKept}
+use Rattle.law_client.specs.choice.Choosing.{ChoiceGoes, ChoiceHolder, ChoiceStays, chosen}
+use Rattle.law_client.proofs.choice.Picking.{first_goes, none_goes}
+use Rattle.client_rows.specs.declared.operation_rows.row.Row.{Row}
+use Rattle.client_rows.specs.operation_rows.Rows.{stands, owner, is_out, costs}
+use Rattle.client_rows.specs.operation_rows.Holding.{Alike, HoldingHolder as RowHolder}
+use Rattle.client_rows.specs.operation_rows.Choosing.{AllStay, IsLeast, RowStands, RowStays as RowStays}
+use Rattle.client_rows.specs.Shown.{RowShowsPlaces, ShowsRows, ShowsSends, waits_by, fills_by}
 
 true_or_false : (b : Bool) → (b ≡ true) ⊎ (b ≡ false)
 true_or_false true = inl refl
@@ -23,7 +23,7 @@ module _ (rows : List Row) (holders prices : List ℕ) (watchers : List Watch) (
   out_same s g = ap (λ o. is_some o) (s.sends.out_is g)
 
   holder_is : ShowsRows rows holders prices watchers c → (b g : ℕ) → 0 < b → g ≤ c.taken
-      → RowHolder (waits_by c.op) (owner rows) (stands rows) b g → Holder c b g
+      → RowHolder (waits_by c.op) (owner rows) (stands rows) b g → ChoiceHolder c b g
   holder_is s b g p l h =
       let k = h.lower in
       let n = s.places.creates b p (omega arith) in
@@ -36,7 +36,7 @@ module _ (rows : List Row) (holders prices : List ℕ) (watchers : List Watch) (
         why = elim h.why as (λ _. (b ≡ create_for c g) ⊎ (holds_up (c.op b) (c.op g) ≡ true)) [ inl e ↦ inl (e ∙ sym m) | inr e ↦ inr e ];
       }
 
-  holder_of : ShowsRows rows holders prices watchers c → (b g : ℕ) → g ≤ c.taken → Holder c b g
+  holder_of : ShowsRows rows holders prices watchers c → (b g : ℕ) → g ≤ c.taken → ChoiceHolder c b g
       → RowHolder (waits_by c.op) (owner rows) (stands rows) b g
   holder_of s b g l h =
       let k = h.lower in
@@ -51,18 +51,18 @@ module _ (rows : List Row) (holders prices : List ℕ) (watchers : List Watch) (
       }
 
   pub stays_so : ShowsRows rows holders prices watchers c → (credits g : ℕ) → 0 < g → g ≤ c.taken
-      → RowStays (waits_by c.op) (costs rows) credits rows g → Stays c credits g
+      → RowStays (waits_by c.op) (costs rows) credits rows g → ChoiceStays c credits g
   stays_so s credits g p l (inl e) = inl (s.places.unsettled g p l ∙ e)
   stays_so s credits g p l (inr (inl e)) = inr (inl (out_same s g ∙ e))
   stays_so s credits g p l (inr (inr (inl e))) =
-      elim (true_or_false (stands rows g)) as (λ _. Stays c credits g) [
+      elim (true_or_false (stands rows g)) as (λ _. ChoiceStays c credits g) [
         | inl u ↦ inr (inr (inl (subst (λ n. credits < n) (sym (s.places.pays g p l u)) e)))
         | inr u ↦ inl (s.places.unsettled g p l ∙ u)
       ]
   stays_so s credits g p l (inr (inr (inr e))) = inr (inr (inr (e.0, holder_is s e.0 g e.1 l e.2)))
 
   pub goes_so : ShowsRows rows holders prices watchers c → (credits from g : ℕ) → 0 < g → g ≤ c.taken
-      → IsLeast (waits_by c.op) (costs rows) credits rows from g → Goes c credits g
+      → IsLeast (waits_by c.op) (costs rows) credits rows from g → ChoiceGoes c credits g
   goes_so s credits from g p l i =
       record {
         unsettled = s.places.unsettled g p l ∙ i.unsettled;
@@ -72,7 +72,7 @@ module _ (rows : List Row) (holders prices : List ℕ) (watchers : List Watch) (
       }
 
   pub none_is : ShowsRows rows holders prices watchers c → (k credits from m : ℕ) (slotless : List ℕ) (r : Option ℕ)
-      → Kept c → 0 < from → from + m ≡ c.taken + 1
+      → TableKept c → 0 < from → from + m ≡ c.taken + 1
       → MatchOption r (AllStay (waits_by c.op) (costs rows) credits rows from (length rows))
       (λ i. IsLeast (waits_by c.op) (costs rows) credits rows from i)
       → IfNone r (choose c k credits slotless from m ≡ record { slotless = slotless; pick = None })
@@ -82,7 +82,7 @@ module _ (rows : List Row) (holders prices : List ℕ) (watchers : List Watch) (
   none_is s k credits from m slotless (Some x) i p e h = tt
 
   some_goes : ShowsRows rows holders prices watchers c → (k credits from d n g : ℕ) (slotless : List ℕ)
-      → Kept c → c.ready k ≡ true → 0 < from → from + d ≡ g → g + n ≡ c.taken
+      → TableKept c → c.ready k ≡ true → 0 < from → from + d ≡ g → g + n ≡ c.taken
       → IsLeast (waits_by c.op) (costs rows) credits rows from g
       → choose c k credits slotless from (d + (n + 1)) ≡ chosen c k credits slotless g n
   some_goes s k credits from d n g slotless i r p e f w =
@@ -91,7 +91,7 @@ module _ (rows : List Row) (holders prices : List ℕ) (watchers : List Watch) (
       (goes_so s credits from g (omega arith) (omega arith) w)
 
   pub some_is : ShowsRows rows holders prices watchers c → (k credits from d n : ℕ) (slotless : List ℕ) (r : Option ℕ)
-      → Kept c → c.ready k ≡ true → 0 < from
+      → TableKept c → c.ready k ≡ true → 0 < from
       → MatchOption r (AllStay (waits_by c.op) (costs rows) credits rows from (length rows))
       (λ i. IsLeast (waits_by c.op) (costs rows) credits rows from i)
       → IfSome r (λ i. from + d ≡ i → i + n ≡ c.taken
@@ -103,7 +103,7 @@ module _ (rows : List Row) (holders prices : List ℕ) (watchers : List Watch) (
       → IfSome r (λ i. i < length rows)
       → MatchOption r (AllStay (waits_by c.op) (costs rows) credits rows from (length rows))
       (λ i. IsLeast (waits_by c.op) (costs rows) credits rows from i)
-      → IfSome r (λ i. Goes c credits i)
+      → IfSome r (λ i. ChoiceGoes c credits i)
   goes_is s credits from None p l h = tt
   goes_is s credits from (Some g) p l h =
       let b = h.behind in
@@ -113,7 +113,8 @@ module _ (rows : List Row) (holders prices : List ℕ) (watchers : List Watch) (
 -- ---- rows that differ by links alone
 
 module _ (old new : List Row) (a : Alike old new) where
-  places_alike : (c : Client) (paid : ℕ → ℕ) → ShowsPlaces old c.taken c.op c.outcome paid → ShowsPlaces new c.taken c.op c.outcome paid
+  places_alike : (c : Client) (paid : ℕ → ℕ) → RowShowsPlaces old c.taken c.op c.outcome paid
+      → RowShowsPlaces new c.taken c.op c.outcome paid
   places_alike c paid s =
       record {
         has_row = λ g p l. subst (λ z. g < z) (sym a.count) (s.has_row g p l);
@@ -144,13 +145,13 @@ module _ (old new : List Row) (a : Alike old new) where
 
   pub alike_shown : (holders prices prices2 : List ℕ) (watchers watchers2 : List Watch) (c : Client)
       → ShowsRows old holders prices watchers c
-      → Stands (waits_by c.op) (fills_by c.op) (costs old) new holders prices2 watchers2
+      → RowStands (waits_by c.op) (fills_by c.op) (costs old) new holders prices2 watchers2
       → ShowsRows new holders prices2 watchers2 c
   alike_shown holders prices prices2 watchers watchers2 c s t =
       record {
         places = places_alike c (λ g. cost c g) s.places;
         sends = sends_alike c s.sends;
-        stand = subst (λ (k : ℕ → ℕ). Stands (waits_by c.op) (fills_by c.op) k new holders prices2 watchers2) same_costs t;
+        stand = subst (λ (k : ℕ → ℕ). RowStands (waits_by c.op) (fills_by c.op) k new holders prices2 watchers2) same_costs t;
       }
 
 -- ---- one that is found isn't below where the search began

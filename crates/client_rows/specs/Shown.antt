@@ -1,29 +1,29 @@
 -- What the rows of a client's operations show of a client of the model: an equation for each column that rows keep.
 use Rattle.std.specs.Prelude.{◌≡◌, ℕ, ◌<◌, ◌≤◌, ◌==◌, not, Bool, true, false, if◌then◌else◌, List, length, Option, None}
-use Rattle.watch_lists.specs.declared.Link.{Link as Watch}
-use Rattle.exchange_defs.specs.Operations.{Op, OpWrite, Outcome, charge, create_of, holds_up, is_firm, is_unsettled, weight}
-use Rattle.exchange_defs.specs.Table.{put}
-use Rattle.exchange_defs.specs.Client.{Client}
-use Rattle.exchange_defs.specs.Schedules.{cost}
-use Rattle.operation_values.specs.Waiting.{kind_of}
-use Rattle.operation_rows.specs.declared.row.Row.{Row}
-use Rattle.operation_rows.specs.Rows.{row_at, stands, owner, kind, costs}
-use Rattle.operation_rows.specs.Moves.{StandsRows}
+use Rattle.base_lists.specs.declared.watch_lists.Link.{Link as Watch}
+use Rattle.spec_exchange.specs.Operations.{Op, OpWrite, Outcome, charge, create_of, holds_up, is_firm, is_unsettled, weight}
+use Rattle.spec_exchange.specs.Table.{put}
+use Rattle.spec_exchange.specs.Client.{Client}
+use Rattle.spec_exchange.specs.Schedules.{cost}
+use Rattle.client_values.specs.operations.Waiting.{kind_of}
+use Rattle.client_rows.specs.declared.operation_rows.row.Row.{Row}
+use Rattle.client_rows.specs.operation_rows.Rows.{row_at, stands, owner, kind, costs}
+use Rattle.client_rows.specs.operation_rows.Moves.{StandsRows}
 
 -- of one open, g waits for h, by what they ask
 abbrev pub waits_by : (ℕ → Op) → ℕ → ℕ → Bool
 waits_by op h g = holds_up (op h) (op g)
 
 -- it writes a byte or more
-abbrev pub is_filled : Op → Bool
-is_filled (OpWrite create at bytes) = not (length bytes == 0)
-is_filled _ = false
+abbrev pub is_row_filled : Op → Bool
+is_row_filled (OpWrite create at bytes) = not (length bytes == 0)
+is_row_filled _ = false
 
 abbrev pub fills_by : (ℕ → Op) → ℕ → Bool
-fills_by op h = is_filled (op h)
+fills_by op h = is_row_filled (op h)
 
 -- of what was taken: each has a row, its create, its kind, whether it is settled, and what it costs
-pub record ShowsPlaces (rows : List Row) (taken : ℕ) (op : ℕ → Op) (outcome : ℕ → Outcome) (paid : ℕ → ℕ) : Type 0 where
+pub record RowShowsPlaces (rows : List Row) (taken : ℕ) (op : ℕ → Op) (outcome : ℕ → Outcome) (paid : ℕ → ℕ) : Type 0 where
   pub has_row : (g : ℕ) → 0 < g → g ≤ taken → g < length rows
   pub is_taken : (g : ℕ) → 0 < g → g < length rows → g ≤ taken
   pub creates : (g : ℕ) → 0 < g → g ≤ taken → create_of g (op g) ≡ owner rows g
@@ -45,7 +45,7 @@ pub record ShowsSends (rows : List Row) (sent : ℕ → Bool) (out : ℕ → Opt
   pub number_is : (g : ℕ) → number g ≡ (row_at rows g).slot_number
 
 pub record ShowsRows (rows : List Row) (holders prices : List ℕ) (watchers : List Watch) (c : Client) : Type 0 where
-  pub places : ShowsPlaces rows c.taken c.op c.outcome (λ g. cost c g)
+  pub places : RowShowsPlaces rows c.taken c.op c.outcome (λ g. cost c g)
   pub sends : ShowsSends rows c.sent c.outstanding_on c.asks_attach c.unanswered c.sequence_of c.slot_of c.number_of
   -- links, lists, prices and watchers stand right by what the operations ask
   pub stand : StandsRows (waits_by c.op) (fills_by c.op) rows holders prices watchers

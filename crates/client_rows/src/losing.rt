@@ -1,15 +1,14 @@
 // What is outstanding of an operation goes with its channel.
 ghost use Rattle.std.specs.Prelude.{◌≡◌, ℕ, ◌<◌, true, if◌then◌else◌, List, length, slice_set, None};
-ghost use Rattle.exchange_defs.specs.Client.{Client};
-ghost use Rattle.operation_rows.specs.Rows.{row_at};
-ghost use Rattle.operation_rows.specs.Holding.{IsSafe};
-ghost use Rattle.operation_rows.specs.Choosing.{Counts};
+ghost use Rattle.spec_exchange.specs.Client.{Client};
+ghost use Rattle.client_rows.specs.operation_rows.Rows.{row_at};
+ghost use Rattle.client_rows.specs.operation_rows.Holding.{IsSafe};
+ghost use Rattle.client_rows.specs.operation_rows.Choosing.{RowCounts};
 ghost use Rattle.client_rows.specs.Shown.{ShowsRows, lost};
 
+use crate::operation_rows::Row;
 use crate::steps::put_row;
-use operation_rows::Row;
-use price_table::Prices;
-use watch_lists::Watchers;
+use base_lists::{Prices, Watchers};
 
 /// Whether a copy of an operation is unanswered once what is outstanding of it is lost.
 fn unanswered_behind(row: &Row) -> bool
@@ -22,13 +21,13 @@ fn unanswered_behind(row: &Row) -> bool
 /// an unanswered copy.
 pub fn lose(rows: &mut [Row], prices: &mut Prices, watchers: &Watchers, index: usize)
     requires within { index < length rows.old }
-    requires counts { Counts rows.old prices.old watchers.now }
+    requires counts { RowCounts rows.old prices.old watchers.now }
     ensures row { rows.new ≡ slice_set rows.old index (record (row_at rows.old index) {
       outstanding_on = None;
       unanswered = if (row_at rows.old index).asking then (row_at rows.old index).unanswered else true;
     }) }
     ensures count { length rows.new ≡ length rows.old }
-    ensures counts { Counts rows.new prices.new watchers.now }
+    ensures counts { RowCounts rows.new prices.new watchers.now }
     ensures safe { (holders : List ℕ) → IsSafe rows.old holders → IsSafe rows.new holders }
     ensures shown { (c : Client) (holders : List ℕ) → ShowsRows rows.old holders prices.old watchers.now c
         → ShowsRows rows.new holders prices.new watchers.now (lost c index) }

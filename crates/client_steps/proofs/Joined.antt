@@ -1,10 +1,10 @@
 -- One number joins the set or leaves it.
 use Rattle.std.proofs.Common.{◌≡◌, ℕ, ◌<◌, ◌==◌, Bool, true, false, if◌then◌else◌, List, length, ap, sym, ◌∙◌, subst, arith, ◌⊎◌, inl, inr}
-use Rattle.number_set.specs.declared.Members.{Members}
-use Rattle.number_set.specs.Members.{Fits, has, size}
-use Rattle.operation_rows.specs.declared.row.Row.{Row}
-use Rattle.operation_rows.specs.Rows.{is_out}
-use Rattle.client_losses.specs.Shown.{HoldsOut}
+use Rattle.base_lists.specs.declared.number_set.Members.{Members}
+use Rattle.base_lists.specs.number_set.Members.{MembersFit, has, size}
+use Rattle.client_rows.specs.declared.operation_rows.row.Row.{Row}
+use Rattle.client_rows.specs.operation_rows.Rows.{is_out}
+use Rattle.client_tables.specs.outstanding.Shown.{HoldsOut}
 
 ways : (x y : ℕ) → (x ≡ y) ⊎ (x ≡ y → ⊥)
 ways x y = grind arith
@@ -23,7 +23,7 @@ already out x b e h =
       | inr q ↦ sym (ap (λ t. if t then b else has out h) (test_other h x q))
     ]
 
-pub refreshed : (rows : List Row) (old new : Members) (x : ℕ) (b : Bool) → Fits new → size new ≡ size old → size old ≡ length rows
+pub refreshed : (rows : List Row) (old new : Members) (x : ℕ) (b : Bool) → MembersFit new → size new ≡ size old → size old ≡ length rows
     → ((h : ℕ) → h < size old → has new h ≡ (if h == x then b else has old h)) → is_out rows x ≡ b
     → ((g : ℕ) → g < length rows → (g ≡ x → ⊥) → has old g ≡ is_out rows g) → HoldsOut rows new
 refreshed rows old new x b f n m h e o =

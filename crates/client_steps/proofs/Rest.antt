@@ -1,11 +1,11 @@
 -- Which steps leave all but how an operation goes out.
 use Rattle.std.proofs.Common.{◌≡◌, ℕ, ◌<◌, ◌==◌, Bool, true, false, if◌then◌else◌, Option, None, Some, is_some}
 use Rattle.std.proofs.Common.{refl, ap, sym, ◌∙◌, subst, arith, ◌⊎◌, inl, inr}
-use Rattle.exchange_defs.specs.Table.{put, put2}
-use Rattle.exchange_defs.specs.Operations.{is_lock}
-use Rattle.exchange_defs.specs.Client.{Client, again, asked, begin, begun, create_for, outstanding, take_slot}
-use Rattle.exchange_defs.specs.Settling.{answered}
-use Rattle.operation_rows.proofs.Walking.{put_at, put_off}
+use Rattle.spec_exchange.specs.Table.{put, put2}
+use Rattle.spec_exchange.specs.Operations.{is_lock}
+use Rattle.spec_exchange.specs.Client.{Client, again, asked, begin, begun, create_for, outstanding, take_slot}
+use Rattle.spec_exchange.specs.Settling.{answered}
+use Rattle.client_rows.proofs.operation_rows.Walking.{put_at, put_off}
 use Rattle.client_steps.specs.Steps.{AreSlotted, HaveTaken, KeepsRest}
 
 ways : (x y : ℕ) → (x ≡ y) ⊎ (x ≡ y → ⊥)

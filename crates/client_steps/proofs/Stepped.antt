@@ -1,24 +1,24 @@
 -- One row changes, and stands where it stood.
 use Rattle.std.proofs.Common.{◌≡◌, ℕ, ◌+◌, ◌-◌, ◌<◌, ◌≤◌, true, List, length, is_some, ap, sym, ◌∙◌, subst, ◌⊎◌}
-use Rattle.watch_lists.specs.declared.Link.{Link as Watch}
-use Rattle.exchange_defs.specs.Operations.{Op, Outcome, keeps_limits}
-use Rattle.exchange_defs.specs.Client.{Client}
-use Rattle.number_set.specs.declared.Members.{Members}
-use Rattle.number_set.specs.Members.{has}
-use Rattle.operation_values.specs.declared.values.OpKind.{OpKind}
-use Rattle.operation_rows.specs.declared.row.Row.{Row}
-use Rattle.operation_rows.specs.Rows.{is_out}
-use Rattle.operation_rows.specs.Holding.{IsSafe}
-use Rattle.operation_rows.specs.Choosing.{Counts}
-use Rattle.client_outcomes.specs.declared.outcome.Outcome.{Outcome as Settled}
-use Rattle.client_outcomes.specs.declared.outcome.RefusedDialog.{RefusedDialog as Refused}
+use Rattle.base_lists.specs.declared.watch_lists.Link.{Link as Watch}
+use Rattle.spec_exchange.specs.Operations.{Op, Outcome, keeps_limits}
+use Rattle.spec_exchange.specs.Client.{Client}
+use Rattle.base_lists.specs.declared.number_set.Members.{Members}
+use Rattle.base_lists.specs.number_set.Members.{has}
+use Rattle.client_values.specs.declared.operations.values.OpKind.{OpKind}
+use Rattle.client_rows.specs.declared.operation_rows.row.Row.{Row}
+use Rattle.client_rows.specs.operation_rows.Rows.{is_out}
+use Rattle.client_rows.specs.operation_rows.Holding.{IsSafe}
+use Rattle.client_rows.specs.operation_rows.Choosing.{RowCounts}
+use Rattle.client_values.specs.declared.outcomes.outcome.Outcome.{Outcome as Settled}
+use Rattle.client_values.specs.declared.outcomes.outcome.RefusedDialog.{RefusedDialog as Refused}
 use Rattle.client_rows.specs.Shown.{KeepsRow, ShowsRows}
-use Rattle.client_session.specs.declared.session.Session.{Session}
-use Rattle.client_losses.specs.Shown.{HoldsOut}
-use Rattle.client_settles.specs.Shown.{ShowsValues}
-use Rattle.client_settles.proofs.Settled.{values_moved}
-use Rattle.client_table.specs.Shown.{FitsParts, ShowsParts}
-use Rattle.client_table.proofs.Losing.{left_same, owned_moved}
+use Rattle.client_rows.specs.declared.session_state.session.Session.{Session}
+use Rattle.client_tables.specs.outstanding.Shown.{HoldsOut}
+use Rattle.client_tables.specs.settling.Shown.{ShowsValues}
+use Rattle.client_tables.proofs.settling.Settled.{values_moved}
+use Rattle.client_tables.specs.whole_table.Shown.{FitsParts, ShowsParts}
+use Rattle.client_tables.proofs.whole_table.Losing.{left_same, owned_moved}
 use Rattle.client_steps.specs.Steps.{KeepsRest}
 
 module _ (rows new : List Row) (x : ℕ) (k : KeepsRow rows new x) where
@@ -28,7 +28,7 @@ module _ (rows new : List Row) (x : ℕ) (k : KeepsRow rows new x) where
   others_so out h g l n = h.out_is g (subst (λ m. g < m) k.count l) ∙ ap (λ o. is_some o) (sym (k.others g n))
 
   pub stepped_fits : (holders prices after : List ℕ) (watchers : List Watch) (out next : Members)
-      (lowest operations settled replies room : ℕ) → IsSafe new holders → Counts new after watchers → HoldsOut new next
+      (lowest operations settled replies room : ℕ) → IsSafe new holders → RowCounts new after watchers → HoldsOut new next
       → FitsParts rows holders prices watchers out lowest operations settled replies room
       → FitsParts new holders after watchers next lowest operations settled replies room
   stepped_fits holders prices after watchers out next lowest operations settled replies room s u o f =

@@ -1,7 +1,7 @@
 -- What a step of one operation leaves of the client: all but how it goes out, and its open's slots.
 use Rattle.std.specs.Prelude.{◌≡◌, ℕ, ◌<◌, ◌≤◌, true, Some, is_some}
-use Rattle.exchange_defs.specs.Operations.{is_lock}
-use Rattle.exchange_defs.specs.Client.{Client, create_for}
+use Rattle.spec_exchange.specs.Operations.{is_lock}
+use Rattle.spec_exchange.specs.Client.{Client, create_for}
 
 -- a lock that went out has a slot, which was used since
 abbrev pub AreSlotted : Client → Type 0

@@ -1,24 +1,22 @@
 // One row changes.
 ghost use Rattle.std.specs.Prelude.{◌≡◌, ℕ, ◌+◌, ◌<◌, ◌≤◌, true, false, length, vec_len, vec_capacity};
-ghost use Rattle.exchange_defs.specs.Operations.{is_lock};
-ghost use Rattle.exchange_defs.specs.Client.{Client, asked, begun, create_for, outstanding};
-ghost use Rattle.exchange_defs.specs.Settling.{answered};
-ghost use Rattle.operation_rows.specs.Rows.{row_at};
+ghost use Rattle.spec_exchange.specs.Operations.{is_lock};
+ghost use Rattle.spec_exchange.specs.Client.{Client, asked, begun, create_for, outstanding};
+ghost use Rattle.spec_exchange.specs.Settling.{answered};
+ghost use Rattle.client_rows.specs.operation_rows.Rows.{row_at};
 ghost use Rattle.client_rows.specs.Shown.{KeepsRow};
-ghost use Rattle.client_slots.specs.Shown.{AreUsed, HaveRows, ShowsSlots};
-ghost use Rattle.client_table.specs.Shown.{Fits, ShowsTable};
+ghost use Rattle.client_rows.specs.lock_slots.Shown.{AreUsed, HaveRows, ShowsSlots};
+ghost use Rattle.client_tables.specs.whole_table.Shown.{TableFits, ShowsTable};
 
 use crate::refreshing::refresh;
-use client_pushes::{send_again, send_first, send_lock, send_lock_again};
-use client_rows::{answer, ask};
-use client_table::Table;
-use operation_rows::Slot;
+use client_rows::{Slot, answer, ask};
+use client_tables::{Table, send_again, send_first, send_lock, send_lock_again};
 
 /// A request to attach its open goes out in an operation's place.
 pub fn ask_at(table: &mut Table, index: usize, channel: u8)
-    requires fits { Fits table.old }
+    requires fits { TableFits table.old }
     requires within { index < length table.old.rows.items }
-    ensures fits { Fits table.new }
+    ensures fits { TableFits table.new }
     ensures session { table.new.session ≡ table.old.session }
     ensures place { KeepsRow table.old.rows.items table.new.rows.items index }
     ensures shown { (c : Client) → ShowsTable table.old c → ShowsTable table.new (asked c channel index) }
@@ -35,9 +33,9 @@ pub fn ask_at(table: &mut Table, index: usize, channel: u8)
 
 /// What was outstanding of an operation is answered.
 pub fn answer_at(table: &mut Table, index: usize)
-    requires fits { Fits table.old }
+    requires fits { TableFits table.old }
     requires within { index < length table.old.rows.items }
-    ensures fits { Fits table.new }
+    ensures fits { TableFits table.new }
     ensures session { table.new.session ≡ table.old.session }
     ensures place { KeepsRow table.old.rows.items table.new.rows.items index }
     ensures shown { (c : Client) → ShowsTable table.old c → ShowsTable table.new (answered c index) }
@@ -48,9 +46,9 @@ pub fn answer_at(table: &mut Table, index: usize)
 
 /// An operation that is no lock goes out for the first time.
 fn send_first_at(table: &mut Table, index: usize, channel: u8)
-    requires fits { Fits table.old }
+    requires fits { TableFits table.old }
     requires within { index < length table.old.rows.items }
-    ensures fits { Fits table.new }
+    ensures fits { TableFits table.new }
     ensures session { table.new.session ≡ table.old.session }
     ensures place { KeepsRow table.old.rows.items table.new.rows.items index }
     ensures shown { (c : Client) (slot : ℕ) → ShowsTable table.old c → is_lock (c.op index) ≡ false → c.sent index ≡ false
@@ -69,9 +67,9 @@ fn send_first_at(table: &mut Table, index: usize, channel: u8)
 
 /// An operation that is no lock goes out again.
 fn send_again_at(table: &mut Table, index: usize, channel: u8)
-    requires fits { Fits table.old }
+    requires fits { TableFits table.old }
     requires within { index < length table.old.rows.items }
-    ensures fits { Fits table.new }
+    ensures fits { TableFits table.new }
     ensures session { table.new.session ≡ table.old.session }
     ensures place { KeepsRow table.old.rows.items table.new.rows.items index }
     ensures shown { (c : Client) (slot : ℕ) → ShowsTable table.old c → is_lock (c.op index) ≡ false → c.sent index ≡ true
@@ -90,13 +88,13 @@ fn send_again_at(table: &mut Table, index: usize, channel: u8)
 
 /// A lock goes out for the first time, with a slot of its open.
 pub fn send_lock_at(table: &mut Table, slots: &mut Vec<Slot>, index: usize, slot: u8, channel: u8)
-    requires fits { Fits table.old }
+    requires fits { TableFits table.old }
     requires within { index < length table.old.rows.items }
     requires users { HaveRows table.old.rows.items slots.old.items }
     requires above { 0 < slot }
     requires slot { slot ≤ length slots.old.items + 1 }
     requires room { length slots.old.items < slot → vec_len slots.old < vec_capacity slots.old }
-    ensures fits { Fits table.new }
+    ensures fits { TableFits table.new }
     ensures session { table.new.session ≡ table.old.session }
     ensures place { KeepsRow table.old.rows.items table.new.rows.items index }
     ensures users { HaveRows table.new.rows.items slots.new.items }
@@ -127,12 +125,12 @@ pub fn send_lock_at(table: &mut Table, slots: &mut Vec<Slot>, index: usize, slot
 
 /// A lock that took a slot goes out again.
 pub fn send_lock_again_at(table: &mut Table, slots: &mut Vec<Slot>, index: usize, channel: u8)
-    requires fits { Fits table.old }
+    requires fits { TableFits table.old }
     requires within { index < length table.old.rows.items }
     requires users { HaveRows table.old.rows.items slots.old.items }
     requires above { 0 < (row_at table.old.rows.items index).slot }
     requires slot { (row_at table.old.rows.items index).slot ≤ length slots.old.items }
-    ensures fits { Fits table.new }
+    ensures fits { TableFits table.new }
     ensures session { table.new.session ≡ table.old.session }
     ensures place { KeepsRow table.old.rows.items table.new.rows.items index }
     ensures users { HaveRows table.new.rows.items slots.new.items }
@@ -169,9 +167,9 @@ fn was_sent(table: &Table, index: usize) -> bool
 
 /// An operation that is no lock goes out itself.
 pub fn send_plain_at(table: &mut Table, index: usize, channel: u8)
-    requires fits { Fits table.old }
+    requires fits { TableFits table.old }
     requires within { index < length table.old.rows.items }
-    ensures fits { Fits table.new }
+    ensures fits { TableFits table.new }
     ensures session { table.new.session ≡ table.old.session }
     ensures place { KeepsRow table.old.rows.items table.new.rows.items index }
     ensures shown { (c : Client) (slot : ℕ) → ShowsTable table.old c → is_lock (c.op index) ≡ false

@@ -1,14 +1,14 @@
 -- What a check leaves of an end: its counter; and where a NEGOTIATE is among the messages one was heard.
 use Rattle.std.proofs.Common.{◌≡◌, Bool, true, false, ◌||◌, List, [], ◌∷◌, Result, Ok, Err, refl, ap, subst, ◌∙◌}
 use Rattle.std.specs.Prelude.{is_some}
-use Rattle.world_defs.specs.Ends.{ServerEnd, ConnEnd}
-use Rattle.world_defs.specs.Messages.{Heard}
-use Rattle.world_defs.specs.Hearing.{Checked, Frame, FrameText, is_negotiate, is_setup, turn_end, behind_turn, in_front, checked_as}
-use Rattle.world_defs.specs.Hearing.{checked_in, checked_behind, checked_text}
-use Rattle.conn_frames.proofs.Greets.{in_turn}
-use Rattle.conn_said.specs.Replying.{AreAsked}
-use Rattle.conn_dealt.specs.Dealing.{Alone}
-use Rattle.conn_dealt.proofs.Alone.{alone}
+use Rattle.spec_world.specs.Ends.{ServerEnd, ConnEnd}
+use Rattle.spec_world.specs.Messages.{HeardMessage}
+use Rattle.spec_world.specs.Hearing.{Checked, Frame, FrameText, is_negotiate, is_setup, turn_end, behind_turn, in_front, checked_as}
+use Rattle.spec_world.specs.Hearing.{checked_in, checked_behind, checked_text}
+use Rattle.conn_ends.proofs.frame_messages.Greets.{in_turn}
+use Rattle.conn_core.specs.message_replies.Replying.{AreAsked}
+use Rattle.conn_core.specs.frame_events.Dealing.{Alone}
+use Rattle.conn_core.proofs.frame_events.Alone.{alone}
 
 pub record KeptBehind (f : ServerEnd) (F : Frame) : Type 0 where
   pub counter : F.server_end.counter ≡ f.counter
@@ -41,7 +41,8 @@ one_kept f g c G k counter asked greets = record {
   asked = (λ n. k.stays (greets n), k.asked);
 }
 
-kept_behind : (f : ServerEnd) (sealed setup : Bool) (xs : List Heard) (F : Frame) → checked_behind f sealed setup xs ≡ Ok F → KeptBehind f F
+kept_behind : (f : ServerEnd) (sealed setup : Bool) (xs : List HeardMessage) (F : Frame) → checked_behind f sealed setup
+    xs ≡ Ok F → KeptBehind f F
 unfolding checked_behind
 kept_behind f sealed setup [] F e =
     subst (λ (x : Frame). KeptBehind f x) (ap (λ (r : Result Frame ConnEnd). frame_or F r) e) (none_kept f sealed)
@@ -54,7 +55,7 @@ kept_behind f sealed setup (x ∷ xs) F e =
     (λ a. ap (λ (y : Bool). is_negotiate x.header || y) a ∙ or_true (is_negotiate x.header))
     (λ n. ap (λ (y : Bool). y || f.asked) n))
 
-kept_in : (f : ServerEnd) (sealed : Bool) (xs : List Heard) (F : Frame) → checked_in f sealed xs ≡ Ok F → KeptBehind f F
+kept_in : (f : ServerEnd) (sealed : Bool) (xs : List HeardMessage) (F : Frame) → checked_in f sealed xs ≡ Ok F → KeptBehind f F
 kept_in f sealed [] F e = absurd cc
 kept_in f sealed (x ∷ xs) F e =
     let t = in_turn (turn_end f x.header) _ F e in

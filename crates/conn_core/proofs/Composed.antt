@@ -3,44 +3,45 @@ use Rattle.std.proofs.Common.{◌≡◌, ◌==◌, ◌≤◌, ℕ, Bool, true, f
 use Rattle.std.proofs.Common.{Option, Some, None, Result, Ok, Err, inl, inr, refl, sym, ap, subst, ◌∙◌}
 use Rattle.std.specs.Prelude.{is_some}
 use Rattle.std.proofs.lemmas.List.{append-nil}
-use Rattle.exchange_defs.specs.State as model
-use Rattle.exchange_defs.specs.Status.{no_memory}
-use Rattle.exchange_defs.specs.Table.{is_filled}
-use Rattle.session_defs.specs.Nonces.{last_counter}
-use Rattle.credit_defs.specs.Window.{HeldIds}
-use Rattle.world_defs.specs.Settings.{ServerSettings}
-use Rattle.world_defs.specs.Ends as ends
-use Rattle.world_defs.specs.Ends.{Logons, ServerEnd}
-use Rattle.world_defs.specs.Hearing as hearing
-use Rattle.world_defs.specs.Hearing.{Frame, FrameText, check_frame, checked_text}
-use Rattle.world_defs.specs.Answering as answering
-use Rattle.world_defs.specs.Connection.{ConnectionStep, Going, answered, answered_with, ended_by}
-use Rattle.world_defs.specs.Given.{GivenStep, dealt_step}
-use Rattle.world_defs.specs.Mishaps.{Mishap, Owned}
-use Rattle.world_defs.specs.Notes as notes
+use Rattle.spec_exchange.specs.State as model
+use Rattle.spec_exchange.specs.Status.{no_memory}
+use Rattle.spec_exchange.specs.Table.{is_filled}
+use Rattle.spec_crypto.specs.sessions.Nonces.{last_counter}
+use Rattle.spec_wire.specs.credits.Window.{HeldIds}
+use Rattle.spec_world.specs.Settings.{ServerSettings}
+use Rattle.spec_world.specs.Ends as ends
+use Rattle.spec_world.specs.Ends.{Logons, ServerEnd}
+use Rattle.spec_world.specs.Hearing as hearing
+use Rattle.spec_world.specs.Hearing.{Frame, FrameText, check_frame, checked_text}
+use Rattle.spec_world.specs.Answering as answering
+use Rattle.spec_world.specs.Connection.{ConnectionStep, Going, answered, answered_with, ended_by}
+use Rattle.spec_world.specs.Given.{GivenStep, dealt_step}
+use Rattle.spec_world.specs.Mishaps.{Mishap, Owned}
+use Rattle.spec_world.specs.Notes as notes
 use Rattle.conn_ends.specs.declared.conn.Conn.{Conn}
 use Rattle.conn_ends.specs.declared.end.ConnEnd.{ConnEnd}
 use Rattle.conn_ends.specs.declared.end.ConnEnd.TheVariants.{BadFrame, OutsideWindow, SecondNegotiate, Unsealable}
 use Rattle.conn_ends.specs.declared.end.ConnEnd.TheVariants.{Spent, Full, LinkFault, Stopped, Memory}
 use Rattle.conn_ends.specs.Shown.{IsEnd, MaySeal, ShowsEnd}
-use Rattle.conn_frames.specs.declared.checked.CheckedFrame.{CheckedFrame}
-use Rattle.conn_frames.specs.Checking.{EndsAll, GoesOn, GreetsFirst, NoneGreets, ShowsFrame}
-use Rattle.conn_sealing.specs.Saying.{all_framed}
-use Rattle.conn_served.specs.Replies.{some_acted, some_lacked}
-use Rattle.conn_served.specs.Serving.{Showing}
-use Rattle.conn_said.specs.Replying.{AreAsked, AreSaid}
-use Rattle.conn_dealt.specs.Dealing.{Alone, Deals, Dealing, GoesThrough, Leaves, SameCommands, taken_records}
-use Rattle.conn_dealt.specs.Written.{AreWritten}
-use Rattle.conn_dealt.specs.declared.dealing.Dealt.{Dealt}
-use Rattle.conn_answers.specs.declared.answering.Answered.{Answered}
-use Rattle.conn_answers.specs.Joined.{AreAtMost}
-use Rattle.conn_answers.specs.Replying.{AnswersWith, AreAnswers, EndsAs, Goes, replied}
+use Rattle.conn_ends.specs.declared.frame_messages.checked.CheckedFrame.{CheckedFrame}
+use Rattle.conn_ends.specs.frame_messages.Checking.{EndsAll, CheckGoesOn, GreetsFirst, NoneGreets, ShowsFrame}
+use Rattle.conn_ends.specs.reply_sealing.Saying.{all_framed}
+use Rattle.conn_core.specs.served.Replies.{some_acted, some_lacked}
+use Rattle.conn_core.specs.served.Serving.{Showing}
+use Rattle.conn_core.specs.message_replies.Replying.{AreAsked, AreMessagesSaid}
+use Rattle.conn_core.specs.frame_events.Dealing.{Alone, Deals, Dealing, GoesThrough, EventLeaves, SameCommands, taken_records}
+use Rattle.conn_core.specs.frame_events.Written.{AreWritten}
+use Rattle.conn_core.specs.declared.frame_events.dealing.Dealt.{Dealt}
+use Rattle.conn_core.specs.declared.reply_frames.answering.Answered.{Answered}
+use Rattle.conn_core.specs.reply_frames.Joined.{AreAtMost}
+use Rattle.conn_core.specs.reply_frames.Replying.{AnswersWith, AreAnswers, EndsAs, WalkGoes, walk_replied}
 use Rattle.conn_core.specs.declared.end.Ended.{Ended}
 use Rattle.conn_core.proofs.Asked.{alone_by, kept_by}
 use Rattle.conn_core.proofs.Going.{check_goes, replied_goes}
 use Rattle.conn_core.specs.declared.taking.Taken.{Taken}
-use Rattle.conn_core.specs.Taking.{EndsAt, EndsBy, FailsWith, Finishes, FinishesWith, HaltsAt, IsEnded, IsLeft, IsOwned, IsTold}
-use Rattle.conn_core.specs.Taking.{Serves, TakesBy, first_of}
+use Rattle.conn_core.specs.Taking.{FrameEndsAt, FrameEndsBy, FailsWith, FrameFinishes, FinishesWith, HaltsAt, IsEnded}
+use Rattle.conn_core.specs.Taking.{IsFrameLeft, IsOwned, IsFrameTold}
+use Rattle.conn_core.specs.Taking.{FrameServes, TakesBy, first_of}
 
 -- ---- the messages with what they took over are of the same commands
 
@@ -107,11 +108,11 @@ alike_by : (b : Bool) (f : ServerEnd) (sealed : Bool) (g : Going) (rows : List (
 alike_by true f sealed g rows = record { ends_are = refl; frames_are = refl; status_is = refl; end_is = refl }
 alike_by false f sealed g rows = record { ends_are = refl; frames_are = refl; status_is = refl; end_is = refl }
 
-rows_of : Bool → List answering.Said → List (List (List ℕ))
+rows_of : Bool → List answering.SaidReply → List (List (List ℕ))
 rows_of sealed rs = answering.all_texts sealed (answering.joined_in (answering.text_limit sealed) rs)
 
 alike_step : (f : ServerEnd) (sealed : Bool) (g : Going)
-    → IsAlike (replied g.server g.logons f sealed g.window g.replies) (answered f sealed g)
+    → IsAlike (walk_replied g.server g.logons f sealed g.window g.replies) (answered f sealed g)
 unfolding rows_of
 alike_step f sealed g =
     alike_by (sealed && not (answering.has_nonces f (length (rows_of sealed g.replies)))) f sealed g (rows_of sealed g.replies)
@@ -136,8 +137,8 @@ went_step F w e = ap (λ (o : Option ℕ). dealt_step F.server_end F.sealed w.de
 -- what stands behind it
 pub left_is : (shown : Showing) (z : ServerSettings) (k now : ℕ) (fresh : List ℕ) (s : model.Server) (L : Logons)
     (records : List model.Record) (F : Frame) (mishaps : List (Option Mishap)) (w : Owned)
-    → Leaves shown z k now fresh s L records F.server_end F.messages mishaps w
-    → IsLeft shown (AreWritten z k now fresh s L mishaps (Ok F)) records (given_by F w)
+    → EventLeaves shown z k now fresh s L records F.server_end F.messages mishaps w
+    → IsFrameLeft shown (AreWritten z k now fresh s L mishaps (Ok F)) records (given_by F w)
 left_is shown z k now fresh s L records F mishaps w t =
     let step = went_step F w t.goes in
     let left = left_step F.server_end F.sealed w.dealt.going in
@@ -162,7 +163,7 @@ taken_stopped F w count e = ap (λ (o : Option ℕ). (dealt_step F.server_end F.
 pub told_by : (z : ServerSettings) (k now : ℕ) (fresh : List ℕ) (s : model.Server) (L : Logons) (F : Frame) (d : Dealt) (w : Owned)
     (acted took lacked : Bool) → Dealing z k now fresh s L F.server_end F.messages d w
     → (given_by F w).step.taken ≡ w.dealt.going.taken → acted ≡ some_acted d.replies.items.items → took ≡ d.took
-    → lacked ≡ some_lacked d.replies.items.items → IsTold acted took lacked (given_by F w)
+    → lacked ≡ some_lacked d.replies.items.items → IsFrameTold acted took lacked (given_by F w)
 told_by z k now fresh s L F d w acted took lacked deal taken a t l = record {
   acted_is = a ∙ (sym deal.acted ∙ sym (ap (λ o. notes.has_acted o) taken));
   took_is = t ∙ (sym deal.took ∙ sym (ap (λ o. is_some o) taken));
@@ -180,7 +181,8 @@ answers_of z now F x old d w t sealed moment time seals greets asked bound = rec
   rightly = t.fails;
   greets = same_greets t.taken F.messages t.commands greets;
   heard = same_asked F.server_end.asked t.taken F.messages t.commands asked;
-  said = subst (λ (n : ℕ). AreSaid z n F.server_end x.messages.items t.taken d.replies.items.items F.server_end.window w.dealt.going.replies
+  said = subst (λ (n : ℕ). AreMessagesSaid z n F.server_end x.messages.items t.taken d.replies.items.items
+      F.server_end.window w.dealt.going.replies
       w.dealt.going.window) (sym (moment ∙ time)) t.said;
   bound = bound;
 }
@@ -188,7 +190,7 @@ answers_of z now F x old d w t sealed moment time seals greets asked bound = rec
 -- ---- the answer
 
 abbrev step_due : Frame → Owned → Bool → ConnectionStep
-step_due F w sealed = replied w.dealt.going.server w.dealt.going.logons F.server_end sealed w.dealt.going.window w.dealt.going.replies
+step_due F w sealed = walk_replied w.dealt.going.server w.dealt.going.logons F.server_end sealed w.dealt.going.window w.dealt.going.replies
 
 alike_due : (F : Frame) (w : Owned) (sealed : Bool) → w.dealt.stopped ≡ None → F.sealed ≡ sealed
     → IsAlike (step_due F w sealed) (given_by F w).step
@@ -197,8 +199,8 @@ alike_due F w sealed goes is =
     (subst (λ (b : Bool). IsAlike (step_due F w b) (answered F.server_end F.sealed w.dealt.going)) is
     (alike_step F.server_end F.sealed w.dealt.going))
 
-goes_alike : (k : ℕ) (guid : List ℕ) (S T : ConnectionStep) (bytes : List ℕ) (new : Conn) → IsAlike S T → Goes k guid S bytes new
-    → Goes k guid T bytes new
+goes_alike : (k : ℕ) (guid : List ℕ) (S T : ConnectionStep) (bytes : List ℕ) (new : Conn) → IsAlike S T → WalkGoes k guid S bytes new
+    → WalkGoes k guid T bytes new
 goes_alike k guid S T bytes new a g = record {
   goes_on = a.ends_are ∙ g.goes_on;
   frames = g.frames ∙ sym (ap (λ (fs : List (List ℕ)). all_framed fs) a.frames_are);
@@ -213,12 +215,13 @@ note_with o b = record { status = o; acted = b }
 pub taken_on : (shown : Showing) (z : ServerSettings) (k now : ℕ) (fresh : List ℕ) (s : model.Server) (L : Logons)
     (records : List model.Record) (f : ServerEnd) (F : Frame) (x : CheckedFrame) (d : Dealt) (w : Owned) (sealed : Bool) (new : Conn)
     (t : Taken) (deal : Dealing z k now fresh s L F.server_end F.messages d w)
-    → Leaves shown z k now fresh s L records F.server_end F.messages deal.mishaps w
+    → EventLeaves shown z k now fresh s L records F.server_end F.messages deal.mishaps w
     → F.sealed ≡ sealed → FinishesWith k z.guid (step_due F w sealed) d new t
-    → Serves shown z k now fresh s L records f F new (Ok t)
+    → FrameServes shown z k now fresh s L records f F new (Ok t)
 taken_on shown z k now fresh s L records f F x d w sealed new t deal left is done =
     let alike = alike_due F w sealed left.goes is in
-    let told = told_by z k now fresh s L F d w t.note.acted t.took t.lacked deal (taken_went F w left.goes) done.acted done.took done.lacked in
+    let told = told_by z k now fresh s L F d w t.note.acted t.took t.lacked deal (taken_went F w left.goes) done.acted
+    done.took done.lacked in
     let status : t.note.status ≡ (if w.dealt.lacked then Some no_memory else (given_by F w).step.status) =
     done.status
     ∙ (ap (λ (o : Option ℕ). if some_lacked d.replies.items.items then Some no_memory else o) (sym alike.status_is)
@@ -240,8 +243,8 @@ ends_alike : (S T : ConnectionStep) (why : ConnEnd) → IsAlike S T → EndsAs w
 ends_alike S T why a h = subst (λ (o : Option ends.ConnEnd). EndsAs why o) (sym a.ends_are) h
 
 at_end : (shown : Showing) (written : List model.Record → Type 0) (records : List model.Record) (e : Ended) (G : GivenStep) (why : ConnEnd)
-    → why ≡ e.why → IsTold e.acted e.took e.lacked G → IsLeft shown written records G → EndsAs why G.step.ends
-    → EndsAt shown written records e G
+    → why ≡ e.why → IsFrameTold e.acted e.took e.lacked G → IsFrameLeft shown written records G → EndsAs why G.step.ends
+    → FrameEndsAt shown written records e G
 at_end shown written records e G why is told left h = record {
   told = told;
   left = left;
@@ -254,35 +257,69 @@ stop_of (Some why) count h = ap (λ (x : ends.ConnEnd). Some x) h
 
 ended_other : (shown : Showing) (z : ServerSettings) (k now : ℕ) (fresh : List ℕ) (s : model.Server) (L : Logons)
     (records : List model.Record) (f : ServerEnd) (F : Frame) (w : Owned) (e : Ended) (S : ConnectionStep) (why : ConnEnd)
-    → e.why ≡ why → (owned : IsOwned z k now fresh s L f (Ok F) (given_by F w)) → IsTold e.acted e.took e.lacked (given_by F w)
-    → IsLeft shown (AreWritten z k now fresh s L owned.mishaps (Ok F)) records (given_by F w) → IsAlike S (given_by F w).step
+    → e.why ≡ why → (owned : IsOwned z k now fresh s L f (Ok F) (given_by F w)) → IsFrameTold e.acted e.took e.lacked (given_by F w)
+    → IsFrameLeft shown (AreWritten z k now fresh s L owned.mishaps (Ok F)) records (given_by F w) → IsAlike S (given_by F w).step
     → FailsWith S why
-    → EndsBy shown z k now fresh s L records f (Ok F) e why
+    → FrameEndsBy shown z k now fresh s L records f (Ok F) e why
 ended_other shown z k now fresh s L records f F w e S Memory is owned told left alike h =
     inr (inl (given_by F w, owned, record { told = told; left = left }))
-ended_other shown z k now fresh s L records f F w e S (Stopped count) is owned told left alike h =
-    (given_by F w, owned, record { told = told; why = stop_of (given_by F w).step.ends count (ends_alike S (given_by F w).step (Stopped count) alike h) })
-ended_other shown z k now fresh s L records f F w e S BadFrame is owned told left alike h =
-    (given_by F w, owned, at_end shown (AreWritten z k now fresh s L owned.mishaps (Ok F)) records e (given_by F w) BadFrame (sym is) told left (ends_alike S (given_by F w).step BadFrame alike h))
-ended_other shown z k now fresh s L records f F w e S (OutsideWindow id) is owned told left alike h =
-    (given_by F w, owned, at_end shown (AreWritten z k now fresh s L owned.mishaps (Ok F)) records e (given_by F w) (OutsideWindow id) (sym is) told left (ends_alike S (given_by F w).step (OutsideWindow id) alike h))
-ended_other shown z k now fresh s L records f F w e S SecondNegotiate is owned told left alike h =
-    (given_by F w, owned, at_end shown (AreWritten z k now fresh s L owned.mishaps (Ok F)) records e (given_by F w) SecondNegotiate (sym is) told left (ends_alike S (given_by F w).step SecondNegotiate alike h))
-ended_other shown z k now fresh s L records f F w e S Unsealable is owned told left alike h =
-    (given_by F w, owned, at_end shown (AreWritten z k now fresh s L owned.mishaps (Ok F)) records e (given_by F w) Unsealable (sym is) told left (ends_alike S (given_by F w).step Unsealable alike h))
-ended_other shown z k now fresh s L records f F w e S Spent is owned told left alike h =
-    (given_by F w, owned, at_end shown (AreWritten z k now fresh s L owned.mishaps (Ok F)) records e (given_by F w) Spent (sym is) told left (ends_alike S (given_by F w).step Spent alike h))
-ended_other shown z k now fresh s L records f F w e S Full is owned told left alike h =
-    (given_by F w, owned, at_end shown (AreWritten z k now fresh s L owned.mishaps (Ok F)) records e (given_by F w) Full (sym is) told left (ends_alike S (given_by F w).step Full alike h))
-ended_other shown z k now fresh s L records f F w e S (LinkFault count) is owned told left alike h =
-    (given_by F w, owned, at_end shown (AreWritten z k now fresh s L owned.mishaps (Ok F)) records e (given_by F w) (LinkFault count) (sym is) told left (ends_alike S (given_by F w).step (LinkFault count) alike h))
+ended_other shown z k now fresh s L records f F w e S (Stopped count) is owned told left alike h = (
+  given_by F w,
+  owned,
+  record {
+    told = told;
+    why = stop_of (given_by F w).step.ends count (ends_alike S (given_by F w).step (Stopped count) alike h);
+  },
+)
+ended_other shown z k now fresh s L records f F w e S BadFrame is owned told left alike h = (
+  given_by F w,
+  owned,
+  at_end shown (AreWritten z k now fresh s L owned.mishaps (Ok F)) records e (given_by F w)
+      BadFrame (sym is) told left (ends_alike S (given_by F w).step BadFrame alike h),
+)
+ended_other shown z k now fresh s L records f F w e S (OutsideWindow id) is owned told left alike h = (
+  given_by F w,
+  owned,
+  at_end shown (AreWritten z k now fresh s L owned.mishaps (Ok F)) records e (given_by F w)
+      (OutsideWindow id) (sym is) told left (ends_alike S (given_by F w).step (OutsideWindow id) alike h),
+)
+ended_other shown z k now fresh s L records f F w e S SecondNegotiate is owned told left alike h = (
+  given_by F w,
+  owned,
+  at_end shown (AreWritten z k now fresh s L owned.mishaps (Ok F)) records e (given_by F w)
+      SecondNegotiate (sym is) told left (ends_alike S (given_by F w).step SecondNegotiate alike h),
+)
+ended_other shown z k now fresh s L records f F w e S Unsealable is owned told left alike h = (
+  given_by F w,
+  owned,
+  at_end shown (AreWritten z k now fresh s L owned.mishaps (Ok F)) records e (given_by F w)
+      Unsealable (sym is) told left (ends_alike S (given_by F w).step Unsealable alike h),
+)
+ended_other shown z k now fresh s L records f F w e S Spent is owned told left alike h = (
+  given_by F w,
+  owned,
+  at_end shown (AreWritten z k now fresh s L owned.mishaps (Ok F)) records e (given_by F w)
+      Spent (sym is) told left (ends_alike S (given_by F w).step Spent alike h),
+)
+ended_other shown z k now fresh s L records f F w e S Full is owned told left alike h = (
+  given_by F w,
+  owned,
+  at_end shown (AreWritten z k now fresh s L owned.mishaps (Ok F)) records e (given_by F w) Full
+      (sym is) told left (ends_alike S (given_by F w).step Full alike h),
+)
+ended_other shown z k now fresh s L records f F w e S (LinkFault count) is owned told left alike h = (
+  given_by F w,
+  owned,
+  at_end shown (AreWritten z k now fresh s L owned.mishaps (Ok F)) records e (given_by F w)
+      (LinkFault count) (sym is) told left (ends_alike S (given_by F w).step (LinkFault count) alike h),
+)
 
 pub ended_on : (shown : Showing) (z : ServerSettings) (k now : ℕ) (fresh : List ℕ) (s : model.Server) (L : Logons)
     (records : List model.Record) (f : ServerEnd) (F : Frame) (x : CheckedFrame) (d : Dealt) (w : Owned) (sealed : Bool) (new : Conn)
     (e : Ended) (deal : Dealing z k now fresh s L F.server_end F.messages d w)
-    → Leaves shown z k now fresh s L records F.server_end F.messages deal.mishaps w
+    → EventLeaves shown z k now fresh s L records F.server_end F.messages deal.mishaps w
     → F.sealed ≡ sealed → IsEnded e.why d e → FailsWith (step_due F w sealed) e.why
-    → Serves shown z k now fresh s L records f F new (Err e)
+    → FrameServes shown z k now fresh s L records f F new (Err e)
 ended_on shown z k now fresh s L records f F x d w sealed new e deal left is ended h =
     ended_other shown z k now fresh s L records f F w e (step_due F w sealed) e.why refl (owned_by z k now fresh s L f F d w deal)
     (told_by z k now fresh s L F d w e.acted e.took e.lacked deal (taken_went F w left.goes) ended.acted ended.took ended.lacked)
@@ -292,27 +329,29 @@ ended_on shown z k now fresh s L records f F x d w sealed new e deal left is end
 pub stopped_on : (shown : Showing) (z : ServerSettings) (k now : ℕ) (fresh : List ℕ) (s : model.Server) (L : Logons)
     (records : List model.Record) (f : ServerEnd) (F : Frame) (x : CheckedFrame) (d : Dealt) (new : Conn) (why : ConnEnd) (e : Ended)
     → IsEnded why d e → Deals shown z k now fresh s L records F.server_end F.messages x d (Err why)
-    → Serves shown z k now fresh s L records f F new (Err e)
+    → FrameServes shown z k now fresh s L records f F new (Err e)
 stopped_on shown z k now fresh s L records f F x d new (Stopped count) e ended h =
     let w = h.0 in
-    subst (λ (y : ConnEnd). EndsBy shown z k now fresh s L records f (Ok F) e y) (sym ended.why_is) (
+    subst (λ (y : ConnEnd). FrameEndsBy shown z k now fresh s L records f (Ok F) e y) (sym ended.why_is) (
       given_by F w,
       owned_by z k now fresh s L f F d w h.1,
       record {
-        told = told_by z k now fresh s L F d w e.acted e.took e.lacked h.1 (taken_stopped F w count h.2) ended.acted ended.took ended.lacked;
+        told = told_by z k now fresh s L F d w e.acted e.took e.lacked h.1 (taken_stopped F w count h.2) ended.acted
+            ended.took ended.lacked;
         why = ap (λ (o : Option ℕ). (dealt_step F.server_end F.sealed w.dealt.going o).ends) h.2;
       },
     )
 stopped_on shown z k now fresh s L records f F x d new Memory e ended h =
     let front = first_of h.count F in
-    subst (λ (y : ConnEnd). EndsBy shown z k now fresh s L records f (Ok F) e y) (sym ended.why_is) (inr (inr (record {
+    subst (λ (y : ConnEnd). FrameEndsBy shown z k now fresh s L records f (Ok F) e y) (sym ended.why_is) (inr (inr (record {
       frame = F;
       heard_is = refl;
       count = h.count;
       first = h.first;
       given = given_by front h.w;
       owned = owned_by z k now fresh s L f front d h.w h.deal;
-      told = told_by z k now fresh s L front d h.w e.acted e.took e.lacked h.deal (taken_went front h.w h.leaves.goes) ended.acted ended.took
+      told = told_by z k now fresh s L front d h.w e.acted e.took e.lacked h.deal (taken_went front h.w h.leaves.goes)
+          ended.acted ended.took
           ended.lacked;
       left = left_is shown z k now fresh s L records front h.deal.mishaps h.w h.leaves;
     })))
@@ -330,7 +369,12 @@ abbrev pub at_once : ConnEnd → Ended
 at_once why = record { why = why; acted = false; took = false; lacked = false }
 
 abbrev ended_now : model.Server → Logons → ServerEnd → ends.ConnEnd → GivenStep
-ended_now s L f why = record { step = ended_by s L f None why; lacked = false; setups = 0; matches = not (is_filled {X = Option Mishap} []) }
+ended_now s L f why = record {
+  step = ended_by s L f None why;
+  lacked = false;
+  setups = 0;
+  matches = not (is_filled {X = Option Mishap} []);
+}
 
 none_matches : (s : model.Server) (L : Logons) (f : ServerEnd) (why : ends.ConnEnd) → (ended_now s L f why).matches ≡ true
 unfolding is_filled
@@ -340,11 +384,11 @@ abbrev owned_none : (z : ServerSettings) (k now : ℕ) (fresh : List ℕ) (s : m
     → IsOwned z k now fresh s L f (Err why) (ended_now s L f why)
 owned_none z k now fresh s L f why = record { mishaps = []; is = refl; matches = none_matches s L f why; left = tt }
 
-told_none : (s : model.Server) (L : Logons) (f : ServerEnd) (why : ends.ConnEnd) → IsTold false false false (ended_now s L f why)
+told_none : (s : model.Server) (L : Logons) (f : ServerEnd) (why : ends.ConnEnd) → IsFrameTold false false false (ended_now s L f why)
 told_none s L f why = record { acted_is = refl; took_is = refl; lacked_is = refl }
 
 left_none : (shown : Showing) (s : model.Server) (L : Logons) (records : List model.Record) (f : ServerEnd) (why : ends.ConnEnd)
-    → shown s L records → IsLeft shown (λ more. more ≡ []) records (ended_now s L f why)
+    → shown s L records → IsFrameLeft shown (λ more. more ≡ []) records (ended_now s L f why)
 left_none shown s L records f why state = record {
   more = [];
   records_are = λ e. refl;
@@ -354,7 +398,7 @@ left_none shown s L records f why state = record {
 
 none_other : (shown : Showing) (z : ServerSettings) (k now : ℕ) (fresh : List ℕ) (s : model.Server) (L : Logons)
     (records : List model.Record) (f : ServerEnd) (why : ends.ConnEnd) (e : ConnEnd) → shown s L records → IsEnd e why
-    → EndsBy shown z k now fresh s L records f (Err why) (at_once e) e
+    → FrameEndsBy shown z k now fresh s L records f (Err why) (at_once e) e
 none_other shown z k now fresh s L records f why Memory state h = absurd h
 none_other shown z k now fresh s L records f why (LinkFault count) state h = absurd h
 none_other shown z k now fresh s L records f why (Stopped count) state h = (
@@ -402,12 +446,14 @@ pub fails_checked : (shown : Showing) (z : ServerSettings) (k now : ℕ) (fresh 
     (records : List model.Record) (f : ServerEnd) (heard : Result Frame ends.ConnEnd) (new : Conn) (e : ConnEnd) → shown s L records
     → EndsAll heard e → TakesBy shown z k now fresh s L records f heard new (Err (at_once e))
 fails_checked shown z k now fresh s L records f heard new Memory state h = lacks_all shown z k now fresh s L records f heard new state
-fails_checked shown z k now fresh s L records f (Err why) new BadFrame state h = none_other shown z k now fresh s L records f why BadFrame state h
+fails_checked shown z k now fresh s L records f (Err why) new BadFrame state h = none_other shown z k now fresh s L
+    records f why BadFrame state h
 fails_checked shown z k now fresh s L records f (Err why) new (OutsideWindow id) state h =
     none_other shown z k now fresh s L records f why (OutsideWindow id) state h
 fails_checked shown z k now fresh s L records f (Err why) new SecondNegotiate state h =
     none_other shown z k now fresh s L records f why SecondNegotiate state h
-fails_checked shown z k now fresh s L records f (Err why) new Unsealable state h = none_other shown z k now fresh s L records f why Unsealable state h
+fails_checked shown z k now fresh s L records f (Err why) new Unsealable state h = none_other shown z k now fresh s L
+    records f why Unsealable state h
 fails_checked shown z k now fresh s L records f (Err why) new Spent state h = none_other shown z k now fresh s L records f why Spent state h
 fails_checked shown z k now fresh s L records f (Err why) new Full state h = none_other shown z k now fresh s L records f why Full state h
 fails_checked shown z k now fresh s L records f (Err why) new (Stopped count) state h =
@@ -430,7 +476,8 @@ fails_as why = Err why
 pub stop_as : (why end : ConnEnd) (count : ℕ) → end ≡ why → end ≡ Stopped count → fails_as why ≡ fails_as (Stopped count)
 stop_as why end count is stop = ap (λ (e : ConnEnd). fails_as e) (sym is ∙ stop)
 
-fails_with : (k : ℕ) (guid : List ℕ) (S : ConnectionStep) (new : Conn) (why : ConnEnd) → AnswersWith k guid S new (Err why) → FailsWith S why
+fails_with : (k : ℕ) (guid : List ℕ) (S : ConnectionStep) (new : Conn) (why : ConnEnd) → AnswersWith k guid S new
+    (Err why) → FailsWith S why
 fails_with k guid S new Memory h = tt
 fails_with k guid S new Spent h = h
 fails_with k guid S new Unsealable h = h
@@ -442,7 +489,7 @@ fails_with k guid S new (LinkFault count) h = h
 fails_with k guid S new (Stopped count) h = h
 
 pub finish_not : (k : ℕ) (guid : List ℕ) (S : ConnectionStep) (d : Dealt) (new : Conn) (why : ConnEnd) (e : Ended) → IsEnded why d e
-    → AnswersWith k guid S new (Err why) → Finishes k guid S d new (Err e)
+    → AnswersWith k guid S new (Err why) → FrameFinishes k guid S d new (Err e)
 finish_not k guid S d new why e ended h = (
   record { why_is = refl; acted = ended.acted; took = ended.took; lacked = ended.lacked },
   subst (λ (x : ConnEnd). FailsWith S x) (sym ended.why_is) (fails_with k guid S new why h),
@@ -451,9 +498,9 @@ finish_not k guid S d new why e ended h = (
 pub finish_with : (k : ℕ) (guid : List ℕ) (S : ConnectionStep) (d : Dealt) (new : Conn) (a : Answered) (t : Taken)
     → (t.bytes ≡ a.bytes) × (t.note.status ≡ (if some_lacked d.replies.items.items then Some no_memory else a.status))
     × (t.note.acted ≡ some_acted d.replies.items.items) × (t.took ≡ d.took) × (t.lacked ≡ some_lacked d.replies.items.items)
-    → AnswersWith k guid S new (Ok a) → Finishes k guid S d new (Ok t)
+    → AnswersWith k guid S new (Ok a) → FrameFinishes k guid S d new (Ok t)
 finish_with k guid S d new a t is h = record {
-  goes = subst (λ (b : List ℕ). Goes k guid S b new) (sym is.0) h.0;
+  goes = subst (λ (b : List ℕ). WalkGoes k guid S b new) (sym is.0) h.0;
   status = is.1 ∙ ap (λ (o : Option ℕ). if some_lacked d.replies.items.items then Some no_memory else o) h.1;
   acted = is.2;
   took = is.3;
@@ -461,17 +508,17 @@ finish_with k guid S d new a t is h = record {
 }
 
 finish_halts : (k : ℕ) (guid : List ℕ) (s : model.Server) (L : Logons) (f : ServerEnd) (sealed : Bool) (w : HeldIds)
-    (ss : List answering.Said) (d : Dealt) (new : Conn) (after : Option ℕ) (result : Result Taken Ended)
-    → Finishes k guid (replied s L f sealed w ss) d new result → HaltsAt after result
+    (ss : List answering.SaidReply) (d : Dealt) (new : Conn) (after : Option ℕ) (result : Result Taken Ended)
+    → FrameFinishes k guid (walk_replied s L f sealed w ss) d new result → HaltsAt after result
 finish_halts k guid s L f sealed w ss d new after (Ok t) h = tt
 finish_halts k guid s L f sealed w ss d new after (Err e) h = λ count is.
-    absurd (replied_goes s L f sealed w ss count (subst (λ (y : ConnEnd). FailsWith (replied s L f sealed w ss) y) is h.1))
+    absurd (replied_goes s L f sealed w ss count (subst (λ (y : ConnEnd). FailsWith (walk_replied s L f sealed w ss) y) is h.1))
 
 served_by : (shown : Showing) (z : ServerSettings) (k now : ℕ) (fresh : List ℕ) (s : model.Server) (L : Logons)
     (records : List model.Record) (f : ServerEnd) (F : Frame) (x : CheckedFrame) (d : Dealt) (w : Owned) (sealed : Bool) (new : Conn)
     (result : Result Taken Ended) (deal : Dealing z k now fresh s L F.server_end F.messages d w)
-    → Leaves shown z k now fresh s L records F.server_end F.messages deal.mishaps w → F.sealed ≡ sealed
-    → Finishes k z.guid (step_due F w sealed) d new result → Serves shown z k now fresh s L records f F new result
+    → EventLeaves shown z k now fresh s L records F.server_end F.messages deal.mishaps w → F.sealed ≡ sealed
+    → FrameFinishes k z.guid (step_due F w sealed) d new result → FrameServes shown z k now fresh s L records f F new result
 served_by shown z k now fresh s L records f F x d w sealed new (Ok t) deal left is h =
     taken_on shown z k now fresh s L records f F x d w sealed new t deal left is h
 served_by shown z k now fresh s L records f F x d w sealed new (Err e) deal left is h =
@@ -483,10 +530,10 @@ pub served : (shown : Showing) (z : ServerSettings) (now : ℕ) (fresh : List �
     → ShowsEnd conn.id z.guid conn F.server_end → F.sealed ≡ old.sealed
     → (x.sealed ≡ old.sealed) × (x.moment ≡ old.moment) → old.moment ≡ now → (old.sealed ≡ true → MaySeal F.server_end.keys)
     → GreetsFirst F.messages → AreAsked F.server_end.asked F.messages → F.server_end.counter ≤ last_counter
-    → ((u : model.Server) (l : Logons) (cs : List hearing.Checked) (ss : List answering.Said) (w : HeldIds)
+    → ((u : model.Server) (l : Logons) (cs : List hearing.Checked) (ss : List answering.SaidReply) (w : HeldIds)
     → ShowsEnd conn.id z.guid conn F.server_end → AreAnswers z F.server_end cs ss w x d.replies.items.items
-    → Finishes conn.id z.guid (replied u l F.server_end x.sealed w ss) d new result)
-    → (after : Option ℕ) → Serves shown z conn.id now fresh s L records f F new result × HaltsAt after result
+    → FrameFinishes conn.id z.guid (walk_replied u l F.server_end x.sealed w ss) d new result)
+    → (after : Option ℕ) → FrameServes shown z conn.id now fresh s L records f F new result × HaltsAt after result
 served shown z now fresh s L records f F old x d conn new result deals shows is same time seals greets asked bound finishes after =
     let w = deals.0 in
     let went = deals.3 in
@@ -521,15 +568,16 @@ ended_once shown z k now fresh s L records f heard new e end is h =
 take_by : (shown : Showing) (z : ServerSettings) (k now : ℕ) (fresh : List ℕ) (s : model.Server) (L : Logons)
     (records : List model.Record) (f : ServerEnd) (text : Result FrameText ends.ConnEnd) (heard : Result Frame ends.ConnEnd)
     (mid new : Conn) (x : CheckedFrame) (after : Option ℕ) (result : Result Taken Ended) → checked_text f text ≡ heard
-    → (is_some f.greeting ≡ true → f.asked ≡ true) → f.counter ≤ last_counter → GoesOn k z.guid heard now mid x
-    → ((F : Frame) → ShowsEnd mid.id z.guid mid F.server_end → ShowsFrame x F → (x.sealed ≡ true → MaySeal F.server_end.keys) → x.moment ≡ now
+    → (is_some f.greeting ≡ true → f.asked ≡ true) → f.counter ≤ last_counter → CheckGoesOn k z.guid heard now mid x
+    → ((F : Frame) → ShowsEnd mid.id z.guid mid F.server_end → ShowsFrame x F
+    → (x.sealed ≡ true → MaySeal F.server_end.keys) → x.moment ≡ now
     → GreetsFirst F.messages → Alone F.messages → AreAsked F.server_end.asked F.messages → F.server_end.counter ≤ last_counter
-    → Serves shown z mid.id now fresh s L records f F new result × HaltsAt after result)
+    → FrameServes shown z mid.id now fresh s L records f F new result × HaltsAt after result)
     → TakesBy shown z k now fresh s L records f heard new result × HaltsAt after result
 take_by shown z k now fresh s L records f text (Ok F) mid new x after result e met bound g serves =
     let kept = kept_by f text F e in
     let number : mid.id ≡ k = g.0.number in
-    subst (λ (n : ℕ). Serves shown z n now fresh s L records f F new result × HaltsAt after result) number
+    subst (λ (n : ℕ). FrameServes shown z n now fresh s L records f F new result × HaltsAt after result) number
     (serves F (subst (λ (n : ℕ). ShowsEnd n z.guid mid F.server_end) (sym number) g.0) g.1 g.3 g.2 g.4 (alone_by f text F met e) kept.asked
     (subst (λ (n : ℕ). n ≤ last_counter) (sym kept.counter) bound))
 take_by shown z k now fresh s L records f text (Err why) mid new x after result e met bound g serves = absurd g
@@ -537,10 +585,11 @@ take_by shown z k now fresh s L records f text (Err why) mid new x after result 
 pub takes : (shown : Showing) (z : ServerSettings) (k now : ℕ) (fresh : List ℕ) (s : model.Server) (L : Logons)
     (records : List model.Record) (f : ServerEnd) (text : Result FrameText ends.ConnEnd) (mid new : Conn) (x : CheckedFrame)
     (after : Option ℕ) (result : Result Taken Ended) → (is_some f.greeting ≡ true → f.asked ≡ true) → f.counter ≤ last_counter
-    → GoesOn k z.guid (checked_text f text) now mid x
-    → ((F : Frame) → ShowsEnd mid.id z.guid mid F.server_end → ShowsFrame x F → (x.sealed ≡ true → MaySeal F.server_end.keys) → x.moment ≡ now
+    → CheckGoesOn k z.guid (checked_text f text) now mid x
+    → ((F : Frame) → ShowsEnd mid.id z.guid mid F.server_end → ShowsFrame x F
+    → (x.sealed ≡ true → MaySeal F.server_end.keys) → x.moment ≡ now
     → GreetsFirst F.messages → Alone F.messages → AreAsked F.server_end.asked F.messages → F.server_end.counter ≤ last_counter
-    → Serves shown z mid.id now fresh s L records f F new result × HaltsAt after result)
+    → FrameServes shown z mid.id now fresh s L records f F new result × HaltsAt after result)
     → TakesBy shown z k now fresh s L records f (checked_text f text) new result × HaltsAt after result
 takes shown z k now fresh s L records f text mid new x after result met bound g serves =
     take_by shown z k now fresh s L records f text (checked_text f text) mid new x after result refl met bound g serves

@@ -2,18 +2,18 @@
 use Rattle.std.proofs.Common.{◌≡◌, ℕ, Bool, true, false, not, ◌&&◌, ◌||◌, if◌then◌else◌, List, [], ◌∷◌, length}
 use Rattle.std.proofs.Common.{Option, Some, None, Result, Ok, Err, refl, sym, ap, ◌∙◌}
 use Rattle.std.specs.Prelude.{is_some}
-use Rattle.exchange_defs.specs.State as model
-use Rattle.credit_defs.specs.Window.{HeldIds}
-use Rattle.world_defs.specs.Ends as ends
-use Rattle.world_defs.specs.Ends.{Logons, ServerEnd}
-use Rattle.world_defs.specs.Messages.{Heard, messages_in}
-use Rattle.world_defs.specs.Hearing as hearing
-use Rattle.world_defs.specs.Hearing.{Frame, FrameText, check_frame, checked_behind, checked_in, checked_text, text_of}
-use Rattle.world_defs.specs.Answering as answering
-use Rattle.world_defs.specs.Connection.{Going, answered_with, ended_by}
+use Rattle.spec_exchange.specs.State as model
+use Rattle.spec_wire.specs.credits.Window.{HeldIds}
+use Rattle.spec_world.specs.Ends as ends
+use Rattle.spec_world.specs.Ends.{Logons, ServerEnd}
+use Rattle.spec_world.specs.Messages.{HeardMessage, messages_in}
+use Rattle.spec_world.specs.Hearing as hearing
+use Rattle.spec_world.specs.Hearing.{Frame, FrameText, check_frame, checked_behind, checked_in, checked_text, text_of}
+use Rattle.spec_world.specs.Answering as answering
+use Rattle.spec_world.specs.Connection.{Going, answered_with, ended_by}
 use Rattle.conn_ends.specs.declared.end.ConnEnd.TheVariants.{Stopped}
-use Rattle.conn_frames.specs.Checking.{EndsAll}
-use Rattle.conn_answers.specs.Replying.{EndsAs, replied}
+use Rattle.conn_ends.specs.frame_messages.Checking.{EndsAll}
+use Rattle.conn_core.specs.reply_frames.Replying.{EndsAs, walk_replied}
 
 abbrev stops : {X : Type 0} → Result X ends.ConnEnd → Bool
 stops (Err (ends.Stopped count)) = true
@@ -22,19 +22,21 @@ stops (Ok x) = false
 
 -- ---- the check
 
-split_goes : (sealed : Bool) (o : Option (List Heard)) → stops (hearing.split_text sealed o) ≡ false
+split_goes : (sealed : Bool) (o : Option (List HeardMessage)) → stops (hearing.split_text sealed o) ≡ false
 split_goes sealed None = refl
 split_goes sealed (Some messages) = refl
 
 text_by : (long sealed : Bool) (o : Option (List ℕ)) (frame : List ℕ)
-    → stops (if long then Err ends.BadFrame else if sealed then hearing.opened_text o else hearing.split_text false (messages_in frame)) ≡ false
+    → stops (if long then Err ends.BadFrame else if sealed then hearing.opened_text o else hearing.split_text false
+    (messages_in frame)) ≡ false
 text_by true sealed o frame = refl
 text_by false true None frame = refl
 text_by false true (Some text) frame = split_goes true (messages_in text)
 text_by false false o frame = split_goes false (messages_in frame)
 
 turn_goes : (early second : Bool) (o : Option ℕ) (rest : Result Frame ends.ConnEnd) → stops rest ≡ false
-    → stops (hearing.if_in_turn (if early then Some ends.BadFrame else if second then Some ends.SecondNegotiate else hearing.end_by_id o) rest)
+    → stops (hearing.if_in_turn (if early then Some ends.BadFrame else if second then Some ends.SecondNegotiate else
+    hearing.end_by_id o) rest)
     ≡ false
 turn_goes true second o rest h = refl
 turn_goes false true o rest h = refl
@@ -45,7 +47,7 @@ front_goes : (c : hearing.Checked) (rest : Result Frame ends.ConnEnd) → stops 
 front_goes c (Ok F) h = refl
 front_goes c (Err why) h = h
 
-behind_goes : (f : ServerEnd) (sealed setup : Bool) (xs : List Heard) → stops (checked_behind f sealed setup xs) ≡ false
+behind_goes : (f : ServerEnd) (sealed setup : Bool) (xs : List HeardMessage) → stops (checked_behind f sealed setup xs) ≡ false
 unfolding checked_behind
 behind_goes f sealed setup [] = refl
 behind_goes f sealed setup (x ∷ xs) =
@@ -54,7 +56,7 @@ behind_goes f sealed setup (x ∷ xs) =
     (front_goes (hearing.checked_as f sealed setup false x) _
     (behind_goes (hearing.behind_turn f x.header) sealed (setup || hearing.is_setup x.header) xs))
 
-in_goes : (f : ServerEnd) (sealed : Bool) (xs : List Heard) → stops (checked_in f sealed xs) ≡ false
+in_goes : (f : ServerEnd) (sealed : Bool) (xs : List HeardMessage) → stops (checked_in f sealed xs) ≡ false
 in_goes f sealed [] = refl
 in_goes f sealed (x ∷ xs) =
     turn_goes (not (is_some f.greeting) && not (hearing.is_negotiate x.header)) (hearing.is_negotiate x.header && f.asked)
@@ -85,7 +87,7 @@ check_goes f frame count h = ends_by (check_frame f frame) count (frame_goes f f
 
 -- ---- the answer
 
-rows_of : Bool → List answering.Said → List (List (List ℕ))
+rows_of : Bool → List answering.SaidReply → List (List (List ℕ))
 rows_of sealed rs = answering.all_texts sealed (answering.joined_in (answering.text_limit sealed) rs)
 
 spent_goes : (count : ℕ) → ends.Spent ≡ ends.Stopped count → ⊥
@@ -97,8 +99,8 @@ replied_by : (b : Bool) (f : ServerEnd) (sealed : Bool) (g : Going) (rows : List
 replied_by true f sealed g rows count h = spent_goes count h
 replied_by false f sealed g rows count h = h
 
-pub replied_goes : (s : model.Server) (L : Logons) (f : ServerEnd) (sealed : Bool) (w : HeldIds) (ss : List answering.Said) (count : ℕ)
-    → EndsAs (Stopped count) (replied s L f sealed w ss).ends → ⊥
+pub replied_goes : (s : model.Server) (L : Logons) (f : ServerEnd) (sealed : Bool) (w : HeldIds) (ss : List answering.SaidReply) (count : ℕ)
+    → EndsAs (Stopped count) (walk_replied s L f sealed w ss).ends → ⊥
 unfolding rows_of
 replied_goes s L f sealed w ss count h =
     replied_by (sealed && not (answering.has_nonces f (length (rows_of sealed ss)))) f sealed

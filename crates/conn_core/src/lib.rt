@@ -1,10 +1,30 @@
+//! A whole frame at the server's end: the events of its messages, their replies in frames, and the cause of its end
+//! (MS-SMB2 3.3.5.2). It is a room because it asks the server for answers and knows none of its tables. The server's
+//! step, serving, and both ends in one run stand on it.
+//!
 //! A server's connection takes a whole frame (MS-SMB2 3.3.5.2): it lets the server answer each message, and joins the
 //! replies into frames.
 #![tactic(auto)]
 
 mod end;
+mod frame_events;
+mod logon_state;
+mod lone_server;
+mod message_replies;
+mod related;
+mod reply_frames;
+mod requests;
+mod served;
 mod taking;
 
-pub use conn_answers::answer;
+pub use crate::reply_frames::answer;
 pub use end::Ended;
+pub use frame_events::{Dealt, Moment, carry_out};
+pub use logon_state::Behind;
+pub use lone_server::take_own;
+pub use message_replies::{Answers, has_event, said};
+pub use related::{bare_status, inherit};
+pub use reply_frames::{Answered, answered_with};
+pub use requests::{Told, event, told_of};
+pub use served::{Replies, Reply, Serve, ServeError};
 pub use taking::{StepNote, Taken, take_frame};

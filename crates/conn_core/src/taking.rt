@@ -1,30 +1,29 @@
 //! A whole frame over a server (MS-SMB2 3.3.5.2).
 ghost use Rattle.std.specs.Prelude.{◌≡◌, ◌≤◌, ℕ, [], true, false, List, IfOk, length, vec_capacity, if◌then◌else◌, Some};
-ghost use Rattle.exchange_defs.specs.Status.{no_memory};
-ghost use Rattle.exchange_defs.specs.State.{Record, Server};
-ghost use Rattle.session_defs.specs.Nonces.{last_counter};
-ghost use Rattle.credit_defs.specs.Window.{HeldIds};
-ghost use Rattle.world_defs.specs.Settings.{ServerSettings};
-ghost use Rattle.world_defs.specs.Ends.{ServerEnd, Logons};
-ghost use Rattle.world_defs.specs.Hearing as hearing;
-ghost use Rattle.world_defs.specs.Answering as answering;
+ghost use Rattle.spec_exchange.specs.Status.{no_memory};
+ghost use Rattle.spec_exchange.specs.State.{Record, Server};
+ghost use Rattle.spec_crypto.specs.sessions.Nonces.{last_counter};
+ghost use Rattle.spec_wire.specs.credits.Window.{HeldIds};
+ghost use Rattle.spec_world.specs.Settings.{ServerSettings};
+ghost use Rattle.spec_world.specs.Ends.{ServerEnd, Logons};
+ghost use Rattle.spec_world.specs.Hearing as hearing;
+ghost use Rattle.spec_world.specs.Answering as answering;
 ghost use Rattle.conn_ends.specs.Shown.{MaySeal, ShowsEnd};
-ghost use Rattle.conn_frames.specs.Checking.{AllHaveMessages, AreInOrder, GreetsFirst, ShowsFrame};
-ghost use Rattle.conn_served.specs.Replies.{some_acted, some_lacked};
-ghost use Rattle.conn_served.specs.Serving.{Onward};
-ghost use Rattle.conn_said.specs.Replying.{AreAsked, AreShort};
-ghost use Rattle.conn_dealt.specs.Dealing.{Alone, taken_records};
-ghost use Rattle.conn_answers.specs.Replying.{AreAnswers, replied};
-ghost use Rattle.conn_core.specs.Taking.{Finishes, HaltsAt, IsEnded, Serves, Takes};
+ghost use Rattle.conn_ends.specs.frame_messages.Checking.{AllHaveMessages, AreInOrder, GreetsFirst, ShowsFrame};
+ghost use Rattle.conn_core.specs.served.Replies.{some_acted, some_lacked};
+ghost use Rattle.conn_core.specs.served.Serving.{Onward};
+ghost use Rattle.conn_core.specs.message_replies.Replying.{AreAsked, AreMessagesShort};
+ghost use Rattle.conn_core.specs.frame_events.Dealing.{Alone, taken_records};
+ghost use Rattle.conn_core.specs.reply_frames.Replying.{AreAnswers, walk_replied};
+ghost use Rattle.conn_core.specs.Taking.{FrameFinishes, HaltsAt, IsEnded, FrameServes, FrameTakes};
 
 use crate::end::{Ended, at_once};
-use conn_answers::{Answered, answered_with};
-use conn_dealt::{Dealt, Moment, carry_out};
-use conn_ends::{Conn, ConnEnd};
-use conn_frames::{CheckedFrame, check};
-use conn_served::{Replies, Serve};
-use smb_bytes::Bytes;
+use crate::frame_events::{Dealt, Moment, carry_out};
+use crate::reply_frames::{Answered, answered_with};
+use crate::served::{Replies, Serve};
+use conn_ends::{CheckedFrame, Conn, ConnEnd, check};
 use std::alloc::{AllocError, Global};
+use wire_bytes::Bytes;
 
 /// STATUS_NO_MEMORY (MS-ERREF 2.3.1)
 const NO_MEMORY: u32 = 0xc000_0017;
@@ -99,10 +98,10 @@ fn taken_of(answered: Answered, dealt: &Dealt) -> Taken
 /// The answer to a frame whose messages were all carried out.
 fn finish(conn: &mut Conn, asked: &CheckedFrame, dealt: &Dealt) -> Result<Taken, Ended>
     requires messages { AllHaveMessages asked.now }
-    requires short { AreShort dealt.now.replies.items.items }
-    ensures { (z : ServerSettings) (s : Server) (L : Logons) (f : ServerEnd) (cs : List hearing.Checked) (ss : List answering.Said)
+    requires short { AreMessagesShort dealt.now.replies.items.items }
+    ensures { (z : ServerSettings) (s : Server) (L : Logons) (f : ServerEnd) (cs : List hearing.Checked) (ss : List answering.SaidReply)
         (w : HeldIds) → ShowsEnd conn.old.id z.guid conn.old f → AreAnswers z f cs ss w asked.now dealt.now.replies.items.items
-        → Finishes conn.old.id z.guid (replied s L f asked.now.sealed w ss) dealt.now conn.new result }
+        → FrameFinishes conn.old.id z.guid (walk_replied s L f asked.now.sealed w ss) dealt.now conn.new result }
 {
     match answered_with(conn, asked, &dealt.replies) {
         Ok(answered) => Ok(taken_of(answered, dealt)),
@@ -125,7 +124,7 @@ fn serve<S: Serve>(
         → S.shows server.old z.users s L records → ShowsEnd conn.old.id z.guid conn.old F.server_end → ShowsFrame asked.old F
         → (asked.old.sealed ≡ true → MaySeal F.server_end.keys) → asked.old.moment ≡ moment.now.time
         → GreetsFirst F.messages → Alone F.messages → AreAsked F.server_end.asked F.messages → F.server_end.counter ≤ last_counter
-        → Serves (Onward (S.shows server.new z.users) (S.stopped server.old) (S.stopped server.new)) z conn.old.id moment.now.time
+        → FrameServes (Onward (S.shows server.new z.users) (S.stopped server.old) (S.stopped server.new)) z conn.old.id moment.now.time
         moment.now.fresh s L records f F conn.new result × HaltsAt (S.stopped server.new) result }
 {
     match carry_out(conn, server, moment, asked, dealt) {
@@ -147,7 +146,7 @@ pub fn take_frame<S: Serve>(
 ) -> Result<Taken, Ended>
     ensures takes { (z : ServerSettings) (s : Server) (L : Logons) (records : List Record) (f : ServerEnd)
         → S.shows server.old z.users s L records → ShowsEnd conn.old.id z.guid conn.old f → f.counter ≤ last_counter
-        → Takes (Onward (S.shows server.new z.users) (S.stopped server.old) (S.stopped server.new)) z conn.old.id now fresh s L records
+        → FrameTakes (Onward (S.shows server.new z.users) (S.stopped server.old) (S.stopped server.new)) z conn.old.id now fresh s L records
         f frame.now conn.new result }
     ensures halted { (z : ServerSettings) (s : Server) (L : Logons) (records : List Record) (f : ServerEnd)
         → S.shows server.old z.users s L records → ShowsEnd conn.old.id z.guid conn.old f → f.counter ≤ last_counter

@@ -1,1 +1,4 @@
 pub mod Shown
+pub mod negotiating
+pub mod frame_messages
+pub mod reply_sealing

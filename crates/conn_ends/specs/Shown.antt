@@ -1,10 +1,10 @@
 -- A connection's end in code shows the end of the definitions: it keeps values of the chain where they keep the messages.
 use Rattle.std.specs.Prelude.{◌≡◌, ℕ, ◌≤◌, List, [], Option, Some, None, vec_capacity, is_some, true, ⊤}
-use Rattle.session_defs.specs.declared.material.Keys.{Keys}
-use Rattle.session_defs.specs.Chain.{chain}
-use Rattle.world_defs.specs.Ends as ends
-use Rattle.wire_defs.specs.declared.refusal.FrameError.{FrameError}
-use Rattle.wire_defs.specs.declared.refusal.FrameError.TheVariants as frames
+use Rattle.spec_crypto.specs.declared.sessions.material.Keys.{Keys}
+use Rattle.spec_crypto.specs.sessions.Chain.{chain}
+use Rattle.spec_world.specs.Ends as ends
+use Rattle.spec_wire.specs.declared.messages.refusal.FrameError.{FrameError}
+use Rattle.spec_wire.specs.declared.messages.refusal.FrameError.TheVariants as frames
 use Rattle.conn_ends.specs.declared.conn.Conn.{Conn}
 use Rattle.conn_ends.specs.declared.conn.Greeting.{Greeting}
 use Rattle.conn_ends.specs.declared.end.ConnEnd.{ConnEnd}

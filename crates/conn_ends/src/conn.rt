@@ -1,8 +1,7 @@
-use credit_window::Window;
-use preauth_hash::Chain;
-use session_defs::{Chosen, Keys, Signer};
-use session_keys::Nonces;
+use crypto_sessions::{Chain, Nonces};
+use spec_crypto::{Chosen, Keys, Signer};
 use std::alloc::{AllocError, Global};
+use wire_credits::Window;
 
 /// The room of the first reply that says that memory ran out: a frame's length, a transform header, a header and an
 /// error response.
@@ -63,7 +62,7 @@ pub struct Conn {
 
 impl Conn {
     ghost use Rattle.std.specs.Prelude.{IfOk};
-    ghost use Rattle.world_defs.specs.Ends.{first_server_end};
+    ghost use Rattle.spec_world.specs.Ends.{first_server_end};
     ghost use Rattle.conn_ends.specs.Shown.{HasSpare, ShowsEnd};
 
     /// The end of a connection that was just accepted. `id` is its number, `guid` the ServerGuid, and `salt` random
@@ -95,9 +94,9 @@ impl Conn {
 
 impl Logon {
     ghost use Rattle.std.specs.Prelude.{◌≡◌, ℕ, List, Option};
-    ghost use Rattle.session_defs.specs.Chain.{chain};
-    ghost use Rattle.world_defs.specs.Ends as ends;
-    ghost use Rattle.world_defs.specs.Logon.{greeting_transcript, made_or_greeted};
+    ghost use Rattle.spec_crypto.specs.sessions.Chain.{chain};
+    ghost use Rattle.spec_world.specs.Ends as ends;
+    ghost use Rattle.spec_world.specs.Logon.{greeting_transcript, made_or_greeted};
     ghost use Rattle.conn_ends.specs.Shown.{ShowsGreeting, ShowsMaking};
 
     /// What NEGOTIATE chose; where none was answered with success no cipher, and AES-CMAC.

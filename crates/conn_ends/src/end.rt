@@ -1,6 +1,6 @@
+use spec_wire::FrameError;
 use std::alloc::AllocError;
 use thiserror::Error;
-use wire_defs::FrameError;
 
 /// Why the server ends a connection by itself.
 #[derive(Clone, Copy, Debug, PartialEq, Eq, Error)]

@@ -1,19 +1,19 @@
 -- How the top call ends, from what was read and how that was answered.
 use Rattle.std.proofs.Common.{◌≡◌, ℕ, true, false, List, refl, subst, inl, inr, Option, Err}
 use Rattle.std.specs.Io.KnownBytes.{Appends}
-use Rattle.gen_law.specs.ReadsBack.{made_script, script_text}
-use Rattle.outcome_lines.specs.Text.{refusal_line}
-use Rattle.script_gen.specs.Making.{made_lines}
-use Rattle.script_gen.specs.declared.lines.MadeLine.{MadeLine}
-use Rattle.script_lines.specs.declared.line.Refusal.{Refusal}
+use Rattle.law_scripts.specs.generated.ReadsBack.{made_script, script_text}
+use Rattle.script_words.specs.outcome_lines.Text.{refusal_line}
+use Rattle.script_words.specs.generator.Making.{made_lines}
+use Rattle.script_words.specs.declared.generator.lines.MadeLine.{MadeLine}
+use Rattle.script_words.specs.declared.text_lines.line.Refusal.{Refusal}
 use Rattle.script_words.specs.declared.values.Command.TheVariants.{Drill as ForDrill}
-use Rattle.smb_io.specs.Faults.{Rose}
-use Rattle.outside_calls.specs.Outside.{HasRead}
+use Rattle.base_outside.specs.streams.Faults.{Rose}
+use Rattle.base_outside.specs.whole_texts.Outside.{HasRead}
 use Rattle.drill_command.specs.declared.ending.Ending.{Ending}
 use Rattle.drill_command.specs.declared.ending.Ending.TheVariants.{Done, Usage, Script, SourceFailed, SinkFailed, Memory}
 use Rattle.drill_command.specs.Made.{Summed}
 use Rattle.drill_command.specs.Playing.{Ran, played, run_of}
-use Rattle.drill_command.specs.TopCall.{Answers, Drills, Ends, Makes, Refuses, SumsUp, Writes}
+use Rattle.drill_command.specs.TopCall.{CommandAnswers, Drills, CommandEnds, CommandMakes, CommandRefuses, SumsUp, CommandWrites}
 use Rattle.drill_command.specs.Writing.{Fronts}
 use Rattle.drill_command.specs.declared.words.Asked.{Asked}
 use Rattle.drill_command.proofs.Limits.{keeps_limit}
@@ -21,8 +21,9 @@ use Rattle.drill_command.proofs.Written.{front_of, whole_front}
 
 -- ---- a script that was read
 
-pub wrote_text : (script seed text : List ℕ) (written written' : Option (List ℕ)) (faults faults' : ℕ) (ending : Ending) → Ran script seed text
-    → Writes text written written' faults faults' ending → Answers script seed written written' faults faults' ending
+pub wrote_text : (script seed text : List ℕ) (written written' : Option (List ℕ)) (faults faults' : ℕ) (ending : Ending)
+    → Ran script seed text
+    → CommandWrites text written written' faults faults' ending → CommandAnswers script seed written written' faults faults' ending
 wrote_text script seed text written written' faults faults' Done ran (calm, wrote) =
     (calm, record { printed = text; ran = ran; wrote = wrote })
 wrote_text script seed text written written' faults faults' Usage ran done = absurd done
@@ -33,8 +34,8 @@ wrote_text script seed text written written' faults faults' SinkFailed ran (rose
 wrote_text script seed text written written' faults faults' Memory ran done = absurd done
 
 pub refuses : (script seed : List ℕ) (refusal : Refusal) (written written' : Option (List ℕ)) (faults faults' : ℕ) (ending : Ending)
-    → played script seed ≡ Err refusal → Refuses refusal written written' faults faults' ending
-    → Answers script seed written written' faults faults' ending
+    → played script seed ≡ Err refusal → CommandRefuses refusal written written' faults faults' ending
+    → CommandAnswers script seed written written' faults faults' ending
 refuses script seed refusal written written' faults faults' Done due done = absurd done
 refuses script seed refusal written written' faults faults' Usage due done = absurd done
 refuses script seed refusal written written' faults faults' Script due (calm, wrote) =
@@ -47,7 +48,7 @@ refuses script seed refusal written written' faults faults' SinkFailed due (rose
 refuses script seed refusal written written' faults faults' Memory due kept = kept
 
 pub drills : (seed : List ℕ) (left left' written written' : Option (List ℕ)) (source source' sink sink' : ℕ) (script : List ℕ)
-    (ending : Ending) → HasRead left left' script → source' ≡ source → Answers script seed written written' sink sink' ending
+    (ending : Ending) → HasRead left left' script → source' ≡ source → CommandAnswers script seed written written' sink sink' ending
     → Drills seed left left' written written' source source' sink sink' ending
 drills seed left left' written written' source source' sink sink' script Done read calm (kept, done) = (
   calm,
@@ -70,11 +71,11 @@ drills seed left left' written written' source source' sink sink' script Memory 
 -- ---- by what is asked
 
 pub ends_as : (o p : Option Asked) (s t : List ℕ) (left left' written written' : Option (List ℕ)) (source source' sink sink' : ℕ)
-    (ending : Ending) → o ≡ p → s ≡ t → Ends o s left left' written written' source source' sink sink' ending
-    → Ends p t left left' written written' source source' sink sink' ending
+    (ending : Ending) → o ≡ p → s ≡ t → CommandEnds o s left left' written written' source source' sink sink' ending
+    → CommandEnds p t left left' written written' source source' sink sink' ending
 ends_as o p s t left left' written written' source source' sink sink' ending same seed h =
-    subst (λ (q : Option Asked). Ends q t left left' written written' source source' sink sink' ending) same
-    (subst (λ (r : List ℕ). Ends o r left left' written written' source source' sink sink' ending) seed h)
+    subst (λ (q : Option Asked). CommandEnds q t left left' written written' source source' sink sink' ending) same
+    (subst (λ (r : List ℕ). CommandEnds o r left left' written written' source source' sink sink' ending) seed h)
 
 pub never_reads : true ≡ false → ⊥
 never_reads e = absurd (cc)
@@ -82,7 +83,7 @@ never_reads e = absurd (cc)
 -- ---- a script that is made
 
 pub sums_text : (key operations : ℕ) (seed text : List ℕ) (written written' : Option (List ℕ)) (faults faults' : ℕ) (ending : Ending)
-    → Summed key operations seed text → Writes text written written' faults faults' ending
+    → Summed key operations seed text → CommandWrites text written written' faults faults' ending
     → SumsUp key operations seed written written' faults faults' ending
 sums_text key operations seed text written written' faults faults' Done summed (calm, wrote) =
     (calm, record { printed = text; summed = summed; wrote = wrote })
@@ -94,7 +95,8 @@ sums_text key operations seed text written written' faults faults' SinkFailed su
 sums_text key operations seed text written written' faults faults' Memory summed h = absurd h
 
 pub sums_line : (key operations : ℕ) (seed : List ℕ) (refusal : Refusal) (written written' : Option (List ℕ)) (faults faults' : ℕ)
-    (ending : Ending) → run_of (made_script key operations) seed ≡ Err refusal → Refuses refusal written written' faults faults' ending
+    (ending : Ending) → run_of (made_script key operations) seed ≡ Err refusal → CommandRefuses refusal written written'
+    faults faults' ending
     → SumsUp key operations seed written written' faults faults' ending
 sums_line key operations seed refusal written written' faults faults' Done due h = absurd h
 sums_line key operations seed refusal written written' faults faults' Usage due h = absurd h
@@ -110,7 +112,8 @@ sums_line key operations seed refusal written written' faults faults' Memory due
 -- behind the script
 pub makes : (key operations : ℕ) (seed : List ℕ) (ls : List MadeLine) (written between written' : Option (List ℕ)) (faults mid faults' : ℕ)
     (ending : Ending) → ls ≡ made_lines key operations → Appends written between (script_text ls) → mid ≡ faults
-    → SumsUp key operations seed between written' mid faults' ending → Makes key operations seed written written' faults faults' ending
+    → SumsUp key operations seed between written' mid faults' ending → CommandMakes key operations seed written written'
+    faults faults' ending
 makes key operations seed ls written between written' faults mid faults' Done same wrote calm h = record {
   between = between;
   script = subst (λ (l : List MadeLine). Appends written between (script_text l)) same wrote;
@@ -138,6 +141,6 @@ makes key operations seed ls written between written' faults mid faults' Memory 
 -- where it failed before the script's end
 pub cut_script : (key operations : ℕ) (seed : List ℕ) (ls : List MadeLine) (written written' : Option (List ℕ)) (faults faults' : ℕ)
     → ls ≡ made_lines key operations → Rose faults faults' → Fronts written written' (script_text ls)
-    → Makes key operations seed written written' faults faults' SinkFailed
+    → CommandMakes key operations seed written written' faults faults' SinkFailed
 cut_script key operations seed ls written written' faults faults' same rose front =
     (rose, inl (front_of written written' ls (made_lines key operations) same front))

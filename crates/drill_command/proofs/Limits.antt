@@ -3,8 +3,9 @@ use Rattle.std.proofs.Common.{◌≡◌, ℕ, ◌+◌, List, [], ◌∷◌, ◌+
 use Rattle.std.proofs.Common.{◌⊎◌, inl, inr, arith}
 use Rattle.std.proofs.lemmas.Bool.Decides.{leb_tells}
 use Rattle.std.specs.Prelude.{◌&&◌, ◌==◌, Result, Ok, Err}
-use Rattle.script_lines.proofs.LineLemmas.{script_cut}
-use Rattle.script_lines.specs.Script.{Read, at_line, creates_said, given_said, judged, line_saying, lines_from, nothing_given, script, with_lines}
+use Rattle.script_words.proofs.text_lines.LineLemmas.{script_cut}
+use Rattle.script_words.specs.text_lines.Script.{Read, at_line, creates_said, given_said, judged, line_saying}
+use Rattle.script_words.specs.text_lines.Script.{lines_from, nothing_given, script, with_lines}
 use Rattle.script_words.proofs.PieceLemmas.{pieces_left_over}
 use Rattle.script_words.specs.Outcome.{◌>>=◌}
 use Rattle.script_words.specs.Pieces.{pieces}

@@ -1,49 +1,50 @@
 -- The run of a script that is made, and its sum.
-use Rattle.std.proofs.Common.{◌≡◌, ℕ, zero, suc, ◌+◌, ◌≤◌, ◌<◌, Bool, false, List, [], ◌∷◌, ◌++◌, length, drop, map, refl, sym, ap, subst, ◌∙◌, arith, Result, Ok, Err, MatchResult}
+use Rattle.std.proofs.Common.{◌≡◌, ℕ, zero, suc, ◌+◌, ◌≤◌, ◌<◌, Bool, false, List, [], ◌∷◌, ◌++◌, length, drop, map}
+use Rattle.std.proofs.Common.{refl, sym, ap, subst, ◌∙◌, arith, Result, Ok, Err, MatchResult}
 use Rattle.std.proofs.lemmas.List.{drop_all}
-use Rattle.drill_text.specs.ClientCore.Shown.{ShowsClient}
-use Rattle.drill_text.specs.ClientCore.declared.client.Client.{Client as Core}
-use Rattle.client_dialog.specs.Ending.{CanConnect}
-use Rattle.client_outcomes.specs.Meaning.{outcome_of}
-use Rattle.client_outcomes.specs.declared.outcome.Outcome.{Outcome as Settled}
+use Rattle.client_steps.specs.whole_client.Shown.{ShowsClient}
+use Rattle.client_steps.specs.declared.whole_client.client.Client.{Client as Core}
+use Rattle.client_ends.specs.dialog_calls.Ending.{CanConnect}
+use Rattle.client_values.specs.outcomes.Meaning.{outcome_of}
+use Rattle.client_values.specs.declared.outcomes.outcome.Outcome.{Outcome as Settled}
 use Rattle.drill_command.specs.Made.{IsSum, Sums, Totals}
-use Rattle.drill_command.specs.Playing.{Ends, IsMemory}
-use Rattle.drill_command.specs.Summing.{bytes_of, count_of, counts_line, counts_of, files_line, is_kind, one_if, summary_text}
+use Rattle.drill_command.specs.Playing.{DrillEnds, IsDrillMemory}
+use Rattle.drill_command.specs.Summing.{stored_bytes, count_of, counts_line, counts_of, files_line, is_kind, one_if, summary_text}
 use Rattle.drill_command.specs.TopCall.{plain, run_left}
 use Rattle.drill_command.specs.declared.summing.Kind.{Kind}
 use Rattle.drill_command.specs.declared.summing.Kind.TheVariants as kinds
 use Rattle.drill_command.proofs.Played.{ends_by}
-use Rattle.drill_defs.specs.Scripts.{drill_settings, settings_in}
-use Rattle.drill_law.specs.Drills.{MadeScriptsHold}
-use Rattle.drill_text.proofs.Ended.{gave, settled_listed}
-use Rattle.drill_text.specs.Text.{outcomes_from}
-use Rattle.exchange_defs.specs.Client.{finish}
-use Rattle.exchange_defs.specs.Network as network
-use Rattle.exchange_defs.specs.Operations.{Ended, NoOpen, NoSlot, Outcome, Unknown, Unsettled, WasOk, WasRefused}
-use Rattle.file_store.specs.Stored.{AreFiles}
-use Rattle.file_store.specs.declared.files.StoredFile.{StoredFile}
-use Rattle.gen_law.specs.ReadsBack.{made_script, numbered}
-use Rattle.script_fits_law.specs.Fits.{DefaultsFit}
-use Rattle.script_gen.specs.Lines.{line_said}
-use Rattle.script_gen.specs.Making.{made_lines}
-use Rattle.script_gen.specs.declared.lines.MadeLine.{MadeLine}
-use Rattle.script_lines.specs.Settings.{settings_of}
-use Rattle.script_lines.specs.declared.line.Line.{Line}
-use Rattle.script_lines.specs.declared.line.Refusal.{Refusal}
-use Rattle.script_lines.specs.declared.settings.Settings.{Settings}
-use Rattle.script_runs.specs.Runs.{SchedulesAreCourses, schedule}
+use Rattle.law_scripts.specs.script_setup.Scripts.{drill_settings, settings_in}
+use Rattle.law_scripts.specs.drill.Drills.{MadeScriptsHold}
+use Rattle.drill_command.proofs.drill_text.Ended.{gave, settled_listed}
+use Rattle.drill_command.specs.drill_text.Text.{outcomes_from}
+use Rattle.spec_exchange.specs.Client.{finish}
+use Rattle.spec_exchange.specs.Network as network
+use Rattle.spec_exchange.specs.Operations.{Ended, NoOpen, NoSlot, Outcome, Unknown, Unsettled, WasOk, WasRefused}
+use Rattle.store_files.specs.file_tree.Stored.{AreFiles}
+use Rattle.store_files.specs.declared.file_tree.files.StoredFile.{StoredFile}
+use Rattle.law_scripts.specs.generated.ReadsBack.{made_script, numbered}
+use Rattle.law_scripts.specs.settings_fit.Fits.{DefaultsFit}
+use Rattle.script_words.specs.generator.Lines.{line_said}
+use Rattle.script_words.specs.generator.Making.{made_lines}
+use Rattle.script_words.specs.declared.generator.lines.MadeLine.{MadeLine}
+use Rattle.script_words.specs.text_lines.Settings.{settings_of}
+use Rattle.script_words.specs.declared.text_lines.line.Line.{Line}
+use Rattle.script_words.specs.declared.text_lines.line.Refusal.{Refusal}
+use Rattle.script_words.specs.declared.text_lines.settings.Settings.{Settings}
+use Rattle.law_scripts.specs.script_runs.Runs.{SchedulesAreCourses, did_all}
 use Rattle.script_words.specs.Outcome.{Fails}
 use Rattle.script_words.specs.declared.values.Fault.{Fault}
 use Rattle.script_words.specs.declared.values.Statement.{Statement}
-use Rattle.world_defs.specs.Courses.{Course, opening}
-use Rattle.world_defs.specs.Events.{bytes_start}
-use Rattle.world_defs.specs.Settings.{WorldSettings}
-use Rattle.world_defs.specs.World as bytes
-use Rattle.drill_text.specs.WorldEnded.Ended.{ShowsEnded}
-use Rattle.drill_text.specs.WorldEnded.declared.ending.EndedWorld.{EndedWorld}
-use Rattle.world_script.specs.WorldEnds.Shown.{ShowsWorld}
-use Rattle.world_script.specs.WorldEnds.declared.world.World.{World}
-use Rattle.world_script.specs.Drives.{Comes}
+use Rattle.spec_world.specs.Courses.{Course, opening}
+use Rattle.spec_world.specs.Events.{bytes_start}
+use Rattle.spec_world.specs.Settings.{WorldSettings}
+use Rattle.spec_world.specs.World as bytes
+use Rattle.world_ends.specs.results.Ended.{ShowsEnded}
+use Rattle.world_ends.specs.declared.results.ending.EndedWorld.{EndedWorld}
+use Rattle.world_ends.specs.Shown.{ShowsWorld}
+use Rattle.world_ends.specs.declared.world.World.{World}
+use Rattle.drill_command.specs.script_run.Drives.{ScriptComes}
 
 -- ---- lines, with their numbers
 
@@ -86,18 +87,18 @@ count_all kind settled place count all past so_far =
     ap (λ (os : List Settled). count_of kind (map outcome_of os)) (drop_all place settled past) in omega (arith, e, so_far)
 
 pub bytes_more : (files : List StoredFile) (place : ℕ) (one : StoredFile) (bytes more all : ℕ)
-    → drop place files ≡ one ∷ drop (place + 1) files → more ≡ bytes + length one.bytes → bytes + bytes_of (drop place files) ≡ all
-    → more + bytes_of (drop (place + 1) files) ≡ all
-unfolding bytes_of
+    → drop place files ≡ one ∷ drop (place + 1) files → more ≡ bytes + length one.bytes → bytes + stored_bytes (drop place files) ≡ all
+    → more + stored_bytes (drop (place + 1) files) ≡ all
+unfolding stored_bytes
 bytes_more files place one bytes more all next is so_far =
-    let e : bytes_of (drop place files) ≡ length one.bytes + bytes_of (drop (place + 1) files) =
-    ap (λ (fs : List StoredFile). bytes_of fs) next in omega (arith, e, is, so_far)
+    let e : stored_bytes (drop place files) ≡ length one.bytes + stored_bytes (drop (place + 1) files) =
+    ap (λ (fs : List StoredFile). stored_bytes fs) next in omega (arith, e, is, so_far)
 
-pub bytes_all : (files : List StoredFile) (place bytes all : ℕ) → length files ≤ place → bytes + bytes_of (drop place files) ≡ all
+pub bytes_all : (files : List StoredFile) (place bytes all : ℕ) → length files ≤ place → bytes + stored_bytes (drop place files) ≡ all
     → bytes ≡ all
-unfolding bytes_of
+unfolding stored_bytes
 bytes_all files place bytes all past so_far =
-    let e : bytes_of (drop place files) ≡ 0 = ap (λ (fs : List StoredFile). bytes_of fs) (drop_all place files past) in
+    let e : stored_bytes (drop place files) ≡ 0 = ap (λ (fs : List StoredFile). stored_bytes fs) (drop_all place files past) in
     omega (arith, e, so_far)
 
 -- ---- the sum of a client that ended
@@ -143,23 +144,25 @@ is_sum w x settled files text h same are shown =
     record {
       files = files;
       are_files = are;
-      is = shown ∙ ap (λ (l : List ℕ). l ++ files_line (length files) (bytes_of files)) counts;
+      is = shown ∙ ap (λ (l : List ℕ). l ++ files_line (length files) (stored_bytes files)) counts;
     }
 
 pub summed_ok : {A : Type 0} (view : A → List ℕ) (z : WorldSettings) (due : Result Course Refusal) (ended : EndedWorld)
     (r : Result A (Fault Refusal))
-    → MatchResult r (λ text. (z : WorldSettings) (w : bytes.World) → ShowsEnded z ended w → IsSum w.values (view text)) (λ fault. IsMemory fault)
+    → MatchResult r (λ text. (z : WorldSettings) (w : bytes.World) → ShowsEnded z ended w → IsSum w.values (view text))
+    (λ fault. IsDrillMemory fault)
     → (d : Course) × (due ≡ Ok d) × ShowsEnded z ended d.world → Totals view due r
 summed_ok view z due ended (Ok text) t h = (h.0, h.1, t z h.0.world h.2)
 summed_ok view z due ended (Err fault) t h = subst (λ (f : Fault Refusal). Fails f due) (sym t) tt
 
 -- ---- the run
 
-pub ran_left : (ls : List MadeLine) (s : Settings) (seed : List ℕ) (x y : World) (ended : EndedWorld) (refused : Result Unit (Fault Refusal))
+pub ran_left : (ls : List MadeLine) (s : Settings) (seed : List ℕ) (x y : World) (ended : EndedWorld)
+    (refused : Result Unit (Fault Refusal))
     → s ≡ plain → (CanConnect s.share → ShowsWorld (drill_settings s seed) x (bytes_start (drill_settings s seed)))
-    → ((z : WorldSettings) (c : Course) → ShowsWorld z x c.world → Comes z (schedule z 0 (numbered 0 ls) c) y refused)
+    → ((z : WorldSettings) (c : Course) → ShowsWorld z x c.world → ScriptComes z (did_all z 0 (numbered 0 ls) c) y refused)
     → ((z : WorldSettings) (w : bytes.World) → ShowsWorld z y w → ShowsEnded z ended w) → CanConnect plain.share
-    → Ends (drill_settings plain seed) (run_left ls seed) ended refused
+    → DrillEnds (drill_settings plain seed) (run_left ls seed) ended refused
 ran_left ls s seed x y ended refused same begun runs ends connects =
     let z = drill_settings plain seed in
     let shown : ShowsWorld z x (bytes_start z) =

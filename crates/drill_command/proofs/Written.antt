@@ -1,13 +1,14 @@
 -- A script that is made, piece by piece.
-use Rattle.std.proofs.Common.{◌≡◌, ℕ, zero, List, [], ◌∷◌, ◌++◌, length, take, drop, refl, sym, ap, subst, ◌∙◌, append_assoc, append-nil, take-append-drop, Option, Result, Ok, Err}
+use Rattle.std.proofs.Common.{◌≡◌, ℕ, zero, List, [], ◌∷◌, ◌++◌, length, take, drop, refl, sym, ap, subst, ◌∙◌}
+use Rattle.std.proofs.Common.{append_assoc, append-nil, take-append-drop, Option, Result, Ok, Err}
 use Rattle.std.proofs.KnownBytes.{Appends-kept, Appends-nil, Appends-trans}
 use Rattle.std.specs.Io.KnownBytes.{Appends, Keeps}
 use Rattle.std.specs.Prelude.{codes, OnErr}
 use Rattle.drill_command.specs.Writing.{Flushes, Fronts}
-use Rattle.gen_law.specs.ReadsBack.{script_text}
-use Rattle.outside_calls.specs.Outside.{AppendsFront}
-use Rattle.script_gen.specs.Lines.{line_text}
-use Rattle.script_gen.specs.declared.lines.MadeLine.{MadeLine}
+use Rattle.law_scripts.specs.generated.ReadsBack.{script_text}
+use Rattle.base_outside.specs.whole_texts.Outside.{AppendsFront}
+use Rattle.script_words.specs.generator.Lines.{line_text}
+use Rattle.script_words.specs.declared.generator.lines.MadeLine.{MadeLine}
 
 pub flushed : (written written' : Option (List ℕ)) (old new bytes : List ℕ) → bytes ≡ old → new ≡ [] → Appends written written' bytes
     → Flushes written written' old new
@@ -45,7 +46,8 @@ begun written gathered left none = record {
 }
 
 pub one_more : (written mid now : Option (List ℕ)) (gathered pushed new : List ℕ) (left more : List MadeLine) (l : MadeLine) (all : List ℕ)
-    → left ≡ l ∷ more → pushed ≡ gathered ++ (line_text l ++ codes "\n") → Flushes mid now pushed new → Written written mid gathered left all
+    → left ≡ l ∷ more → pushed ≡ gathered ++ (line_text l ++ codes "\n") → Flushes mid now pushed new
+    → Written written mid gathered left all
     → Written written now new more all
 one_more written mid now gathered pushed new left more l all split grown f h = record {
   front = h.front ++ f.front;
@@ -84,7 +86,8 @@ cut_flush written written' bytes text same front = record {
 }
 
 -- where a line can't be gathered, what was written before
-pub stood : (written now : Option (List ℕ)) (gathered : List ℕ) (left : List MadeLine) (all : List ℕ) → Written written now gathered left all
+pub stood : (written now : Option (List ℕ)) (gathered : List ℕ) (left : List MadeLine) (all : List ℕ)
+    → Written written now gathered left all
     → Fronts written now all
 stood written now gathered left all h = record {
   front = h.front;
@@ -126,7 +129,8 @@ pub front_of : (written written' : Option (List ℕ)) (ls all : List MadeLine) �
 front_of written written' ls all same f = (
   length f.front,
   subst (λ (l : List ℕ). Appends written written' l)
-      (sym (ap (λ (l : List ℕ). take (length f.front) l) (sym (f.parts ∙ ap (λ (m : List MadeLine). script_text m) same)) ∙ first_part f.front f.rest)) f.wrote,
+      (sym (ap (λ (l : List ℕ). take (length f.front) l)
+      (sym (f.parts ∙ ap (λ (m : List MadeLine). script_text m) same)) ∙ first_part f.front f.rest)) f.wrote,
 )
 
 -- nothing, and all of it

@@ -1,3 +1,7 @@
+pub mod settling
+pub mod drill_setup
+pub mod script_run
+pub mod drill_text
 pub mod Asking
 pub mod Playing
 pub mod Writing

@@ -2,19 +2,19 @@
 use Rattle.std.specs.Prelude.{◌≡◌, ℕ, ◌⊎◌, List, Result, Ok, Err, MatchResult}
 use Rattle.drill_command.specs.Playing.{run_of}
 use Rattle.drill_command.specs.Summing.{summary_text}
-use Rattle.drill_defs.specs.Scripts.{lines_in, settings_in}
-use Rattle.drill_law.specs.Drills.{MadeHolds}
-use Rattle.drill_text.specs.Text.{outcomes_from}
-use Rattle.exchange_defs.specs.Network as network
-use Rattle.file_store.specs.Stored.{AreFiles}
-use Rattle.file_store.specs.declared.files.StoredFile.{StoredFile}
-use Rattle.gen_law.specs.ReadsBack.{made_script}
-use Rattle.outcome_lines.specs.Text.{refusal_line}
-use Rattle.script_lines.specs.declared.line.Refusal.{Refusal}
-use Rattle.script_runs.specs.Runs.{IsCourse}
+use Rattle.law_scripts.specs.script_setup.Scripts.{lines_in, settings_in}
+use Rattle.law_scripts.specs.drill.Drills.{MadeHolds}
+use Rattle.drill_command.specs.drill_text.Text.{outcomes_from}
+use Rattle.spec_exchange.specs.Network as network
+use Rattle.store_files.specs.file_tree.Stored.{AreFiles}
+use Rattle.store_files.specs.declared.file_tree.files.StoredFile.{StoredFile}
+use Rattle.law_scripts.specs.generated.ReadsBack.{made_script}
+use Rattle.script_words.specs.outcome_lines.Text.{refusal_line}
+use Rattle.script_words.specs.declared.text_lines.line.Refusal.{Refusal}
+use Rattle.law_scripts.specs.script_runs.Runs.{IsCourse}
 use Rattle.script_words.specs.Outcome.{Fails}
 use Rattle.script_words.specs.declared.values.Fault.{Fault}
-use Rattle.world_defs.specs.Courses.{Course}
+use Rattle.spec_world.specs.Courses.{Course}
 
 -- its sum: the files are the server's, each once
 pub record IsSum (w : network.World) (text : List ℕ) : Type 0 where

@@ -1,8 +1,8 @@
 -- How many operations came out how, and what the files hold.
 use Rattle.std.specs.Prelude.{ℕ, ◌+◌, Bool, true, false, if◌then◌else◌, List, [], ◌∷◌, ◌++◌, length, codes}
 use Rattle.std.specs.Fmt.{decimal}
-use Rattle.exchange_defs.specs.Operations.{Outcome, Unsettled, WasRefused, NoSlot, NoOpen, Unknown, is_ok}
-use Rattle.file_store.specs.declared.files.StoredFile.{StoredFile}
+use Rattle.spec_exchange.specs.Operations.{Outcome, Unsettled, WasRefused, NoSlot, NoOpen, Unknown, is_ok}
+use Rattle.store_files.specs.declared.file_tree.files.StoredFile.{StoredFile}
 use Rattle.drill_command.specs.declared.summing.Kind.{Kind}
 use Rattle.drill_command.specs.declared.summing.Kind.TheVariants as kinds
 
@@ -38,9 +38,9 @@ unfoldable pub count_of : Kind → List Outcome → ℕ
 count_of kind [] = 0
 count_of kind (o ∷ os) = one_if (is_kind kind o) + count_of kind os
 
-unfoldable pub bytes_of : List StoredFile → ℕ
-bytes_of [] = 0
-bytes_of (f ∷ fs) = length f.bytes + bytes_of fs
+unfoldable pub stored_bytes : List StoredFile → ℕ
+stored_bytes [] = 0
+stored_bytes (f ∷ fs) = length f.bytes + stored_bytes fs
 
 unfoldable pub counts_line : ℕ → ℕ → ℕ → ℕ → ℕ → List ℕ
 counts_line ok refused no_slot no_open unknown =
@@ -56,4 +56,4 @@ counts_of os =
     (count_of kinds.Unknown os)
 
 abbrev pub summary_text : List Outcome → List StoredFile → List ℕ
-summary_text os fs = counts_of os ++ files_line (length fs) (bytes_of fs)
+summary_text os fs = counts_of os ++ files_line (length fs) (stored_bytes fs)

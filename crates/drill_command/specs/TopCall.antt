@@ -1,19 +1,19 @@
 -- How the top call ends: its status, what it has read and what it has written.
 use Rattle.std.specs.Prelude.{◌≡◌, ℕ, ◌⊎◌, Bool, true, false, List, codes, Option, Some, None, Result, Err}
 use Rattle.std.specs.Io.KnownBytes.{Appends, Consumes, IsAtEnd, Keeps}
-use Rattle.drill_defs.specs.Scripts.{drill_settings}
-use Rattle.gen_law.specs.ReadsBack.{made_script, numbered, script_text}
-use Rattle.outcome_lines.specs.Text.{refusal_line}
-use Rattle.script_gen.specs.Making.{made_lines}
-use Rattle.script_gen.specs.declared.lines.MadeLine.{MadeLine}
-use Rattle.script_lines.specs.Script.{nothing_given}
-use Rattle.script_lines.specs.Settings.{settings_of}
-use Rattle.script_lines.specs.declared.line.Refusal.{Refusal}
-use Rattle.script_lines.specs.declared.settings.Settings.{Settings}
-use Rattle.script_runs.specs.Runs.{schedule}
-use Rattle.smb_io.specs.Faults.{Rose}
-use Rattle.world_defs.specs.Courses.{Course, opening}
-use Rattle.outside_calls.specs.Outside.{AppendsFront, HasRead}
+use Rattle.law_scripts.specs.script_setup.Scripts.{drill_settings}
+use Rattle.law_scripts.specs.generated.ReadsBack.{made_script, numbered, script_text}
+use Rattle.script_words.specs.outcome_lines.Text.{refusal_line}
+use Rattle.script_words.specs.generator.Making.{made_lines}
+use Rattle.script_words.specs.declared.generator.lines.MadeLine.{MadeLine}
+use Rattle.script_words.specs.text_lines.Script.{nothing_given}
+use Rattle.script_words.specs.text_lines.Settings.{settings_of}
+use Rattle.script_words.specs.declared.text_lines.line.Refusal.{Refusal}
+use Rattle.script_words.specs.declared.text_lines.settings.Settings.{Settings}
+use Rattle.law_scripts.specs.script_runs.Runs.{did_all}
+use Rattle.base_outside.specs.streams.Faults.{Rose}
+use Rattle.spec_world.specs.Courses.{Course, opening}
+use Rattle.base_outside.specs.whole_texts.Outside.{AppendsFront, HasRead}
 use Rattle.drill_command.specs.Made.{PrintsBehind, Summed}
 use Rattle.drill_command.specs.Playing.{Prints, Ran, played, run_of}
 use Rattle.drill_command.specs.declared.ending.Ending.{Ending}
@@ -40,7 +40,7 @@ pub record IsDone (script seed : List ℕ) (written written' : Option (List ℕ)
   pub wrote : Appends written written' printed
 
 -- What was read has a first refused line, which was written.
-pub record IsRefused (script seed : List ℕ) (written written' : Option (List ℕ)) : Type 0 where
+pub record IsCommandRefused (script seed : List ℕ) (written written' : Option (List ℕ)) : Type 0 where
   pub refusal : Refusal
   pub refused : played script seed ≡ Err refusal
   pub wrote : Appends written written' (refusal_line refusal)
@@ -52,38 +52,39 @@ pub record IsCut (script seed : List ℕ) (written written' : Option (List ℕ))
   pub wrote : AppendsFront written written' printed
 
 -- What an ending says of a refused line.
-abbrev pub Refuses : Refusal → (written written' : Option (List ℕ)) → (faults faults' : ℕ) → Ending → Type 0
-Refuses refusal written written' faults faults' Done = ⊥
-Refuses refusal written written' faults faults' Usage = ⊥
-Refuses refusal written written' faults faults' Script = (faults' ≡ faults) × Appends written written' (refusal_line refusal)
-Refuses refusal written written' faults faults' SourceFailed = ⊥
-Refuses refusal written written' faults faults' SinkFailed = Rose faults faults' × AppendsFront written written' (refusal_line refusal)
-Refuses refusal written written' faults faults' Memory = Keeps written written'
+abbrev pub CommandRefuses : Refusal → (written written' : Option (List ℕ)) → (faults faults' : ℕ) → Ending → Type 0
+CommandRefuses refusal written written' faults faults' Done = ⊥
+CommandRefuses refusal written written' faults faults' Usage = ⊥
+CommandRefuses refusal written written' faults faults' Script = (faults' ≡ faults) × Appends written written' (refusal_line refusal)
+CommandRefuses refusal written written' faults faults' SourceFailed = ⊥
+CommandRefuses refusal written written' faults faults' SinkFailed = Rose faults faults' × AppendsFront written written'
+    (refusal_line refusal)
+CommandRefuses refusal written written' faults faults' Memory = Keeps written written'
 
 -- What an ending says of the text of a run.
-abbrev pub Writes : (text : List ℕ) (written written' : Option (List ℕ)) → (faults faults' : ℕ) → Ending → Type 0
-Writes text written written' faults faults' Done = (faults' ≡ faults) × Appends written written' text
-Writes text written written' faults faults' Usage = ⊥
-Writes text written written' faults faults' Script = ⊥
-Writes text written written' faults faults' SourceFailed = ⊥
-Writes text written written' faults faults' SinkFailed = Rose faults faults' × AppendsFront written written' text
-Writes text written written' faults faults' Memory = ⊥
+abbrev pub CommandWrites : (text : List ℕ) (written written' : Option (List ℕ)) → (faults faults' : ℕ) → Ending → Type 0
+CommandWrites text written written' faults faults' Done = (faults' ≡ faults) × Appends written written' text
+CommandWrites text written written' faults faults' Usage = ⊥
+CommandWrites text written written' faults faults' Script = ⊥
+CommandWrites text written written' faults faults' SourceFailed = ⊥
+CommandWrites text written written' faults faults' SinkFailed = Rose faults faults' × AppendsFront written written' text
+CommandWrites text written written' faults faults' Memory = ⊥
 
 -- What an ending says of a script that was read. The counts of faults of the sink are those before the call and behind it: what is said to
 -- be written whole was written without a fault.
-abbrev pub Answers : (script seed : List ℕ) (written written' : Option (List ℕ)) → (faults faults' : ℕ) → Ending → Type 0
-Answers script seed written written' faults faults' Done = (faults' ≡ faults) × IsDone script seed written written'
-Answers script seed written written' faults faults' Usage = ⊥
-Answers script seed written written' faults faults' Script = (faults' ≡ faults) × IsRefused script seed written written'
-Answers script seed written written' faults faults' SourceFailed = ⊥
-Answers script seed written written' faults faults' SinkFailed = Rose faults faults' × IsCut script seed written written'
-Answers script seed written written' faults faults' Memory = Keeps written written'
+abbrev pub CommandAnswers : (script seed : List ℕ) (written written' : Option (List ℕ)) → (faults faults' : ℕ) → Ending → Type 0
+CommandAnswers script seed written written' faults faults' Done = (faults' ≡ faults) × IsDone script seed written written'
+CommandAnswers script seed written written' faults faults' Usage = ⊥
+CommandAnswers script seed written written' faults faults' Script = (faults' ≡ faults) × IsCommandRefused script seed written written'
+CommandAnswers script seed written written' faults faults' SourceFailed = ⊥
+CommandAnswers script seed written written' faults faults' SinkFailed = Rose faults faults' × IsCut script seed written written'
+CommandAnswers script seed written written' faults faults' Memory = Keeps written written'
 
 -- The source was read to its end, or past the limit on a script's bytes, and the ending is one of what was read.
 pub record HasAnswered (seed : List ℕ) (left left' written written' : Option (List ℕ)) (faults faults' : ℕ) (ending : Ending) : Type 0 where
   pub script : List ℕ
   pub read : HasRead left left' script
-  pub answered : Answers script seed written written' faults faults' ending
+  pub answered : CommandAnswers script seed written written' faults faults' ending
 
 -- The source was read to its end.
 pub record HasEnded (seed : List ℕ) (left left' written written' : Option (List ℕ)) (faults faults' : ℕ) : Type 0 where
@@ -111,7 +112,7 @@ abbrev pub plain : Settings
 plain = settings_of nothing_given
 
 abbrev pub run_left : List MadeLine → List ℕ → Result Course Refusal
-run_left ls seed = schedule (drill_settings plain seed) 0 (numbered 0 ls) (opening (drill_settings plain seed))
+run_left ls seed = did_all (drill_settings plain seed) 0 (numbered 0 ls) (opening (drill_settings plain seed))
 
 -- The sum of the run of a made script was written.
 pub record IsSummed (key operations : ℕ) (seed : List ℕ) (written written' : Option (List ℕ)) : Type 0 where
@@ -148,18 +149,21 @@ pub record IsMade (key operations : ℕ) (seed : List ℕ) (written written' : O
   pub script : Appends written between (script_text (made_lines key operations))
   pub behind : SumsUp key operations seed between written' faults faults' ending
 
--- What each ending says of `gen`: the script of its two numbers was written, and behind it the sum of that script's run, or its first refused
--- line. Where the sink failed, its count of faults rose, and a front of the script was written, or all of it and behind it a front of the sum
+-- What each ending says of `gen`: the script of its two numbers was written, and behind it the sum of that script's
+-- run, or its first refused
+-- line. Where the sink failed, its count of faults rose, and a front of the script was written, or all of it and behind
+-- it a front of the sum
 -- or of the refused line. Where memory ran out, a front of the script was written, which may be all of it.
-abbrev pub Makes : (key operations : ℕ) (seed : List ℕ) (written written' : Option (List ℕ)) → (faults faults' : ℕ) → Ending → Type 0
-Makes key operations seed written written' faults faults' Done = IsMade key operations seed written written' faults faults' Done
-Makes key operations seed written written' faults faults' Usage = ⊥
-Makes key operations seed written written' faults faults' Script = IsMade key operations seed written written' faults faults' Script
-Makes key operations seed written written' faults faults' SourceFailed = ⊥
-Makes key operations seed written written' faults faults' SinkFailed = Rose faults faults'
+abbrev pub CommandMakes : (key operations : ℕ) (seed : List ℕ) (written written' : Option (List ℕ)) → (faults faults' : ℕ) → Ending → Type 0
+CommandMakes key operations seed written written' faults faults' Done = IsMade key operations seed written written' faults faults' Done
+CommandMakes key operations seed written written' faults faults' Usage = ⊥
+CommandMakes key operations seed written written' faults faults' Script = IsMade key operations seed written written' faults faults' Script
+CommandMakes key operations seed written written' faults faults' SourceFailed = ⊥
+CommandMakes key operations seed written written' faults faults' SinkFailed = Rose faults faults'
     × (AppendsFront written written' (script_text (made_lines key operations))
     ⊎ IsMade key operations seed written written' faults faults' SinkFailed)
-Makes key operations seed written written' faults faults' Memory = AppendsFront written written' (script_text (made_lines key operations))
+CommandMakes key operations seed written written' faults faults' Memory = AppendsFront written written'
+    (script_text (made_lines key operations))
 
 -- What each ending says where the words are no command.
 abbrev pub IsUsage : (written written' : Option (List ℕ)) → (faults faults' : ℕ) → Ending → Type 0
@@ -171,16 +175,17 @@ IsUsage written written' faults faults' SinkFailed = Rose faults faults' × Appe
 IsUsage written written' faults faults' Memory = ⊥
 
 -- What an ending says, by the command that the words are.
-abbrev pub Ends : Option Asked → (seed : List ℕ) (left left' written written' : Option (List ℕ)) → (source source' sink sink' : ℕ) → Ending
+abbrev pub CommandEnds : Option Asked → (seed : List ℕ) (left left' written written' : Option (List ℕ))
+    → (source source' sink sink' : ℕ) → Ending
     → Type 0
-Ends None seed left left' written written' source source' sink sink' ending = IsUsage written written' sink sink' ending
-Ends (Some Drill) seed left left' written written' source source' sink sink' ending =
+CommandEnds None seed left left' written written' source source' sink sink' ending = IsUsage written written' sink sink' ending
+CommandEnds (Some Drill) seed left left' written written' source source' sink sink' ending =
     Drills seed left left' written written' source source' sink sink' ending
-Ends (Some (Gen key operations)) seed left left' written written' source source' sink sink' ending =
-    Makes key operations seed written written' sink sink' ending
+CommandEnds (Some (Gen key operations)) seed left left' written written' source source' sink sink' ending =
+    CommandMakes key operations seed written written' sink sink' ending
 
 -- The source is read by `drill` alone.
-abbrev pub reads : Option Asked → Bool
-reads None = false
-reads (Some Drill) = true
-reads (Some (Gen key operations)) = false
+abbrev pub command_reads : Option Asked → Bool
+command_reads None = false
+command_reads (Some Drill) = true
+command_reads (Some (Gen key operations)) = false

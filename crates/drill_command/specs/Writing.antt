@@ -1,7 +1,7 @@
 -- A script that is made is written, piece by piece.
 use Rattle.std.specs.Prelude.{◌≡◌, ℕ, ◌++◌, List, Option}
 use Rattle.std.specs.Io.KnownBytes.{Appends}
-use Rattle.smb_io.specs.Faults.{Rose}
+use Rattle.base_outside.specs.streams.Faults.{Rose}
 use Rattle.drill_command.specs.declared.writing.WriteError.{WriteError}
 use Rattle.drill_command.specs.declared.writing.WriteError.TheVariants.{Memory, Failed}
 

@@ -1,10 +1,8 @@
 //! How a command ends, and the texts that are written before it ends so.
 ghost use Rattle.drill_command.specs.TopCall as top;
 
-use outcome_lines::refusal_line;
-use outside_calls::write_all;
-use script_lines::Refusal;
-use smb_io::{Failed, Sink};
+use base_outside::{Failed, Sink, write_all};
+use script_words::{Refusal, refusal_line};
 use std::alloc::Global;
 
 /// How a command ends. Its number is the program's status.
@@ -37,7 +35,7 @@ pub(crate) fn usage<O: Sink>(sink: &mut O) -> Ending
 
 /// The text of a run.
 pub(crate) fn done<O: Sink>(sink: &mut O, text: &str) -> Ending
-    ensures { top.Writes text.now (O.written sink.old) (O.written sink.new) (O.faults sink.old) (O.faults sink.new) result }
+    ensures { top.CommandWrites text.now (O.written sink.old) (O.written sink.new) (O.faults sink.old) (O.faults sink.new) result }
 {
     match write_all(sink, text.as_bytes()) {
         Ok(()) => Ending::Done,
@@ -47,7 +45,7 @@ pub(crate) fn done<O: Sink>(sink: &mut O, text: &str) -> Ending
 
 /// A refused line.
 pub(crate) fn refused<O: Sink>(alloc: Global, refusal: &Refusal, sink: &mut O) -> Ending
-    ensures { top.Refuses refusal.now (O.written sink.old) (O.written sink.new) (O.faults sink.old) (O.faults sink.new) result }
+    ensures { top.CommandRefuses refusal.now (O.written sink.old) (O.written sink.new) (O.faults sink.old) (O.faults sink.new) result }
 {
     let Ok(line) = refusal_line(alloc, refusal) else {
         return Ending::Memory;

@@ -1,35 +1,31 @@
 // A script that a seed gives: it is written, run, and summed up.
 ghost use Rattle.std.specs.Prelude.{◌≡◌, ◌+◌, ◌≤◌, IfOk, MatchResult, Result as Answer};
 ghost use Rattle.std.specs.String.{string_bytes};
-ghost use Rattle.client_dialog.specs.Ending.{CanConnect};
+ghost use Rattle.client_ends.specs.dialog_calls.Ending.{CanConnect};
 ghost use Rattle.drill_command.specs.Made.{IsSum, Sums, Totals};
-ghost use Rattle.drill_command.specs.Playing.{Ends, IsMemory};
+ghost use Rattle.drill_command.specs.Playing.{DrillEnds, IsDrillMemory};
 ghost use Rattle.drill_command.specs.TopCall as top;
-ghost use Rattle.gen_law.specs.ReadsBack.{numbered};
-ghost use Rattle.script_gen.specs.Making.{lines_left};
-ghost use Rattle.script_lines.specs.declared.line.Refusal.{Refusal as Refusing};
-ghost use Rattle.script_runs.specs.Runs.{schedule};
-ghost use Rattle.world_defs.specs.Courses.{Course};
-ghost use Rattle.world_defs.specs.Settings.{WorldSettings};
-ghost use Rattle.world_defs.specs.World as bytes;
-ghost use Rattle.drill_text.specs.WorldEnded.Ended.{ShowsEnded};
-ghost use Rattle.world_script.specs.WorldEnds.Shown.{ShowsWorld};
-ghost use Rattle.world_script.specs.Drives.{Comes};
+ghost use Rattle.law_scripts.specs.generated.ReadsBack.{numbered};
+ghost use Rattle.script_words.specs.generator.Making.{lines_left};
+ghost use Rattle.script_words.specs.declared.text_lines.line.Refusal.{Refusal as Refusing};
+ghost use Rattle.law_scripts.specs.script_runs.Runs.{did_all};
+ghost use Rattle.spec_world.specs.Courses.{Course};
+ghost use Rattle.spec_world.specs.Settings.{WorldSettings};
+ghost use Rattle.spec_world.specs.World as bytes;
+ghost use Rattle.world_ends.specs.results.Ended.{ShowsEnded};
+ghost use Rattle.world_ends.specs.Shown.{ShowsWorld};
+ghost use Rattle.drill_command.specs.script_run.Drives.{ScriptComes};
 
+use crate::drill_setup::plain_settings;
+use crate::drill_text::{EndedWorld, end, files};
 use crate::ending::{Ending, done, refused};
+use crate::script_run::{World, drive_line, world_of};
 use crate::summing::summary_text;
 use crate::writing::{WriteError, write_script};
-use drill_law::made_headline_law;
-use drill_setup::plain_settings;
-use drill_text::{EndedWorld, end, files};
-use script_fits_law::default_settings_law;
-use script_gen::{Maker, statement_of};
-use script_lines::{Line, Refusal};
-use script_runs::run_course_law;
-use script_words::Fault;
-use smb_io::Sink;
+use base_outside::Sink;
+use law_scripts::{default_settings_law, made_headline_law, run_course_law};
+use script_words::{Fault, Line, Maker, Refusal, statement_of};
 use std::alloc::{AllocError, Global};
-use world_script::{World, drive_line, world_of};
 
 /// The most operations that are made.
 const MOST_OPERATIONS: u64 = 1_048_576;
@@ -43,7 +39,8 @@ pub(crate) fn generated<O: Sink>(
     sink: &mut O,
     seed: [u8; 32],
 ) -> Ending
-    ensures { top.Makes key operations seed (O.written sink.old) (O.written sink.new) (O.faults sink.old) (O.faults sink.new) result }
+    ensures { top.CommandMakes key operations seed (O.written sink.old) (O.written sink.new) (O.faults sink.old)
+        (O.faults sink.new) result }
 {
     let few = operations <= MOST_OPERATIONS;
     if few {
@@ -54,7 +51,8 @@ pub(crate) fn generated<O: Sink>(
 
 fn made<O: Sink>(alloc: Global, key: u64, operations: u32, sink: &mut O, seed: [u8; 32]) -> Ending
     requires { operations ≤ 1048576 }
-    ensures { top.Makes key operations seed (O.written sink.old) (O.written sink.new) (O.faults sink.old) (O.faults sink.new) result }
+    ensures { top.CommandMakes key operations seed (O.written sink.old) (O.written sink.new) (O.faults sink.old)
+        (O.faults sink.new) result }
 {
     match write_script(alloc, Maker::new(key, operations), sink) {
         Ok(()) => summed_up(alloc, key, operations, sink, seed),
@@ -112,7 +110,7 @@ fn summed_behind(
     refused: Result<(), Fault<Refusal>>,
     ended: EndedWorld,
 ) -> Result<String, Fault<Refusal>>
-    ensures { (z : WorldSettings) (due : Answer Course Refusing) → Ends z due ended refused → Totals string_bytes due result }
+    ensures { (z : WorldSettings) (due : Answer Course Refusing) → DrillEnds z due ended refused → Totals string_bytes due result }
 {
     summed(alloc, refused, &ended)
 }
@@ -122,7 +120,7 @@ fn summed(
     refused: Result<(), Fault<Refusal>>,
     ended: &EndedWorld,
 ) -> Result<String, Fault<Refusal>>
-    ensures { (z : WorldSettings) (due : Answer Course Refusing) → Ends z due ended.now refused → Totals string_bytes due result }
+    ensures { (z : WorldSettings) (due : Answer Course Refusing) → DrillEnds z due ended.now refused → Totals string_bytes due result }
 {
     match refused {
         Ok(()) => sum_behind(alloc, ended),
@@ -131,8 +129,9 @@ fn summed(
 }
 
 fn sum_behind(alloc: Global, ended: &EndedWorld) -> Result<String, Fault<Refusal>>
-    ensures { MatchResult result (λ text. (z : WorldSettings) (w : bytes.World) → ShowsEnded z ended.now w → IsSum w.values (string_bytes text))
-        (λ fault. IsMemory fault) }
+    ensures { MatchResult result (λ text. (z : WorldSettings) (w : bytes.World) → ShowsEnded z ended.now w
+        → IsSum w.values (string_bytes text))
+        (λ fault. IsDrillMemory fault) }
 {
     match sum_text(alloc, ended) {
         Ok(text) => Ok(text),
@@ -164,7 +163,7 @@ fn number_behind(before: u64) -> Result<u64, AllocError>
 /// The lines that are left, one after the other.
 fn run_made(alloc: Global, world: &mut World, mut maker: Maker) -> Result<(), Fault<Refusal>>
     ensures { (z : WorldSettings) (c : Course) → ShowsWorld z world.old c.world
-        → Comes z (schedule z 0 (numbered 0 (lines_left maker)) c) world.new result }
+        → ScriptComes z (did_all z 0 (numbered 0 (lines_left maker)) c) world.new result }
 {
     let mut count: u32 = 0;
     let mut before: u64 = 0;

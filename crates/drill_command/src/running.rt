@@ -1,31 +1,29 @@
 // A script's run.
 ghost use Rattle.std.specs.Prelude.{MatchResult, Result as Answer};
 ghost use Rattle.std.specs.String.{string_bytes};
-ghost use Rattle.client_dialog.specs.Ending.{CanConnect};
-ghost use Rattle.drill_command.specs.Playing.{Drilled, Ends, IsMemory, Tells, run_of};
-ghost use Rattle.drill_text.specs.Text.{IsText};
-ghost use Rattle.script_lines.specs.Settings.{settings_of};
-ghost use Rattle.script_lines.specs.Views.{read_of};
-ghost use Rattle.script_lines.specs.declared.line.Refusal.{Refusal as Refusing};
-ghost use Rattle.world_defs.specs.Courses.{Course};
-ghost use Rattle.world_defs.specs.Settings.{WorldSettings};
-ghost use Rattle.world_defs.specs.World as bytes;
-ghost use Rattle.drill_text.specs.WorldEnded.Ended.{ShowsEnded};
+ghost use Rattle.client_ends.specs.dialog_calls.Ending.{CanConnect};
+ghost use Rattle.drill_command.specs.Playing.{Drilled, DrillEnds, IsDrillMemory, DrillTells, run_of};
+ghost use Rattle.drill_command.specs.drill_text.Text.{IsText};
+ghost use Rattle.script_words.specs.text_lines.Settings.{settings_of};
+ghost use Rattle.script_words.specs.text_lines.Views.{read_of};
+ghost use Rattle.script_words.specs.declared.text_lines.line.Refusal.{Refusal as Refusing};
+ghost use Rattle.spec_world.specs.Courses.{Course};
+ghost use Rattle.spec_world.specs.Settings.{WorldSettings};
+ghost use Rattle.spec_world.specs.World as bytes;
+ghost use Rattle.world_ends.specs.results.Ended.{ShowsEnded};
 
+use crate::drill_text::{EndedWorld, end, text_of};
+use crate::script_run::{run_lines, watch, world_of};
 use crate::steps::steps_text;
-use drill_law::script_headline_law;
-use drill_text::{EndedWorld, end, text_of};
-use outcome_lines::refusal_line;
-use script_fits_law::script_settings_law;
-use script_lines::{Refusal, Script, script, with_defaults};
-use script_runs::run_course_law;
-use script_words::{Command, Fault};
+use law_scripts::{run_course_law, script_headline_law, script_settings_law};
+use script_words::text_lines::{Script, script};
+use script_words::{Command, Fault, Refusal, refusal_line, with_defaults};
 use std::alloc::{AllocError, Global};
-use world_script::{run_lines, watch, world_of};
 
 fn text_behind(alloc: Global, ended: &EndedWorld) -> Result<String, Fault<Refusal>>
-    ensures { MatchResult result (λ text. (z : WorldSettings) (w : bytes.World) → ShowsEnded z ended.now w → IsText w.values (string_bytes text))
-        (λ fault. IsMemory fault) }
+    ensures { MatchResult result (λ text. (z : WorldSettings) (w : bytes.World) → ShowsEnded z ended.now w
+        → IsText w.values (string_bytes text))
+        (λ fault. IsDrillMemory fault) }
 {
     match text_of(alloc, ended) {
         Ok(text) => Ok(text),
@@ -38,7 +36,7 @@ fn told(
     refused: Result<(), Fault<Refusal>>,
     ended: &EndedWorld,
 ) -> Result<String, Fault<Refusal>>
-    ensures { (z : WorldSettings) (due : Answer Course Refusing) → Ends z due ended.now refused → Tells string_bytes due result }
+    ensures { (z : WorldSettings) (due : Answer Course Refusing) → DrillEnds z due ended.now refused → DrillTells string_bytes due result }
 {
     match refused {
         Ok(()) => text_behind(alloc, ended),
@@ -52,14 +50,14 @@ fn told_behind(
     refused: Result<(), Fault<Refusal>>,
     ended: EndedWorld,
 ) -> Result<String, Fault<Refusal>>
-    ensures { (z : WorldSettings) (due : Answer Course Refusing) → Ends z due ended refused → Tells string_bytes due result }
+    ensures { (z : WorldSettings) (due : Answer Course Refusing) → DrillEnds z due ended refused → DrillTells string_bytes due result }
 {
     told(alloc, refused, &ended)
 }
 
 // It owns the world, and gives it away at one place alone, since each drop of a server is dear to prove.
 fn ran(alloc: Global, read: Script, seed: [u8; 32]) -> Result<String, Fault<Refusal>>
-    ensures { CanConnect (settings_of read.given).share → Tells string_bytes (run_of (read_of read) seed) result }
+    ensures { CanConnect (settings_of read.given).share → DrillTells string_bytes (run_of (read_of read) seed) result }
 {
     let Script { given, lines } = read;
     let settings = with_defaults(alloc, given)?;

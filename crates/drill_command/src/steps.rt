@@ -1,8 +1,8 @@
 // The steps of a run, a line each: what happened, on which connection, whose message it was, the status of a reply and whether the message
 // acted; behind that how many bytes the message had, and how the connection stands.
+use crate::script_run::{Happened, Notes, Step};
 use std::alloc::{AllocError, Global};
 use std::fmt::Write;
-use world_script::{Happened, Notes, Step};
 
 fn word_of(happened: Happened) -> &'static str {
     match happened {

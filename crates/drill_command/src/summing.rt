@@ -1,12 +1,12 @@
 // The sum of a run: how many operations came out how, and what the files hold.
 ghost use Rattle.std.specs.Prelude.{◌≡◌, ◌+◌, ◌<◌, ◌≤◌, ◌∷◌, length, drop, map, IfOk, IfSome};
 ghost use Rattle.std.specs.String.{string_bytes};
-ghost use Rattle.client_outcomes.specs.Meaning.{outcome_of};
+ghost use Rattle.client_values.specs.outcomes.Meaning.{outcome_of};
 ghost use Rattle.drill_command.specs.Summing as sums;
 
-use client_outcomes::Outcome;
-use file_store::StoredFile;
+use client_values::Outcome;
 use std::alloc::{AllocError, Global};
+use store_files::StoredFile;
 
 /// How an operation came out.
 #[derive(Clone, Copy, PartialEq, Eq, Debug)]
@@ -98,7 +98,7 @@ fn added(bytes: u64, file: &StoredFile) -> Option<u64>
 
 /// How many bytes they have together; none where that is no number of 64 bits.
 fn bytes_of(files: &[StoredFile]) -> Option<u64>
-    ensures { IfSome result (λ bytes. bytes ≡ sums.bytes_of files.now) }
+    ensures { IfSome result (λ bytes. bytes ≡ sums.stored_bytes files.now) }
 {
     let mut bytes: u64 = 0;
     let mut place = 0;
@@ -133,7 +133,7 @@ fn files_line(alloc: Global, held: usize, bytes: u64) -> Result<String, AllocErr
 }
 
 fn files_text(alloc: Global, files: &[StoredFile]) -> Result<String, AllocError>
-    ensures { IfOk result (λ line. string_bytes line ≡ sums.files_line (length files.now) (sums.bytes_of files.now)) }
+    ensures { IfOk result (λ line. string_bytes line ≡ sums.files_line (length files.now) (sums.stored_bytes files.now)) }
 {
     match bytes_of(files) {
         Some(bytes) => files_line(alloc, files.len(), bytes),

@@ -9,10 +9,9 @@ use crate::ending::{Ending, done, refused, usage};
 use crate::generating::generated;
 use crate::running::drill;
 use crate::words::{Asked, command_of};
-use outside_calls::{ReadError, read_script};
+use base_outside::{ReadError, Sink, Source, read_script};
 use rand_core::Rng;
 use script_words::Fault;
-use smb_io::{Sink, Source};
 use std::alloc::Global;
 
 /// Does the command that the words name and answers the program's status.
@@ -30,11 +29,11 @@ pub fn smb311_drill<S: Source, O: Sink, R: Rng>(
 ) -> u8
     // The status is that of an ending, and what the ending says holds of the run that draws from these bytes.
     ensures ends { (ending : Ending) × (result ≡ top.status_of ending)
-        × top.Ends (asked_in (map string_bytes words.now)) (fill_bytes 32 (R.stream random.old)).0 (S.left source.old) (S.left source.new)
+        × top.CommandEnds (asked_in (map string_bytes words.now)) (fill_bytes 32 (R.stream random.old)).0 (S.left source.old) (S.left source.new)
         (O.written sink.old) (O.written sink.new)
         (S.faults source.old) (S.faults source.new) (O.faults sink.old) (O.faults sink.new) ending }
     // The words are judged first: where they aren't `drill`, nothing is read.
-    ensures words_first { top.reads (asked_in (map string_bytes words.now)) ≡ false → source.new ≡ source.old }
+    ensures words_first { top.command_reads (asked_in (map string_bytes words.now)) ≡ false → source.new ≡ source.old }
 {
     command(alloc, words, source, sink, random) as u8
 }
@@ -46,10 +45,10 @@ fn command<S: Source, O: Sink, R: Rng>(
     sink: &mut O,
     random: &mut R,
 ) -> Ending
-    ensures ends { top.Ends (asked_in (map string_bytes words.now)) (fill_bytes 32 (R.stream random.old)).0 (S.left source.old)
+    ensures ends { top.CommandEnds (asked_in (map string_bytes words.now)) (fill_bytes 32 (R.stream random.old)).0 (S.left source.old)
         (S.left source.new) (O.written sink.old) (O.written sink.new)
         (S.faults source.old) (S.faults source.new) (O.faults sink.old) (O.faults sink.new) result }
-    ensures words_first { top.reads (asked_in (map string_bytes words.now)) ≡ false → source.new ≡ source.old }
+    ensures words_first { top.command_reads (asked_in (map string_bytes words.now)) ≡ false → source.new ≡ source.old }
 {
     match command_of(words) {
         Some(asked) => commanded(alloc, asked, source, sink, seed_from(random)),
@@ -73,10 +72,10 @@ fn commanded<S: Source, O: Sink>(
     sink: &mut O,
     seed: [u8; 32],
 ) -> Ending
-    ensures ends { top.Ends (Some asked) seed (S.left source.old) (S.left source.new)
+    ensures ends { top.CommandEnds (Some asked) seed (S.left source.old) (S.left source.new)
         (O.written sink.old) (O.written sink.new)
         (S.faults source.old) (S.faults source.new) (O.faults sink.old) (O.faults sink.new) result }
-    ensures words_first { top.reads (Some asked) ≡ false → source.new ≡ source.old }
+    ensures words_first { top.command_reads (Some asked) ≡ false → source.new ≡ source.old }
 {
     match asked {
         Asked::Drill => drilled(alloc, source, sink, seed),
@@ -106,7 +105,7 @@ fn drilled<S: Source, O: Sink>(
 
 // Runs a script and writes what it prints, or its first refused line.
 fn answered<O: Sink>(alloc: Global, script: &[u8], sink: &mut O, seed: [u8; 32]) -> Ending
-    ensures { top.Answers script.now seed (O.written sink.old) (O.written sink.new) (O.faults sink.old) (O.faults sink.new) result }
+    ensures { top.CommandAnswers script.now seed (O.written sink.old) (O.written sink.new) (O.faults sink.old) (O.faults sink.new) result }
 {
     match drill(alloc, script, seed) {
         Ok(text) => done(sink, text.as_str()),

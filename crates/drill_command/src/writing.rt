@@ -2,14 +2,13 @@
 ghost use Rattle.std.specs.Prelude.{◌≡◌, OnOk, OnErr, IfErr};
 ghost use Rattle.std.specs.Io.KnownBytes.{Appends};
 ghost use Rattle.std.specs.String.{string_bytes};
-ghost use Rattle.gen_law.specs.ReadsBack.{script_text};
-ghost use Rattle.script_gen.specs.Making.{lines_left};
-ghost use Rattle.smb_io.specs.Faults.{Rose};
+ghost use Rattle.law_scripts.specs.generated.ReadsBack.{script_text};
+ghost use Rattle.script_words.specs.generator.Making.{lines_left};
+ghost use Rattle.base_outside.specs.streams.Faults.{Rose};
 ghost use Rattle.drill_command.specs.Writing.{FailsBy, Flushes, Fronts};
 
-use outside_calls::write_all;
-use script_gen::{Maker, push_line};
-use smb_io::{Failed, Sink};
+use base_outside::{Failed, Sink, write_all};
+use script_words::{Maker, push_line};
 use std::alloc::{AllocError, Global};
 
 /// So many bytes of a script are gathered before they are written.
@@ -68,7 +67,8 @@ fn flush_piece<O: Sink>(sink: &mut O, text: &mut String) -> Result<(), Failed>
     Ok(())
 }
 
-/// All lines that are left are written, a piece at a time. That the sink failed raised its count of faults. Behind an error a front of them was
+/// All lines that are left are written, a piece at a time. That the sink failed raised its count of faults. Behind an
+/// error a front of them was
 /// written.
 pub(crate) fn write_script<O: Sink>(
     alloc: Global,

@@ -5,7 +5,8 @@ use Rattle.script_words.specs.Outcome.{◌>>=◌}
 use Rattle.script_words.specs.Parts.{Reading, word, number, bytes, given_by}
 use Rattle.script_words.specs.declared.values.Code.TheVariants.{BadLine}
 use Rattle.script_words.specs.declared.values.ScriptEvent.{ScriptEvent}
-use Rattle.script_words.specs.declared.values.ScriptEvent.TheVariants.{Open, Push, Serve, Take, Cut, Drop, Restart, Crash, Forge, Flip, Wait, Link, Settle}
+use Rattle.script_words.specs.declared.values.ScriptEvent.TheVariants.{Open, Push, Serve, Take, Cut, Drop, Restart}
+use Rattle.script_words.specs.declared.values.ScriptEvent.TheVariants.{Crash, Forge, Flip, Wait, Link, Settle}
 
 -- an event on a connection alone
 unfoldable pub on_connection : (ℕ → ScriptEvent) → List (List ℕ) → Reading ScriptEvent

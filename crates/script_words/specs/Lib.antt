@@ -6,3 +6,6 @@ pub mod Operations
 pub mod Events
 pub mod Settings
 pub mod Words
+pub mod text_lines
+pub mod generator
+pub mod outcome_lines

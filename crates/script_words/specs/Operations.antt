@@ -1,8 +1,9 @@
 -- The lines of operations, behind their first word `op`. C names an earlier create by its number, from 1.
-use Rattle.std.specs.Prelude.{ℕ, ◌+◌, ◌-◌, ◌^◌, Bool, true, false, if◌then◌else◌, List, codes, replicate, Option, Some, None, Result, Ok, Err}
+use Rattle.std.specs.Prelude.{ℕ, ◌+◌, ◌-◌, ◌^◌, Bool, true, false, if◌then◌else◌, List, codes, replicate, Option, Some}
+use Rattle.std.specs.Prelude.{None, Result, Ok, Err}
 use Rattle.std.specs.Str.{bytes_eq}
-use Rattle.operation_values.specs.declared.values.OpKind.{OpKind}
-use Rattle.operation_values.specs.declared.values.OpKind.TheVariants as kinds
+use Rattle.client_values.specs.declared.operations.values.OpKind.{OpKind}
+use Rattle.client_values.specs.declared.operations.values.OpKind.TheVariants as kinds
 use Rattle.script_words.specs.Outcome.{◌>>=◌}
 use Rattle.script_words.specs.Parts.{Reading, word, number, create, bytes, byte, path, given_by}
 use Rattle.script_words.specs.declared.operations.Letters.{Letters}

@@ -15,6 +15,6 @@ Fails Memory due = Unit {0}
 Fails (Refused e) due = due ≡ Err e
 
 -- What a function returned, seen by view, is what is due, unless memory ran out.
-abbrev pub Gives : {A B E : Type 0} → (A → B) → Result A (Fault E) → Result B E → Type 0
-Gives view (Ok x) due = due ≡ Ok (view x)
-Gives view (Err fault) due = Fails fault due
+abbrev pub OutcomeGives : {A B E : Type 0} → (A → B) → Result A (Fault E) → Result B E → Type 0
+OutcomeGives view (Ok x) due = due ≡ Ok (view x)
+OutcomeGives view (Err fault) due = Fails fault due

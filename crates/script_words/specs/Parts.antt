@@ -5,7 +5,7 @@ use Rattle.std.specs.List.{list_all}
 use Rattle.std.specs.Str.{bytes_eq, is_utf8}
 use Rattle.hex.specs.Hex.{decode_of, decode_sized}
 use Rattle.hex.specs.declared.error.FromHexError.{FromHexError}
-use Rattle.exchange_defs.specs.Texts.{utf16_length}
+use Rattle.spec_exchange.specs.Texts.{utf16_length}
 use Rattle.script_words.specs.Numbers.{number_to}
 use Rattle.script_words.specs.Outcome.{◌>>=◌}
 use Rattle.script_words.specs.declared.values.Code.{Code}
@@ -91,11 +91,11 @@ path words = do
   said_by (path_of first.0) first.1
 
 -- a byte of UTF-8 that begins a character
-unfoldable pub begins : ℕ → ℕ
-begins b = if nat_le 128 b && nat_le b 191 then 0 else 1
+unfoldable pub begins_character : ℕ → ℕ
+begins_character b = if nat_le 128 b && nat_le b 191 then 0 else 1
 
 unfoldable pub characters : List ℕ → ℕ
-characters text = sum_by begins text
+characters text = sum_by begins_character text
 
 -- a text of at most 256 characters
 abbrev pub short_text : List ℕ → Result (List ℕ) Code

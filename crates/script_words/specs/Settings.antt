@@ -1,5 +1,6 @@
 -- The lines of settings. They come before all else, each at most once; `serve` takes many users, and `channels` is of `run` alone.
-use Rattle.std.specs.Prelude.{ℕ, ◌==◌, nat_le, Bool, true, false, not, ◌&&◌, ◌||◌, if◌then◌else◌, List, [], ◌∷◌, codes, length, Option, Some, None, is_some}
+use Rattle.std.specs.Prelude.{ℕ, ◌==◌, nat_le, Bool, true, false, not, ◌&&◌, ◌||◌, if◌then◌else◌, List, [], ◌∷◌, codes}
+use Rattle.std.specs.Prelude.{length, Option, Some, None, is_some}
 use Rattle.std.specs.Prelude.{Result, Ok, Err}
 use Rattle.std.specs.List.{list_any}
 use Rattle.std.specs.Str.{bytes_eq, str_eq_ignore_ascii_case}
@@ -68,12 +69,12 @@ room words = do
   Ok (settings.Room bytes.0, bytes.1)
 
 -- an earlier name is this one but for the case of ASCII letters
-abbrev pub is_named : List ℕ → List User → Bool
-is_named name users = list_any (λ (user : User). str_eq_ignore_ascii_case user.name name) users
+abbrev pub is_name_taken : List ℕ → List User → Bool
+is_name_taken name users = list_any (λ (user : User). str_eq_ignore_ascii_case user.name name) users
 
 -- a user's name is ASCII, and no earlier user's
 abbrev pub user_name : List User → List ℕ → Result (List ℕ) Code
-user_name users text = if not (is_ascii text) || is_named text users then Err BadLine else short_text text
+user_name users text = if not (is_ascii text) || is_name_taken text users then Err BadLine else short_text text
 
 -- `user NAME PASSWORD`
 unfoldable pub user : List User → List (List ℕ) → Reading Setting
@@ -116,7 +117,8 @@ setting command given name words =
     if bytes_eq name (codes "cipher") then unless (given.begun || is_some given.cipher) (cipher words)
     else if bytes_eq name (codes "signing") then unless (given.begun || is_some given.signing) (signing words)
     else if bytes_eq name (codes "room") then unless (given.begun || is_some given.room) (room words)
-    else if bytes_eq name (codes "user") then unless (given.begun || (not (length given.users == 0) && not (serves command))) (user given.users words)
+    else if bytes_eq name (codes "user") then unless
+    (given.begun || (not (length given.users == 0) && not (serves command))) (user given.users words)
     else if bytes_eq name (codes "share") then unless (given.begun || is_some given.share) (share words)
     else if bytes_eq name (codes "channels") then unless (given.begun || (is_some given.channels || not (runs command))) (channels words)
     else Err BadLine

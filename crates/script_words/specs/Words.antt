@@ -20,30 +20,30 @@ names_setting name = bytes_eq name (codes "cipher") || (bytes_eq name (codes "si
 
 unfoldable pub setting : Command → Given → List ℕ → List (List ℕ) → Reading Statement
 setting command given name words = do
-  said ← settings.setting command given name words
-  Ok (Setting said.0, said.1)
+  line_part ← settings.setting command given name words
+  Ok (Setting line_part.0, line_part.1)
 
 unfoldable pub operation : Command → List Bool → List (List ℕ) → Reading Statement
 operation command creates words = do
-  said ← (if settings.serves command then Err BadLine else operations.operation creates words)
-  Ok (Operation said.0, said.1)
+  line_part ← (if settings.serves command then Err BadLine else operations.operation creates words)
+  Ok (Operation line_part.0, line_part.1)
 
 unfoldable pub event : Command → List ℕ → List (List ℕ) → Reading Statement
 event command name words = do
-  said ← (if settings.drills command then events.event name words else Err BadLine)
-  Ok (Event said.0, said.1)
+  line_part ← (if settings.drills command then events.event name words else Err BadLine)
+  Ok (Event line_part.0, line_part.1)
 
 -- the first part of a line: the words behind it are left
-unfoldable pub said : Command → List Bool → Given → List (List ℕ) → Reading Statement
-said command creates given words = do
+unfoldable pub line_part : Command → List Bool → Given → List (List ℕ) → Reading Statement
+line_part command creates given words = do
   name ← word words
   if bytes_eq name.0 (codes "op") then operation command creates name.1
       else if names_setting name.0 then setting command given name.0 name.1
       else event command name.0 name.1
 
-abbrev pub ends : Statement × List (List ℕ) → Result Statement Code
-ends reading = if length reading.1 == 0 then Ok reading.0 else Err BadLine
+abbrev pub ends_line : Statement × List (List ℕ) → Result Statement Code
+ends_line reading = if length reading.1 == 0 then Ok reading.0 else Err BadLine
 
 -- what all the words of a line say, behind operations of which it is told whether each is a create, and behind settings
 unfoldable pub statement : Command → List Bool → Given → List (List ℕ) → Result Statement Code
-statement command creates given words = said command creates given words >>= ends
+statement command creates given words = line_part command creates given words >>= ends_line

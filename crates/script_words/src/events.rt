@@ -1,6 +1,6 @@
 // The lines of events.
 ghost use Rattle.std.specs.Prelude.{◌≡◌};
-ghost use Rattle.script_words.specs.Outcome.{Gives};
+ghost use Rattle.script_words.specs.Outcome.{OutcomeGives};
 ghost use Rattle.script_words.specs.Events as events;
 ghost use Rattle.script_words.specs.Parts as parts;
 
@@ -17,7 +17,7 @@ const LONGEST_WAIT: u64 = 1_000_000_000;
 
 #[tactic(auto, unfolding(crate::specs::Events::event, crate::specs::Events::on_connection))]
 pub(crate) fn event(alloc: Global, name: &[u8], line: &mut Pieces<'_>) -> Reading<ScriptEvent>
-    ensures { Gives (λ e. (e, line.new)) result (events.event name.now line.old) }
+    ensures { OutcomeGives (λ e. (e, line.new)) result (events.event name.now line.old) }
 {
     if is(name, "open") {
         Ok(ScriptEvent::Open(connection(line)?))
@@ -40,7 +40,7 @@ pub(crate) fn event(alloc: Global, name: &[u8], line: &mut Pieces<'_>) -> Readin
 
 #[tactic(auto, unfolding(crate::specs::Events::other_event))]
 fn other(alloc: Global, name: &[u8], line: &mut Pieces<'_>) -> Reading<ScriptEvent>
-    ensures { Gives (λ e. (e, line.new)) result (events.other_event name.now line.old) }
+    ensures { OutcomeGives (λ e. (e, line.new)) result (events.other_event name.now line.old) }
 {
     if is(name, "restart") {
         Ok(ScriptEvent::Restart)
@@ -61,7 +61,7 @@ fn other(alloc: Global, name: &[u8], line: &mut Pieces<'_>) -> Reading<ScriptEve
 
 // A connection's number.
 fn connection(line: &mut Pieces<'_>) -> Reading<u32>
-    ensures { Gives (λ k. (k, line.new)) result (parts.number 255 line.old) }
+    ensures { OutcomeGives (λ k. (k, line.new)) result (parts.number 255 line.old) }
 {
     let number = number(255, line)?;
     Ok(number as u32)
@@ -69,7 +69,7 @@ fn connection(line: &mut Pieces<'_>) -> Reading<u32>
 
 #[tactic(auto, unfolding(crate::specs::Events::waits))]
 fn wait(line: &mut Pieces<'_>) -> Reading<ScriptEvent>
-    ensures { Gives (λ e. (e, line.new)) result (events.waits line.old) }
+    ensures { OutcomeGives (λ e. (e, line.new)) result (events.waits line.old) }
 {
     let milliseconds = number(LONGEST_WAIT, line)? as u32;
     Ok(ScriptEvent::Wait(milliseconds))
@@ -77,7 +77,7 @@ fn wait(line: &mut Pieces<'_>) -> Reading<ScriptEvent>
 
 #[tactic(auto, unfolding(crate::specs::Events::crashes))]
 fn crash(line: &mut Pieces<'_>) -> Reading<ScriptEvent>
-    ensures { Gives (λ e. (e, line.new)) result (events.crashes line.old) }
+    ensures { OutcomeGives (λ e. (e, line.new)) result (events.crashes line.old) }
 {
     let connection = connection(line)?;
     let kept = kept(line)?;
@@ -86,7 +86,7 @@ fn crash(line: &mut Pieces<'_>) -> Reading<ScriptEvent>
 
 #[tactic(auto, unfolding(crate::specs::Events::kept, crate::specs::Events::kept_of))]
 fn kept(line: &mut Pieces<'_>) -> Reading<bool>
-    ensures { Gives (λ b. (b, line.new)) result (events.kept line.old) }
+    ensures { OutcomeGives (λ b. (b, line.new)) result (events.kept line.old) }
 {
     let word = word(line)?;
     if is(word, "kept") {
@@ -100,7 +100,7 @@ fn kept(line: &mut Pieces<'_>) -> Reading<bool>
 
 #[tactic(auto, unfolding(crate::specs::Events::up, crate::specs::Events::up_of))]
 fn up(line: &mut Pieces<'_>) -> Reading<bool>
-    ensures { Gives (λ b. (b, line.new)) result (events.up line.old) }
+    ensures { OutcomeGives (λ b. (b, line.new)) result (events.up line.old) }
 {
     let word = word(line)?;
     if is(word, "up") {
@@ -114,7 +114,7 @@ fn up(line: &mut Pieces<'_>) -> Reading<bool>
 
 #[tactic(auto, unfolding(crate::specs::Events::forges))]
 fn forge(alloc: Global, line: &mut Pieces<'_>) -> Reading<ScriptEvent>
-    ensures { Gives (λ e. (e, line.new)) result (events.forges line.old) }
+    ensures { OutcomeGives (λ e. (e, line.new)) result (events.forges line.old) }
 {
     let connection = connection(line)?;
     let up = up(line)?;
@@ -128,7 +128,7 @@ fn forge(alloc: Global, line: &mut Pieces<'_>) -> Reading<ScriptEvent>
 
 #[tactic(auto, unfolding(crate::specs::Events::flips))]
 fn flip(alloc: Global, line: &mut Pieces<'_>) -> Reading<ScriptEvent>
-    ensures { Gives (λ e. (e, line.new)) result (events.flips line.old) }
+    ensures { OutcomeGives (λ e. (e, line.new)) result (events.flips line.old) }
 {
     let connection = connection(line)?;
     let up = up(line)?;

@@ -1,6 +1,6 @@
 // The lines of operations.
 ghost use Rattle.std.specs.Prelude.{◌≡◌, ◌≤◌, Some, MatchResult, length, replicate};
-ghost use Rattle.script_words.specs.Outcome.{Gives};
+ghost use Rattle.script_words.specs.Outcome.{OutcomeGives};
 ghost use Rattle.script_words.specs.Operations as operations;
 ghost use Rattle.script_words.specs.Operations.{letters_of, access_mask, share_mask};
 ghost use Rattle.script_words.specs.declared.values.Fault.TheVariants.{Memory};
@@ -8,9 +8,9 @@ ghost use Rattle.script_words.specs.declared.values.Fault.TheVariants.{Memory};
 use crate::parts::{Reading, byte, bytes, create, is, number, path, word};
 use crate::pieces::Pieces;
 use crate::values::{Code, Fault};
-use operation_values::OpKind;
-use smb_bytes::Bytes;
+use client_values::OpKind;
 use std::alloc::Global;
+use wire_bytes::Bytes;
 
 /// The greatest count of bytes that a line may write or ask for.
 const MOST_BYTES: u32 = 1_048_577;
@@ -24,7 +24,7 @@ const DELETE: u32 = 0x1_0000;
 #[tactic(auto, unfolding(crate::specs::Operations::operation))]
 pub(crate) fn operation(alloc: Global, creates: &[bool], line: &mut Pieces<'_>) -> Reading<OpKind>
     requires { length creates.now ≤ 1048576 }
-    ensures { Gives (λ kind. (kind, line.new)) result (operations.operation creates.now line.old) }
+    ensures { OutcomeGives (λ kind. (kind, line.new)) result (operations.operation creates.now line.old) }
 {
     let name = word(line)?;
     named(alloc, creates, name, line)
@@ -33,7 +33,7 @@ pub(crate) fn operation(alloc: Global, creates: &[bool], line: &mut Pieces<'_>) 
 #[tactic(auto, unfolding(crate::specs::Operations::named_operation, crate::specs::Operations::on_open))]
 fn named(alloc: Global, creates: &[bool], name: &[u8], line: &mut Pieces<'_>) -> Reading<OpKind>
     requires { length creates.now ≤ 1048576 }
-    ensures { Gives (λ kind. (kind, line.new)) result (operations.named_operation creates.now name.now line.old) }
+    ensures { OutcomeGives (λ kind. (kind, line.new)) result (operations.named_operation creates.now name.now line.old) }
 {
     if is(name, "remove") {
         let create = create(creates, line)?;
@@ -59,7 +59,7 @@ fn named(alloc: Global, creates: &[bool], name: &[u8], line: &mut Pieces<'_>) ->
 #[tactic(auto, unfolding(crate::specs::Operations::long_operation))]
 fn long(alloc: Global, creates: &[bool], name: &[u8], line: &mut Pieces<'_>) -> Reading<OpKind>
     requires { length creates.now ≤ 1048576 }
-    ensures { Gives (λ kind. (kind, line.new)) result (operations.long_operation creates.now name.now line.old) }
+    ensures { OutcomeGives (λ kind. (kind, line.new)) result (operations.long_operation creates.now name.now line.old) }
 {
     if is(name, "create") {
         creates_file(alloc, line)
@@ -86,7 +86,7 @@ fn long(alloc: Global, creates: &[bool], name: &[u8], line: &mut Pieces<'_>) -> 
 
 #[tactic(auto, unfolding(crate::specs::Operations::creates_file))]
 fn creates_file(alloc: Global, line: &mut Pieces<'_>) -> Reading<OpKind>
-    ensures { Gives (λ kind. (kind, line.new)) result (operations.creates_file line.old) }
+    ensures { OutcomeGives (λ kind. (kind, line.new)) result (operations.creates_file line.old) }
 {
     let path = path(alloc, line)?;
     let access = access(line)?;
@@ -106,7 +106,7 @@ fn creates_file(alloc: Global, line: &mut Pieces<'_>) -> Reading<OpKind>
 #[tactic(auto, unfolding(crate::specs::Operations::writes))]
 fn write(alloc: Global, creates: &[bool], line: &mut Pieces<'_>) -> Reading<OpKind>
     requires { length creates.now ≤ 1048576 }
-    ensures { Gives (λ kind. (kind, line.new)) result (operations.writes creates.now line.old) }
+    ensures { OutcomeGives (λ kind. (kind, line.new)) result (operations.writes creates.now line.old) }
 {
     let create = create(creates, line)?;
     let at = number(u64::MAX, line)?;
@@ -117,7 +117,7 @@ fn write(alloc: Global, creates: &[bool], line: &mut Pieces<'_>) -> Reading<OpKi
 #[tactic(auto, unfolding(crate::specs::Operations::fills))]
 fn fill(alloc: Global, creates: &[bool], line: &mut Pieces<'_>) -> Reading<OpKind>
     requires { length creates.now ≤ 1048576 }
-    ensures { Gives (λ kind. (kind, line.new)) result (operations.fills creates.now line.old) }
+    ensures { OutcomeGives (λ kind. (kind, line.new)) result (operations.fills creates.now line.old) }
 {
     let create = create(creates, line)?;
     let at = number(u64::MAX, line)?;
@@ -137,7 +137,7 @@ fn filled(alloc: Global, byte: u8, length: usize) -> Reading<Bytes>
 #[tactic(auto, unfolding(crate::specs::Operations::reads))]
 fn read(creates: &[bool], line: &mut Pieces<'_>) -> Reading<OpKind>
     requires { length creates.now ≤ 1048576 }
-    ensures { Gives (λ kind. (kind, line.new)) result (operations.reads creates.now line.old) }
+    ensures { OutcomeGives (λ kind. (kind, line.new)) result (operations.reads creates.now line.old) }
 {
     let create = create(creates, line)?;
     let at = number(u64::MAX, line)?;
@@ -148,7 +148,7 @@ fn read(creates: &[bool], line: &mut Pieces<'_>) -> Reading<OpKind>
 #[tactic(auto, unfolding(crate::specs::Operations::sets_end))]
 fn set_end(creates: &[bool], line: &mut Pieces<'_>) -> Reading<OpKind>
     requires { length creates.now ≤ 1048576 }
-    ensures { Gives (λ kind. (kind, line.new)) result (operations.sets_end creates.now line.old) }
+    ensures { OutcomeGives (λ kind. (kind, line.new)) result (operations.sets_end creates.now line.old) }
 {
     let create = create(creates, line)?;
     let length = number(u64::MAX, line)?;
@@ -158,7 +158,7 @@ fn set_end(creates: &[bool], line: &mut Pieces<'_>) -> Reading<OpKind>
 #[tactic(auto, unfolding(crate::specs::Operations::sets_time))]
 fn set_time(creates: &[bool], line: &mut Pieces<'_>) -> Reading<OpKind>
     requires { length creates.now ≤ 1048576 }
-    ensures { Gives (λ kind. (kind, line.new)) result (operations.sets_time creates.now line.old) }
+    ensures { OutcomeGives (λ kind. (kind, line.new)) result (operations.sets_time creates.now line.old) }
 {
     let create = create(creates, line)?;
     let time = number(u64::MAX, line)?;
@@ -168,7 +168,7 @@ fn set_time(creates: &[bool], line: &mut Pieces<'_>) -> Reading<OpKind>
 #[tactic(auto, unfolding(crate::specs::Operations::renames))]
 fn rename(alloc: Global, creates: &[bool], line: &mut Pieces<'_>) -> Reading<OpKind>
     requires { length creates.now ≤ 1048576 }
-    ensures { Gives (λ kind. (kind, line.new)) result (operations.renames creates.now line.old) }
+    ensures { OutcomeGives (λ kind. (kind, line.new)) result (operations.renames creates.now line.old) }
 {
     let create = create(creates, line)?;
     let path = path(alloc, line)?;
@@ -178,7 +178,7 @@ fn rename(alloc: Global, creates: &[bool], line: &mut Pieces<'_>) -> Reading<OpK
 #[tactic(auto, unfolding(crate::specs::Operations::locks))]
 fn lock(creates: &[bool], line: &mut Pieces<'_>) -> Reading<OpKind>
     requires { length creates.now ≤ 1048576 }
-    ensures { Gives (λ kind. (kind, line.new)) result (operations.locks creates.now line.old) }
+    ensures { OutcomeGives (λ kind. (kind, line.new)) result (operations.locks creates.now line.old) }
 {
     let create = create(creates, line)?;
     let at = number(u64::MAX, line)?;
@@ -195,7 +195,7 @@ fn lock(creates: &[bool], line: &mut Pieces<'_>) -> Reading<OpKind>
 #[tactic(auto, unfolding(crate::specs::Operations::unlocks))]
 fn unlock(creates: &[bool], line: &mut Pieces<'_>) -> Reading<OpKind>
     requires { length creates.now ≤ 1048576 }
-    ensures { Gives (λ kind. (kind, line.new)) result (operations.unlocks creates.now line.old) }
+    ensures { OutcomeGives (λ kind. (kind, line.new)) result (operations.unlocks creates.now line.old) }
 {
     let create = create(creates, line)?;
     let at = number(u64::MAX, line)?;
@@ -205,7 +205,7 @@ fn unlock(creates: &[bool], line: &mut Pieces<'_>) -> Reading<OpKind>
 
 #[tactic(auto, unfolding(crate::specs::Operations::exclusive, crate::specs::Operations::exclusive_of))]
 fn exclusive(line: &mut Pieces<'_>) -> Reading<bool>
-    ensures { Gives (λ b. (b, line.new)) result (operations.exclusive line.old) }
+    ensures { OutcomeGives (λ b. (b, line.new)) result (operations.exclusive line.old) }
 {
     let word = word(line)?;
     if is(word, "shared") {
@@ -266,7 +266,7 @@ fn if_said(said: bool, mask: u32) -> u32
 
 #[tactic(auto, unfolding(crate::specs::Operations::access))]
 fn access(line: &mut Pieces<'_>) -> Reading<u32>
-    ensures { Gives (λ n. (n, line.new)) result (operations.access line.old) }
+    ensures { OutcomeGives (λ n. (n, line.new)) result (operations.access line.old) }
 {
     let word = word(line)?;
     match letters_in(word) {
@@ -283,7 +283,7 @@ fn access_mask(letters: &Letters) -> u32
 
 #[tactic(auto, unfolding(crate::specs::Operations::share))]
 fn share(line: &mut Pieces<'_>) -> Reading<u32>
-    ensures { Gives (λ n. (n, line.new)) result (operations.share line.old) }
+    ensures { OutcomeGives (λ n. (n, line.new)) result (operations.share line.old) }
 {
     let word = word(line)?;
     if is(word, "-") {
@@ -303,7 +303,7 @@ fn share_mask(letters: &Letters) -> u32
 
 #[tactic(auto, unfolding(crate::specs::Operations::disposition, crate::specs::Operations::disposition_of))]
 fn disposition(line: &mut Pieces<'_>) -> Reading<u32>
-    ensures { Gives (λ n. (n, line.new)) result (operations.disposition line.old) }
+    ensures { OutcomeGives (λ n. (n, line.new)) result (operations.disposition line.old) }
 {
     let word = word(line)?;
     if is(word, "supersede") {
@@ -326,7 +326,7 @@ fn disposition(line: &mut Pieces<'_>) -> Reading<u32>
 // Whether the open outlives its session, and whether it is a directory's.
 #[tactic(auto, unfolding(crate::specs::Operations::kind, crate::specs::Operations::kind_of))]
 fn kind(line: &mut Pieces<'_>) -> Reading<(bool, bool)>
-    ensures { Gives (λ k. (k, line.new)) result (operations.kind line.old) }
+    ensures { OutcomeGives (λ k. (k, line.new)) result (operations.kind line.old) }
 {
     let word = word(line)?;
     if is(word, "plain") {

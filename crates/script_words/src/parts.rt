@@ -1,16 +1,16 @@
 // The parts of a line.
 ghost use Rattle.std.specs.Prelude.{◌≡◌, ◌≤◌, IfOk, MatchOption, true, false, is_some, length};
 ghost use Rattle.std.specs.Str.{bytes_eq, is_utf8};
-ghost use Rattle.script_words.specs.Outcome.{Gives};
+ghost use Rattle.script_words.specs.Outcome.{OutcomeGives};
 ghost use Rattle.script_words.specs.Parts as parts;
 
 use crate::numbers::number_to;
 use crate::pieces::Pieces;
 use crate::values::{Code, Fault};
-use file_names::units;
 use hex::{FromHex, FromHexError};
-use smb_bytes::{Bytes, Text};
 use std::alloc::Global;
+use store_files::units;
+use wire_bytes::{Bytes, Text};
 
 pub(crate) type Reading<T> = Result<T, Fault<Code>>;
 
@@ -22,7 +22,7 @@ const MOST_UNITS: u64 = 1_024;
 const MOST_CHARACTERS: u64 = 256;
 
 pub(crate) fn word<'a>(line: &mut Pieces<'a>) -> Reading<&'a [u8]>
-    ensures { Gives (λ w. (w.now, line.new)) result (parts.word line.old) }
+    ensures { OutcomeGives (λ w. (w.now, line.new)) result (parts.word line.old) }
 {
     match line.next() {
         Some(word) if !word.is_empty() => Ok(word),
@@ -39,7 +39,7 @@ pub(crate) fn is(word: &[u8], text: &str) -> bool
 #[tactic(auto, unfolding(crate::specs::Parts::number))]
 pub(crate) fn number(limit: u64, line: &mut Pieces<'_>) -> Reading<u64>
     ensures bound { IfOk result (λ n. n ≤ limit) }
-    ensures value { Gives (λ n. (n, line.new)) result (parts.number limit line.old) }
+    ensures value { OutcomeGives (λ n. (n, line.new)) result (parts.number limit line.old) }
 {
     let word = word(line)?;
     match number_to(limit, word) {
@@ -52,7 +52,7 @@ pub(crate) fn number(limit: u64, line: &mut Pieces<'_>) -> Reading<u64>
 #[tactic(auto, unfolding(crate::specs::Parts::create))]
 pub(crate) fn create(creates: &[bool], line: &mut Pieces<'_>) -> Reading<u32>
     requires { length creates.now ≤ 1048576 }
-    ensures { Gives (λ n. (n, line.new)) result (parts.create creates.now line.old) }
+    ensures { OutcomeGives (λ n. (n, line.new)) result (parts.create creates.now line.old) }
 {
     let word = word(line)?;
     match number_to(MOST_OPERATIONS, word) {
@@ -73,14 +73,14 @@ fn is_create(creates: &[bool], number: u64) -> bool
 
 #[tactic(auto, unfolding(crate::specs::Parts::bytes))]
 pub(crate) fn bytes(alloc: Global, limit: usize, line: &mut Pieces<'_>) -> Reading<Bytes>
-    ensures { Gives (λ bytes. (bytes, line.new)) result (parts.bytes limit line.old) }
+    ensures { OutcomeGives (λ bytes. (bytes, line.new)) result (parts.bytes limit line.old) }
 {
     let text = word(line)?;
     bytes_of(alloc, limit, text)
 }
 
 fn bytes_of(alloc: Global, limit: usize, text: &[u8]) -> Reading<Bytes>
-    ensures { Gives (λ bytes. bytes) result (parts.bytes_of limit text.now) }
+    ensures { OutcomeGives (λ bytes. bytes) result (parts.bytes_of limit text.now) }
 {
     if is(text, "-") {
         return Ok(Bytes::new(alloc));
@@ -96,7 +96,7 @@ fn bytes_of(alloc: Global, limit: usize, text: &[u8]) -> Reading<Bytes>
 /// A byte of exactly two digits.
 #[tactic(auto, unfolding(crate::specs::Parts::byte))]
 pub(crate) fn byte(line: &mut Pieces<'_>) -> Reading<u8>
-    ensures { Gives (λ b. (b, line.new)) result (parts.byte line.old) }
+    ensures { OutcomeGives (λ b. (b, line.new)) result (parts.byte line.old) }
 {
     let text = word(line)?;
     match <[u8; 1]>::from_hex(text) {
@@ -107,14 +107,14 @@ pub(crate) fn byte(line: &mut Pieces<'_>) -> Reading<u8>
 
 #[tactic(auto, unfolding(crate::specs::Parts::path))]
 pub(crate) fn path(alloc: Global, line: &mut Pieces<'_>) -> Reading<Text>
-    ensures { Gives (λ path. (path, line.new)) result (parts.path line.old) }
+    ensures { OutcomeGives (λ path. (path, line.new)) result (parts.path line.old) }
 {
     let word = word(line)?;
     path_of(alloc, word)
 }
 
 fn path_of(alloc: Global, word: &[u8]) -> Reading<Text>
-    ensures { Gives (λ path. path) result (parts.path_of word.now) }
+    ensures { OutcomeGives (λ path. path) result (parts.path_of word.now) }
 {
     let Some(text) = text_in(word) else {
         return Err(Fault::Refused(Code::BadLine));
@@ -128,7 +128,7 @@ fn path_of(alloc: Global, word: &[u8]) -> Reading<Text>
 
 /// A text of at most 256 characters.
 pub(crate) fn short_text(alloc: Global, word: &[u8]) -> Reading<Text>
-    ensures { Gives (λ text. text) result (parts.short_text word.now) }
+    ensures { OutcomeGives (λ text. text) result (parts.short_text word.now) }
 {
     let Some(text) = text_in(word) else {
         return Err(Fault::Refused(Code::BadLine));
@@ -160,9 +160,9 @@ fn characters(text: &[u8]) -> u64
     count
 }
 
-#[tactic(auto, unfolding(crate::specs::Parts::begins))]
+#[tactic(auto, unfolding(crate::specs::Parts::begins_character))]
 fn begins(byte: u8) -> u64
-    ensures is { result ≡ parts.begins byte }
+    ensures is { result ≡ parts.begins_character byte }
     ensures few { result ≤ 1 }
 {
     if byte >= 128 && byte <= 191 { 0 } else { 1 }

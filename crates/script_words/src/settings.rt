@@ -2,7 +2,7 @@
 ghost use Rattle.std.specs.Prelude.{◌≡◌, ◌==◌, true, false, MatchResult};
 ghost use Rattle.std.specs.List.{list_any};
 ghost use Rattle.std.specs.Str.{str_eq_ignore_ascii_case};
-ghost use Rattle.script_words.specs.Outcome.{Gives};
+ghost use Rattle.script_words.specs.Outcome.{OutcomeGives};
 ghost use Rattle.script_words.specs.Settings as settings;
 ghost use Rattle.script_words.specs.declared.values.Code.TheVariants.{BadLine};
 ghost use Rattle.script_words.specs.declared.values.Fault.TheVariants.{Refused};
@@ -10,8 +10,8 @@ ghost use Rattle.script_words.specs.declared.values.Fault.TheVariants.{Refused};
 use crate::parts::{Reading, is, is_ascii, number, short_text, word};
 use crate::pieces::Pieces;
 use crate::values::{Cipher, Code, Command, Fault, Given, Setting, Signing, User};
-use smb_bytes::Text;
 use std::alloc::Global;
+use wire_bytes::Text;
 
 const LARGEST_ROOM: u64 = 268_435_456;
 
@@ -46,7 +46,7 @@ pub(crate) fn setting(
     name: &[u8],
     line: &mut Pieces<'_>,
 ) -> Reading<Setting>
-    ensures { Gives (λ s. (s, line.new)) result (settings.setting command given.now name.now line.old) }
+    ensures { OutcomeGives (λ s. (s, line.new)) result (settings.setting command given.now name.now line.old) }
 {
     if is(name, "cipher") {
         unless(given.begun || given.cipher.is_some())?;
@@ -83,7 +83,7 @@ fn unless(refused: bool) -> Reading<()>
 
 #[tactic(auto, unfolding(crate::specs::Settings::cipher, crate::specs::Settings::cipher_of))]
 fn cipher(line: &mut Pieces<'_>) -> Reading<Setting>
-    ensures { Gives (λ s. (s, line.new)) result (settings.cipher line.old) }
+    ensures { OutcomeGives (λ s. (s, line.new)) result (settings.cipher line.old) }
 {
     let word = word(line)?;
     if is(word, "none") {
@@ -103,7 +103,7 @@ fn cipher(line: &mut Pieces<'_>) -> Reading<Setting>
 
 #[tactic(auto, unfolding(crate::specs::Settings::signing, crate::specs::Settings::signing_of))]
 fn signing(line: &mut Pieces<'_>) -> Reading<Setting>
-    ensures { Gives (λ s. (s, line.new)) result (settings.signing line.old) }
+    ensures { OutcomeGives (λ s. (s, line.new)) result (settings.signing line.old) }
 {
     let word = word(line)?;
     if is(word, "cmac") {
@@ -117,7 +117,7 @@ fn signing(line: &mut Pieces<'_>) -> Reading<Setting>
 
 #[tactic(auto, unfolding(crate::specs::Settings::room))]
 fn room(line: &mut Pieces<'_>) -> Reading<Setting>
-    ensures { Gives (λ s. (s, line.new)) result (settings.room line.old) }
+    ensures { OutcomeGives (λ s. (s, line.new)) result (settings.room line.old) }
 {
     let bytes = number(LARGEST_ROOM, line)?;
     Ok(Setting::Room(bytes))
@@ -125,7 +125,7 @@ fn room(line: &mut Pieces<'_>) -> Reading<Setting>
 
 #[tactic(auto, unfolding(crate::specs::Settings::user))]
 fn user(alloc: Global, users: &[User], line: &mut Pieces<'_>) -> Reading<Setting>
-    ensures { Gives (λ s. (s, line.new)) result (settings.user users.now line.old) }
+    ensures { OutcomeGives (λ s. (s, line.new)) result (settings.user users.now line.old) }
 {
     let first = word(line)?;
     let name = user_name(alloc, users, first)?;
@@ -135,7 +135,7 @@ fn user(alloc: Global, users: &[User], line: &mut Pieces<'_>) -> Reading<Setting
 }
 
 fn user_name(alloc: Global, users: &[User], word: &[u8]) -> Reading<Text>
-    ensures { Gives (λ t. t) result (settings.user_name users.now word.now) }
+    ensures { OutcomeGives (λ t. t) result (settings.user_name users.now word.now) }
 {
     if !is_ascii(word) || is_named(word, users) {
         return Err(Fault::Refused(Code::BadLine));
@@ -145,7 +145,7 @@ fn user_name(alloc: Global, users: &[User], word: &[u8]) -> Reading<Text>
 
 // Whether an earlier user has this name, but for the case of ASCII letters.
 fn is_named(name: &[u8], users: &[User]) -> bool
-    ensures { result ≡ settings.is_named name.now users.now }
+    ensures { result ≡ settings.is_name_taken name.now users.now }
 {
     users
         .iter()
@@ -160,7 +160,7 @@ fn same_name(a: &[u8], b: &[u8]) -> bool
 
 #[tactic(auto, unfolding(crate::specs::Settings::share))]
 fn share(alloc: Global, line: &mut Pieces<'_>) -> Reading<Setting>
-    ensures { Gives (λ s. (s, line.new)) result (settings.share line.old) }
+    ensures { OutcomeGives (λ s. (s, line.new)) result (settings.share line.old) }
 {
     let word = word(line)?;
     let name = share_name(alloc, word)?;
@@ -168,7 +168,7 @@ fn share(alloc: Global, line: &mut Pieces<'_>) -> Reading<Setting>
 }
 
 fn share_name(alloc: Global, word: &[u8]) -> Reading<Text>
-    ensures { Gives (λ t. t) result (settings.share_name word.now) }
+    ensures { OutcomeGives (λ t. t) result (settings.share_name word.now) }
 {
     if has_backslash(word) || same_name(word, b"IPC$") {
         return Err(Fault::Refused(Code::BadLine));
@@ -184,7 +184,7 @@ fn has_backslash(word: &[u8]) -> bool
 
 #[tactic(auto, unfolding(crate::specs::Settings::channels))]
 fn channels(line: &mut Pieces<'_>) -> Reading<Setting>
-    ensures { Gives (λ s. (s, line.new)) result (settings.channels line.old) }
+    ensures { OutcomeGives (λ s. (s, line.new)) result (settings.channels line.old) }
 {
     let count = number(MOST_CHANNELS, line)? as u32;
     if count == 0 {

@@ -1,10 +1,10 @@
 // What a line may say.
 ghost use Rattle.std.specs.Prelude.{◌≡◌};
 
-use operation_values::OpKind;
-use owned_list::ListOf;
-use smb_bytes::{Bytes, Text};
+use base_lists::ListOf;
+use client_values::OpKind;
 use std::alloc::{AllocError, AllocFailed};
+use wire_bytes::{Bytes, Text};
 
 /// What reads the lines.
 #[derive(Clone, Copy, PartialEq, Eq, Debug)]

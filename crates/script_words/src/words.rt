@@ -1,6 +1,6 @@
 // The words of a line.
 ghost use Rattle.std.specs.Prelude.{◌≡◌, ◌≤◌, length};
-ghost use Rattle.script_words.specs.Outcome.{Gives};
+ghost use Rattle.script_words.specs.Outcome.{OutcomeGives};
 ghost use Rattle.script_words.specs.Words as words;
 
 use crate::parts::{Reading, is, word};
@@ -20,7 +20,7 @@ pub fn statement(
     mut line: Pieces<'_>,
 ) -> Result<Statement, Fault<Code>>
     requires { length creates.now ≤ 1048576 }
-    ensures { Gives (λ s. s) result (words.statement command creates.now given.now line.entry) }
+    ensures { OutcomeGives (λ s. s) result (words.statement command creates.now given.now line.entry) }
 {
     let statement = said(alloc, command, creates, given, &mut line)?;
     if !line.is_empty() {
@@ -29,7 +29,7 @@ pub fn statement(
     Ok(statement)
 }
 
-#[tactic(auto, unfolding(crate::specs::Words::said))]
+#[tactic(auto, unfolding(crate::specs::Words::line_part))]
 fn said(
     alloc: Global,
     command: Command,
@@ -38,7 +38,7 @@ fn said(
     line: &mut Pieces<'_>,
 ) -> Reading<Statement>
     requires { length creates.now ≤ 1048576 }
-    ensures { Gives (λ s. (s, line.new)) result (words.said command creates.now given.now line.old) }
+    ensures { OutcomeGives (λ s. (s, line.new)) result (words.line_part command creates.now given.now line.old) }
 {
     let name = word(line)?;
     if is(name, "op") {
@@ -69,7 +69,7 @@ fn operation(
     line: &mut Pieces<'_>,
 ) -> Reading<Statement>
     requires { length creates.now ≤ 1048576 }
-    ensures { Gives (λ s. (s, line.new)) result (words.operation command creates.now line.old) }
+    ensures { OutcomeGives (λ s. (s, line.new)) result (words.operation command creates.now line.old) }
 {
     if command.serves() {
         return Err(Fault::Refused(Code::BadLine));
@@ -86,7 +86,7 @@ fn setting(
     name: &[u8],
     line: &mut Pieces<'_>,
 ) -> Reading<Statement>
-    ensures { Gives (λ s. (s, line.new)) result (words.setting command given.now name.now line.old) }
+    ensures { OutcomeGives (λ s. (s, line.new)) result (words.setting command given.now name.now line.old) }
 {
     let setting = settings::setting(alloc, command, given, name, line)?;
     Ok(Statement::Setting(setting))
@@ -94,7 +94,7 @@ fn setting(
 
 #[tactic(auto, unfolding(crate::specs::Words::event))]
 fn event(alloc: Global, command: Command, name: &[u8], line: &mut Pieces<'_>) -> Reading<Statement>
-    ensures { Gives (λ s. (s, line.new)) result (words.event command name.now line.old) }
+    ensures { OutcomeGives (λ s. (s, line.new)) result (words.event command name.now line.old) }
 {
     if !command.drills() {
         return Err(Fault::Refused(Code::BadLine));

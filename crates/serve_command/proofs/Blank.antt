@@ -1,8 +1,8 @@
 -- Where no connection has ended, all that have were served.
 use Rattle.std.proofs.Common.{◌≡◌, ℕ, zero, suc, List, Option, None, Some, get_or, replicate, refl, sym, ap, ◌∙◌}
-use Rattle.shared_book.specs.declared.view.Entry.{Entry}
-use Rattle.shared_book.specs.declared.view.View.{View}
-use Rattle.server_run.specs.Serving.{AreServed}
+use Rattle.serve_turns.specs.declared.shared_book.view.Entry.{Entry}
+use Rattle.serve_turns.specs.declared.shared_book.view.View.{View}
+use Rattle.serve_turns.specs.link_serving.Serving.{AreServed}
 
 module _ {X : Type 0} where
   abbrev none : Option X

@@ -1,12 +1,12 @@
 -- Where the command ends with 0, as many links were served as its words say.
 use Rattle.std.proofs.Common.{◌≡◌, ℕ, ◌+◌, ◌<◌, ◌^◌, List, Bool, true, false, length, refl, sym, ◌∙◌, subst}
 use Rattle.std.specs.Prelude.{Option, None, Some}
-use Rattle.link_threads.specs.Covering.{HaveEnds}
-use Rattle.link_threads.specs.declared.links.Halt.{Halt}
-use Rattle.link_threads.specs.declared.links.Halt.TheVariants as halts
-use Rattle.serve_settings.specs.declared.words.Bound.{Bound}
-use Rattle.server_run.specs.declared.ended.Ended.{Ended}
-use Rattle.serve_command.specs.Serving.{AllEnded, Behind, accepted, listed}
+use Rattle.serve_turns.specs.link_threads.Covering.{HaveEnds}
+use Rattle.serve_turns.specs.declared.link_threads.links.Halt.{Halt}
+use Rattle.serve_turns.specs.declared.link_threads.links.Halt.TheVariants as halts
+use Rattle.serve_command.specs.declared.server_settings.words.Bound.{Bound}
+use Rattle.serve_turns.specs.declared.link_serving.ended.Ended.{Ended}
+use Rattle.serve_command.specs.Serving.{AllEnded, Behind, serving_accepted, serving_listed}
 use Rattle.serve_command.specs.declared.ending.Ending.{Ending}
 use Rattle.serve_command.specs.declared.ending.Ending.TheVariants.{DiskFailed, Done, Memory, NetFailed}
 
@@ -28,8 +28,9 @@ module _ (written written' : Option (List ℕ)) (sink sink' : ℕ) (bound : Opti
   by_count halts.Ended false tells done = absurd (memory_apart ending tells.0 done)
   by_count halts.Memory false tells done = absurd (memory_apart ending tells.0 done)
 
-all_ended : (bound : Option Bound) (ends : List (Option Ended)) (links links' : ℕ) → length ends ≡ listed bound
-    → HaveEnds (accepted bound) ends → (links + accepted bound < 2 ^ 64 → links' ≡ links + accepted bound) → AllEnded bound ends links links'
+all_ended : (bound : Option Bound) (ends : List (Option Ended)) (links links' : ℕ) → length ends ≡ serving_listed bound
+    → HaveEnds (serving_accepted bound) ends → (links + serving_accepted bound < 2 ^ 64 → links'
+    ≡ links + serving_accepted bound) → AllEnded bound ends links links'
 all_ended None ends links links' long have more = tt
 all_ended (Some bound) ends links links' long have more = (long, have, more)
 
@@ -39,9 +40,10 @@ Told n ends links links' = HaveEnds n ends × (links + n < 2 ^ 64 → links' ≡
 
 pub counted : (written written' : Option (List ℕ)) (sink sink' : ℕ) (bound : Option Bound) (ends : List (Option Ended)) (ending : Ending)
     (halt : Halt) (failed : Bool) (count room links links' : ℕ) → Behind written written' sink sink' bound halt ends failed ending
-    → count ≡ accepted bound → room ≡ listed bound → length ends ≡ room → (halt ≡ halts.Count → HaveEnds count ends)
+    → count ≡ serving_accepted bound → room ≡ serving_listed bound → length ends ≡ room → (halt ≡ halts.Count → HaveEnds count ends)
     → (halt ≡ halts.Count → links + count < 2 ^ 64 → links' ≡ links + count) → ending ≡ Done → AllEnded bound ends links links'
 counted written written' sink sink' bound ends ending halt failed count room links links' tells is_count is_room long have more done =
     let all : halt ≡ halts.Count = by_count written written' sink sink' bound ends ending halt failed tells done in
-    let told : Told (accepted bound) ends links links' = subst (λ (n : ℕ). Told n ends links links') is_count (have all, more all) in
+    let told : Told (serving_accepted bound) ends links links' = subst (λ (n : ℕ). Told n ends links links') is_count
+    (have all, more all) in
     all_ended bound ends links links' (long ∙ is_room) told.0 told.1

@@ -3,7 +3,7 @@ use Rattle.std.proofs.Common.{◌≡◌, ℕ, ◌+◌, ◌-◌, ◌^◌, ◌<◌
 use Rattle.std.specs.Prelude.{nat_lt, ◌==◌, ◌||◌, ◌&&◌}
 use Rattle.std.proofs.Math.Nat.{min-le_left, min-le_right}
 use Rattle.std.proofs.lemmas.Bool.{ltb-true, eqb-true}
-use Rattle.smb_io.specs.Faults.{Rose}
+use Rattle.base_outside.specs.streams.Faults.{Rose}
 use Rattle.serve_command.specs.Serving.{has_risen}
 
 module _ (before now : ℕ) where

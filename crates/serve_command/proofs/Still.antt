@@ -1,41 +1,42 @@
 -- What holds of a book that opens with a server, and of an ending, at equal values.
 use Rattle.std.proofs.Common.{◌≡◌, ℕ, List, Bool, ap, ◌∙◌, subst}
 use Rattle.std.specs.Prelude.{Option}
-use Rattle.shared_book.specs.Turns.{first_view}
-use Rattle.shared_book.specs.declared.view.View.{View}
-use Rattle.conn_turns.specs.declared.turn.Told.{Told}
-use Rattle.conn_turns.specs.declared.turn.Turn.{Turn}
-use Rattle.link_threads.specs.declared.links.Halt.{Halt}
-use Rattle.outside_calls.specs.Outside.{HasFailed}
-use Rattle.outside_calls.specs.declared.read_error.ReadError.{ReadError}
-use Rattle.outside_calls.specs.declared.read_error.ReadError.TheVariants as whys
-use Rattle.serve_settings.specs.declared.words.Bound.{Bound}
-use Rattle.served_book.specs.declared.book.ServerBook.{ServerBook}
-use Rattle.served_book.specs.ServerCore.declared.server.Server.{Server}
-use Rattle.server_run.specs.declared.ended.Ended.{Ended}
-use Rattle.smb_io.specs.Faults.{Rose}
-use Rattle.serve_command.specs.Serving.{Behind, Opens}
+use Rattle.serve_turns.specs.shared_book.Turns.{first_view}
+use Rattle.serve_turns.specs.declared.shared_book.view.View.{View}
+use Rattle.serve_turns.specs.declared.connection_turns.turn.Told.{Told}
+use Rattle.serve_turns.specs.declared.connection_turns.turn.Turn.{Turn}
+use Rattle.serve_turns.specs.declared.link_threads.links.Halt.{Halt}
+use Rattle.base_outside.specs.whole_texts.Outside.{HasOutsideFailed}
+use Rattle.base_outside.specs.declared.whole_texts.read_error.ReadError.{ReadError}
+use Rattle.base_outside.specs.declared.whole_texts.read_error.ReadError.TheVariants as whys
+use Rattle.serve_command.specs.declared.server_settings.words.Bound.{Bound}
+use Rattle.serve_command.specs.declared.server_book.book.ServerBook.{ServerBook}
+use Rattle.server_core.specs.declared.server.Server.{Server}
+use Rattle.serve_turns.specs.declared.link_serving.ended.Ended.{Ended}
+use Rattle.base_outside.specs.streams.Faults.{Rose}
+use Rattle.serve_command.specs.Serving.{Behind, ServingOpens}
 use Rattle.serve_command.specs.declared.ending.Ending.{Ending}
 
 module _ {D : Type 0} (server : Server D) where
   abbrev Knows : Type 0
   Knows = View (ServerBook D) Turn Told
 
-  pub opens_first : (first : ServerBook D) (v : Knows) → v ≡ first_view first → first.server.server ≡ server → Opens server v
+  pub opens_first : (first : ServerBook D) (v : Knows) → v ≡ first_view first → first.server.server ≡ server → ServingOpens server v
   opens_first first v same is = record { opening = first; begins = is; is = ap (λ (x : Knows). x.opening) same }
 
-  pub still_opens : (v w : Knows) → Opens server v → w.opening ≡ v.opening → Opens server w
+  pub still_opens : (v w : Knows) → ServingOpens server v → w.opening ≡ v.opening → ServingOpens server w
   still_opens v w opens same = record { opening = opens.opening; begins = opens.begins; is = same ∙ opens.is }
 
-pub behind_of : (written written' : Option (List ℕ)) (sink sink' : ℕ) (bound : Option Bound) (halt : Halt) (ends ends' : List (Option Ended))
+pub behind_of : (written written' : Option (List ℕ)) (sink sink' : ℕ) (bound : Option Bound) (halt : Halt)
+    (ends ends' : List (Option Ended))
     (b b' : Bool) (e : Ending) → ends ≡ ends' → b ≡ b' → Behind written written' sink sink' bound halt ends b e
     → Behind written written' sink sink' bound halt ends' b' e
 behind_of written written' sink sink' bound halt ends ends' b b' e p q h =
     subst (λ (x : List (Option Ended)). Behind written written' sink sink' bound halt x b' e) p
     (subst (λ (y : Bool). Behind written written' sink sink' bound halt ends y e) q h)
 
-pub memory_kept : (old new : ℕ) (why : ReadError) → why ≡ whys.Memory → HasFailed old new why → new ≡ old
-memory_kept old new why is failed = subst (λ (x : ReadError). HasFailed old new x) is failed
+pub memory_kept : (old new : ℕ) (why : ReadError) → why ≡ whys.Memory → HasOutsideFailed old new why → new ≡ old
+memory_kept old new why is failed = subst (λ (x : ReadError). HasOutsideFailed old new x) is failed
 
-pub failed_rose : (old new : ℕ) (why : ReadError) → why ≡ whys.Failed → HasFailed old new why → Rose old new
-failed_rose old new why is failed = subst (λ (x : ReadError). HasFailed old new x) is failed
+pub failed_rose : (old new : ℕ) (why : ReadError) → why ≡ whys.Failed → HasOutsideFailed old new why → Rose old new
+failed_rose old new why is failed = subst (λ (x : ReadError). HasOutsideFailed old new x) is failed

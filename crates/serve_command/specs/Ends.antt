@@ -1,19 +1,20 @@
 -- How the command ends, with the cause of each ending.
 use Rattle.std.specs.Prelude.{◌≡◌, ◌⊎◌, ℕ, List, Option, Some, Ok, Err}
-use Rattle.serve_settings.specs.declared.words.Said.{Said}
+use Rattle.serve_command.specs.declared.server_settings.words.Said.{Said}
 use Rattle.server_checks.specs.declared.tables.Config.{Config}
-use Rattle.smb_io.specs.declared.address.Address.{Address}
-use Rattle.serve_command.specs.Opening.{Settles}
+use Rattle.base_outside.specs.declared.streams.address.Address.{Address}
+use Rattle.serve_command.specs.Opening.{OpeningSettles}
 use Rattle.serve_command.specs.Serving.{Starts}
 use Rattle.serve_command.specs.declared.ending.Ending.{Ending}
 
 -- It ended with the settings, and neither disk nor net were used; or it had settings and printed nothing so far.
-abbrev pub Ends : {D N : Type 0} → Type 0 → (D → List ℕ) → (D → List ℕ → Type 0) → (D → ℕ) → (N → Option Address) → (N → ℕ) → (N → ℕ)
+abbrev pub ServingEnds : {D N : Type 0} → Type 0 → (D → List ℕ) → (D → List ℕ → Type 0) → (D → ℕ) → (N → Option Address) → (N → ℕ) → (N → ℕ)
     → Said → D → (left left' : Option (List ℕ)) → (source source' : ℕ) → (written written' : Option (List ℕ)) → (sink sink' : ℕ)
     → (net net' : N) → Option D → Ending → Type 0
-Ends told seen may_leave faults listens_at links net_faults said disk left left' source source' written written' sink sink' net net' disk'
+ServingEnds told seen may_leave faults listens_at links net_faults said disk left left' source source' written written'
+    sink sink' net net' disk'
     ending =
-    (Settles said.address left left' source source' written written' sink sink' (Err ending) × (net' ≡ net) × (disk' ≡ Some disk))
+    (OpeningSettles said.address left left' source source' written written' sink sink' (Err ending) × (net' ≡ net) × (disk' ≡ Some disk))
     ⊎ ((config : Config) × (between : Option (List ℕ)) × (calm : ℕ)
-    × Settles said.address left left' source source' written between sink calm (Ok config)
+    × OpeningSettles said.address left left' source source' written between sink calm (Ok config)
     × Starts told seen may_leave faults listens_at links net_faults said config disk between written' calm sink' net net' disk' ending)

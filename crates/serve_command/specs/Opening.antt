@@ -1,15 +1,15 @@
 -- Settings that are read, and a server that doesn't begin. Of a source it is told what it had left, and of source and sink how often they
 -- had failed, before and behind.
 use Rattle.std.specs.Prelude.{◌≡◌, ◌⊎◌, ℕ, List, Option, Result, Ok, Err}
-use Rattle.outcome_lines.specs.Text.{refusal_line}
-use Rattle.outside_calls.specs.Outside.{HasRead}
-use Rattle.persist_journal.specs.declared.journal.JournalError.{JournalError}
-use Rattle.persist_journal.specs.declared.journal.JournalError.TheVariants as causes
-use Rattle.script_lines.specs.declared.line.Refusal.{Refusal}
-use Rattle.serve_settings.specs.Settings.{config_due}
+use Rattle.script_words.specs.outcome_lines.Text.{refusal_line}
+use Rattle.base_outside.specs.whole_texts.Outside.{HasRead}
+use Rattle.journal.specs.declared.disk_journal.journal.JournalError.{JournalError}
+use Rattle.journal.specs.declared.disk_journal.journal.JournalError.TheVariants as causes
+use Rattle.script_words.specs.declared.text_lines.line.Refusal.{Refusal}
+use Rattle.serve_command.specs.server_settings.Settings.{config_due}
 use Rattle.server_checks.specs.declared.tables.Config.{Config}
-use Rattle.smb_io.specs.Faults.{Rose}
-use Rattle.smb_io.specs.declared.address.Address.{Address}
+use Rattle.base_outside.specs.streams.Faults.{Rose}
+use Rattle.base_outside.specs.declared.streams.address.Address.{Address}
 use Rattle.serve_command.specs.Printing.{IsLeft, IsQuiet, Prints, PrintsIfRoom, journal_line}
 use Rattle.serve_command.specs.declared.ending.Ending.{Ending}
 use Rattle.serve_command.specs.declared.ending.Ending.TheVariants.{DiskFailed, JournalFull, Memory, NoJournal, Settings, SourceFailed}
@@ -23,9 +23,9 @@ module _ (at : Address) (written written' : Option (List ℕ)) (sink sink' : ℕ
       × Prints written written' sink sink' (refusal_line refusal) Settings ending
 
 -- The source was read to its end, or past the limit on a text's bytes, and settings were taken; or it failed, or memory ran out.
-abbrev pub Settles : Address → (left left' : Option (List ℕ)) → (source source' : ℕ) → (written written' : Option (List ℕ))
+abbrev pub OpeningSettles : Address → (left left' : Option (List ℕ)) → (source source' : ℕ) → (written written' : Option (List ℕ))
     → (sink sink' : ℕ) → Result Config Ending → Type 0
-Settles at left left' source source' written written' sink sink' result =
+OpeningSettles at left left' source source' written written' sink sink' result =
     ((result ≡ Err SourceFailed) × Rose source source' × IsLeft written written' sink sink')
     ⊎ ((source' ≡ source) × (((result ≡ Err Memory) × IsLeft written written' sink sink')
     ⊎ ((text : List ℕ) × HasRead left left' text × Takes at written written' sink sink' text result)))

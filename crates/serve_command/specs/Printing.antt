@@ -2,8 +2,8 @@
 use Rattle.std.specs.Prelude.{◌≡◌, ℕ, List, ◌++◌, codes, Option}
 use Rattle.std.specs.Fmt.{decimal}
 use Rattle.std.specs.Io.KnownBytes.{Appends, Keeps}
-use Rattle.outside_calls.specs.Outside.{AppendsFront}
-use Rattle.smb_io.specs.Faults.{Rose}
+use Rattle.base_outside.specs.whole_texts.Outside.{AppendsFront}
+use Rattle.base_outside.specs.streams.Faults.{Rose}
 use Rattle.serve_command.specs.declared.ending.Ending.{Ending}
 use Rattle.serve_command.specs.declared.ending.Ending.TheVariants.{Memory, SinkFailed}
 

@@ -1,29 +1,29 @@
 -- How the command ends once it has settings, by what befell the disk, the net and the connections.
 use Rattle.std.specs.Prelude.{◌≡◌, ◌⊎◌, ℕ, ◌+◌, ◌%◌, ◌^◌, ◌<◌, ◌==◌, nat_lt, Bool, true, false, ◌&&◌, ◌||◌, List, [], ◌∷◌, length, is_some}
 use Rattle.std.specs.Prelude.{Option, Some, None}
-use Rattle.conn_turns.specs.Serving as turns
-use Rattle.conn_turns.specs.declared.turn.Told.{Told}
-use Rattle.conn_turns.specs.declared.turn.Turn.{Turn}
-use Rattle.link_threads.specs.Covering.{HaveEnds}
-use Rattle.link_threads.specs.declared.links.Halt.{Halt}
-use Rattle.link_threads.specs.declared.links.Halt.TheVariants as halts
-use Rattle.persist_journal.specs.declared.journal.JournalError.{JournalError}
-use Rattle.serve_settings.specs.declared.words.Bound.{Bound}
-use Rattle.serve_settings.specs.declared.words.Said.{Said}
-use Rattle.served_book.specs.Steps.{Steps}
-use Rattle.served_book.specs.declared.book.ServerBook.{ServerBook}
-use Rattle.server_begun.specs.Begun.{Begins}
+use Rattle.serve_turns.specs.connection_turns.Serving as turns
+use Rattle.serve_turns.specs.declared.connection_turns.turn.Told.{Told}
+use Rattle.serve_turns.specs.declared.connection_turns.turn.Turn.{Turn}
+use Rattle.serve_turns.specs.link_threads.Covering.{HaveEnds}
+use Rattle.serve_turns.specs.declared.link_threads.links.Halt.{Halt}
+use Rattle.serve_turns.specs.declared.link_threads.links.Halt.TheVariants as halts
+use Rattle.journal.specs.declared.disk_journal.journal.JournalError.{JournalError}
+use Rattle.serve_command.specs.declared.server_settings.words.Bound.{Bound}
+use Rattle.serve_command.specs.declared.server_settings.words.Said.{Said}
+use Rattle.serve_command.specs.server_book.Steps.{Steps}
+use Rattle.serve_command.specs.declared.server_book.book.ServerBook.{ServerBook}
+use Rattle.server_recovery.specs.server_start.Begun.{ServerBegins}
 use Rattle.server_checks.specs.declared.tables.Config.{Config}
-use Rattle.served_book.specs.ServerCore.Shown.{disk_of, state_of, stopped_of}
-use Rattle.served_book.specs.ServerCore.declared.server.Server.{Server}
-use Rattle.server_restart.specs.Restart.{RestartRefused}
-use Rattle.server_run.specs.Lines.{ended_lines}
-use Rattle.server_run.specs.Serving.{AreServed}
-use Rattle.server_run.specs.declared.ended.Ended.{Ended}
-use Rattle.shared_book.specs.Seats.{Closes}
-use Rattle.shared_book.specs.declared.view.View.{View}
-use Rattle.smb_io.specs.Faults.{Rose}
-use Rattle.smb_io.specs.declared.address.Address.{Address}
+use Rattle.server_core.specs.Shown.{disk_of, state_of, stopped_of}
+use Rattle.server_core.specs.declared.server.Server.{Server}
+use Rattle.server_recovery.specs.restart_tables.Restart.{RestartRefused}
+use Rattle.serve_turns.specs.link_serving.Lines.{ended_lines}
+use Rattle.serve_turns.specs.link_serving.Serving.{AreServed}
+use Rattle.serve_turns.specs.declared.link_serving.ended.Ended.{Ended}
+use Rattle.serve_turns.specs.shared_book.Seats.{Closes}
+use Rattle.serve_turns.specs.declared.shared_book.view.View.{View}
+use Rattle.base_outside.specs.streams.Faults.{Rose}
+use Rattle.base_outside.specs.declared.streams.address.Address.{Address}
 use Rattle.serve_command.specs.Opening.{IsUnbegun}
 use Rattle.serve_command.specs.Printing.{IsQuiet, PrintsIfRoom}
 use Rattle.serve_command.specs.declared.ending.Ending.{Ending}
@@ -32,14 +32,14 @@ use Rattle.serve_command.specs.declared.ending.Ending.TheVariants.{DiskFailed, D
 -- ---- how many connections there are
 
 -- of how many it is told how they ended
-abbrev pub listed : Option Bound → ℕ
-listed None = 0
-listed (Some bound) = bound.count
+abbrev pub serving_listed : Option Bound → ℕ
+serving_listed None = 0
+serving_listed (Some bound) = bound.count
 
 -- how many are accepted: without a count as many as can be counted
-abbrev pub accepted : Option Bound → ℕ
-accepted None = 18446744073709551615
-accepted (Some bound) = bound.count
+abbrev pub serving_accepted : Option Bound → ℕ
+serving_accepted None = 18446744073709551615
+serving_accepted (Some bound) = bound.count
 
 -- As many were accepted as the words say, and of each it is told how it ended. A net's count of links that it accepted, before and behind,
 -- stands still at 2^64 - 1.
@@ -98,7 +98,7 @@ module _ {B : Type 0} where
   AreServedBy view ends = AreServed serves_link ends view.kept
 
 -- a seat of a book that opens with this server
-pub record Opens {D : Type 0} (server : Server D) (view : View (ServerBook D) Turn Told) : Type 0 where
+pub record ServingOpens {D : Type 0} (server : Server D) (view : View (ServerBook D) Turn Told) : Type 0 where
   pub opening : ServerBook D
   pub begins : opening.server.server ≡ server
   pub is : view.opening ≡ Some opening
@@ -111,7 +111,7 @@ module _ {D N : Type 0} (told : Type 0) (seen : D → List ℕ) (may_leave : D �
   pub record HasServed (before : ℕ) (bound : Option Bound) (server : Server D) (written written' : Option (List ℕ)) (sink sink' : ℕ)
       (net net' : N) (disk' : Option D) (ending : Ending) : Type 0 where
     pub view : View (ServerBook D) Turn Told
-    pub opens : Opens server view
+    pub opens : ServingOpens server view
     pub halt : Halt
     pub ends : List (Option Ended)
     pub last : ServerBook D
@@ -146,5 +146,5 @@ module _ {D N : Type 0} (told : Type 0) (seen : D → List ℕ) (may_leave : D �
   Starts said config disk written written' sink sink' net net' disk' ending =
       ((error : JournalError) × RestartRefused told seen faults disk error × IsUnbegun written written' sink sink' error ending
       × (net' ≡ net))
-      ⊎ ((server : Server D) × Begins told seen may_leave faults config disk (state_of server)
+      ⊎ ((server : Server D) × ServerBegins told seen may_leave faults config disk (state_of server)
       × Serves (faults disk) said.address said.bound server written written' sink sink' net net' disk' ending)

@@ -1,15 +1,14 @@
 //! What is left of a server behind its last turn.
 ghost use Rattle.std.specs.Prelude.{◌≡◌};
-ghost use Rattle.served_book.specs.ServerCore.Shown.{disk_of};
+ghost use Rattle.server_core.specs.Shown.{disk_of};
 ghost use Rattle.serve_command.specs.Serving.{Behind, has_failed, has_risen};
 
 use crate::ending::Ending;
 use crate::lines::ended;
-use link_threads::Halt;
-use serve_settings::Bound;
-use served_book::{Book, ServerBook};
-use server_run::Ended;
-use smb_io::{Disk, Sink};
+use crate::server_book::{Book, ServerBook};
+use crate::server_settings::Bound;
+use base_outside::{Disk, Sink};
+use serve_turns::{Ended, Halt};
 use std::alloc::Global;
 
 /// The disk of a server that is no more, and whether the server stopped since a call of the disk failed.

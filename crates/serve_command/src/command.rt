@@ -1,25 +1,22 @@
 //! The command.
 ghost use Rattle.std.specs.Prelude.{◌≡◌, IfOk, None, length, replicate};
-ghost use Rattle.shared_book.specs.Seats.{Closes};
-ghost use Rattle.shared_book.specs.Words.{view_of, IsSeatOf};
-ghost use Rattle.served_book.specs.Steps.{Steps};
-ghost use Rattle.serve_command.specs.Ends.{Ends};
-ghost use Rattle.served_book.specs.ServerCore.declared.server.Server.{Server};
-ghost use Rattle.serve_command.specs.Serving.{AreServedBy, HasServed, Opens, Serves, ServesOn, Starts, accepted, listed};
+ghost use Rattle.serve_turns.specs.shared_book.Seats.{Closes};
+ghost use Rattle.serve_turns.specs.shared_book.Words.{view_of, IsSeatOf};
+ghost use Rattle.serve_command.specs.server_book.Steps.{Steps};
+ghost use Rattle.serve_command.specs.Ends.{ServingEnds};
+ghost use Rattle.server_core.specs.declared.server.Server.{Server};
+ghost use Rattle.serve_command.specs.Serving.{AreServedBy, HasServed, ServingOpens, Serves, ServesOn, Starts};
+ghost use Rattle.serve_command.specs.Serving.{serving_accepted, serving_listed};
 
 use crate::behind::{Left, behind, left_of};
 use crate::ending::Ending;
 use crate::opening::{settled, unbegun};
-use conn_turns::Connections;
-use link_threads::{Served, serve_links};
+use crate::server_book::{Book, Server, ServerBook};
+use crate::server_settings::{Bound, Said};
+use base_outside::{Clock, Disk, Failed, Net, Sink, Source};
 use rand_core::Rng;
-use serve_settings::{Bound, Said};
-use served_book::{Book, Server, ServerBook};
+use serve_turns::{BookSeat, Connections, Ended, Roll, Served, SharedBook, serve_links};
 use server_checks::Config;
-use server_run::{Ended, Roll};
-use shared_book::{BookSeat, SharedBook};
-use smb_io::{Disk, Failed, Sink, Source};
-use smb_net::{Clock, Net};
 use std::alloc::{AllocError, Global};
 use std::sync::{Mutex, Wait};
 use std::thread::Threads;
@@ -57,7 +54,7 @@ where
     N: Net + Drop,
     C: Clock + Drop + Send,
     R: Rng + Drop + Send,
-    ensures { Ends D.told D.seen D.may_leave D.faults N.listens_at N.accepted N.faults said.now disk (S.left source.old)
+    ensures { ServingEnds D.told D.seen D.may_leave D.faults N.listens_at N.accepted N.faults said.now disk (S.left source.old)
         (S.left source.new) (S.faults source.old) (S.faults source.new) (O.written sink.old) (O.written sink.new) (O.faults sink.old)
         (O.faults sink.new) net result.net result.disk result.ending }
 {
@@ -141,7 +138,7 @@ fn opened<D: Disk + Drop>(
     count: usize,
 ) -> Result<(SharedBook<ServerBook<D>>, Roll<ServerBook<D>, Ended>), AllocError>
     ensures own { IfOk result (λ r. IsSeatOf r.0 r.1.seat) }
-    ensures opens { IfOk result (λ r. Opens server (view_of r.1.seat)) }
+    ensures opens { IfOk result (λ r. ServingOpens server (view_of r.1.seat)) }
     ensures served { IfOk result (λ r. AreServedBy (view_of r.1.seat) r.1.ends.items) }
     ensures room { IfOk result (λ r. length r.1.ends.items ≡ count) }
 {
@@ -154,7 +151,7 @@ fn opened<D: Disk + Drop>(
 
 /// How many links are told in the end.
 fn listed(bound: Option<Bound>) -> usize
-    ensures { result ≡ listed bound }
+    ensures { result ≡ serving_listed bound }
 {
     match bound {
         Some(bound) => bound.count,
@@ -164,7 +161,7 @@ fn listed(bound: Option<Bound>) -> usize
 
 /// How many links are accepted.
 fn accepted(bound: Option<Bound>) -> usize
-    ensures { result ≡ accepted bound }
+    ensures { result ≡ serving_accepted bound }
 {
     match bound {
         Some(bound) => bound.count,
@@ -263,8 +260,9 @@ where
     R: Rng + Drop + Send,
     requires own { IsSeatOf book roll.seat }
     requires served { AreServedBy (view_of roll.seat) roll.ends.items }
-    requires room { length roll.ends.items ≡ listed said.now.bound }
-    ensures { (server : Server D) → Opens server (view_of roll.seat) → HasServed D.told D.seen D.may_leave D.faults N.listens_at N.accepted
+    requires room { length roll.ends.items ≡ serving_listed said.now.bound }
+    ensures { (server : Server D) → ServingOpens server (view_of roll.seat) → HasServed D.told D.seen D.may_leave
+        D.faults N.listens_at N.accepted
         N.faults before said.now.bound server (O.written sink.old) (O.written sink.new) (O.faults sink.old) (O.faults sink.new) net
         result.net result.disk result.ending }
 {

@@ -1,3 +1,6 @@
+//! The command `serve`: its words and settings, the server as a book of many connections, and each ending. It is a room
+//! because it is one command with its clause. The program stands on it.
+//!
 //! What `serve` does: settings from a source, a server on a disk, and connections from a net, each on a thread of its own.
 #![tactic(auto)]
 
@@ -7,8 +10,12 @@ mod ending;
 mod lines;
 mod opening;
 mod printing;
+mod server_book;
+mod server_settings;
 
 pub use command::{Finished, serve, serve_with};
 pub use ending::Ending;
 pub use opening::settled;
 pub use printing::usage;
+pub use server_book::{Book, Server, ServerBook};
+pub use server_settings::{Bound, Said, config_in, read_words};

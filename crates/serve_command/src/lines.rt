@@ -1,18 +1,16 @@
 //! The lines on the connections that were served.
 ghost use Rattle.std.specs.Prelude.{◌≡◌, IfOk};
 ghost use Rattle.std.specs.String.{string_bytes};
-ghost use Rattle.server_run.specs.Lines.{ended_lines};
+ghost use Rattle.serve_turns.specs.link_serving.Lines.{ended_lines};
 ghost use Rattle.serve_command.specs.Printing.{PrintsIfRoom};
 ghost use Rattle.serve_command.specs.Serving.{Tells, front_of};
 ghost use Rattle.serve_command.specs.declared.ending.Ending.TheVariants.{Done};
 
 use crate::ending::Ending;
-use link_threads::Halt;
+use crate::server_settings::Bound;
+use base_outside::{Failed, Sink, write_all};
 use log::LevelFilter;
-use outside_calls::write_all;
-use serve_settings::Bound;
-use server_run::{Ended, push_lines};
-use smb_io::{Failed, Sink};
+use serve_turns::{Ended, Halt, push_lines};
 use std::alloc::{AllocError, Global};
 
 /// How the first links ended, up to one of which no end is told.

@@ -1,18 +1,16 @@
 //! Settings that are read, and a server that doesn't begin.
 ghost use Rattle.std.specs.Prelude.{◌≡◌, IfOk};
 ghost use Rattle.std.specs.String.{string_bytes};
-ghost use Rattle.serve_command.specs.Opening.{IsUnbegun, Settles, Takes};
+ghost use Rattle.serve_command.specs.Opening.{IsUnbegun, OpeningSettles, Takes};
 ghost use Rattle.serve_command.specs.Printing.{PrintsIfRoom, journal_line};
 ghost use Rattle.serve_command.specs.declared.ending.Ending.TheVariants.{NoJournal};
 
 use crate::ending::Ending;
-use outcome_lines::refusal_line;
-use outside_calls::{ReadError, read_script, write_all};
-use persist_journal::JournalError;
-use script_words::Fault;
-use serve_settings::{Said, config_in};
+use crate::server_settings::{Said, config_in};
+use base_outside::{Failed, ReadError, Sink, Source, read_script, write_all};
+use journal::JournalError;
+use script_words::{Fault, refusal_line};
 use server_checks::Config;
-use smb_io::{Failed, Sink, Source};
 use std::alloc::{AllocError, Global};
 
 /// Reads settings from a source, for a server at the address that the words say. Where it gives none the command has ended so.
@@ -22,7 +20,7 @@ pub fn settled<S: Source, O: Sink>(
     source: &mut S,
     sink: &mut O,
 ) -> Result<Config, Ending>
-    ensures { Settles said.now.address (S.left source.old) (S.left source.new) (S.faults source.old) (S.faults source.new)
+    ensures { OpeningSettles said.now.address (S.left source.old) (S.left source.new) (S.faults source.old) (S.faults source.new)
         (O.written sink.old) (O.written sink.new) (O.faults sink.old) (O.faults sink.new) result }
 {
     match read_script(alloc, source) {

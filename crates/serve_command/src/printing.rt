@@ -4,8 +4,7 @@ ghost use Rattle.serve_command.specs.Printing.{Prints, usage_line};
 ghost use Rattle.serve_command.specs.declared.ending.Ending.TheVariants.{Usage};
 
 use crate::ending::Ending;
-use outside_calls::write_all;
-use smb_io::{Failed, Sink};
+use base_outside::{Failed, Sink, write_all};
 
 const USAGE: &str = "usage: smb311 drill, gen SEED OPS, serve ADDR [COUNT LEVEL]\n";
 

@@ -1,14 +1,14 @@
 -- Opens of files that stand below a directory.
 use Rattle.std.proofs.Common.{◌≡◌, ℕ, ◌==◌, Bool, true, false, ◌&&◌, ◌||◌, List, [], ◌∷◌, None, refl, sym, ap}
 use Rattle.std.proofs.Common.{◌∙◌, subst, arith, if◌then◌else◌}
-use Rattle.exchange_defs.specs.Table.{has}
-use Rattle.exchange_defs.specs.State.{Server, Entry}
-use Rattle.exchange_defs.specs.Files.{exists_in, path_in, path_of, is_directory}
-use Rattle.exchange_defs.specs.Texts.{is_below}
-use Rattle.exchange_defs.specs.Opens.{file_has_open}
-use Rattle.exchange_defs.specs.CheckOpen.{open_below}
-use Rattle.file_store.specs.Shown.{Apart, path_at}
-use Rattle.server_law.proofs.Logic.{front_of, back_of}
+use Rattle.spec_exchange.specs.Table.{has}
+use Rattle.spec_exchange.specs.State.{Server, Entry}
+use Rattle.spec_exchange.specs.Files.{exists_in, path_in, path_of, is_directory}
+use Rattle.spec_exchange.specs.Texts.{is_below}
+use Rattle.spec_exchange.specs.Opens.{file_has_open}
+use Rattle.spec_exchange.specs.CheckOpen.{open_below}
+use Rattle.store_files.specs.file_tree.Shown.{FileApart, path_at}
+use Rattle.law_server.proofs.tables.Logic.{front_of, back_of}
 use Rattle.server_checks.specs.Looks.{any_open}
 
 -- an open file that stands below a path
@@ -90,7 +90,7 @@ behind s x xs path n found = by (x.file == found.file) refl
       opens = found.opens;
     }
 
-below_found : (s : Server) (es : List Entry) (path : List ℕ) → Apart es → open_below s es path ≡ true → Found s es path
+below_found : (s : Server) (es : List Entry) (path : List ℕ) → FileApart es → open_below s es path ≡ true → Found s es path
 unfolding open_below exists_in path_in
 below_found s [] path a e = absurd (cc)
 below_found s (x ∷ xs) path a e = by (is_below path x.path && file_has_open s x.file) refl (λ k. below_found s xs path a.2 k)
@@ -119,7 +119,7 @@ found_below s (x ∷ xs) path g t b o = by (x.file == g) refl (λ u v. found_bel
     by false k rest = either_true (is_below path x.path && file_has_open s x.file) (open_below s xs path)
         (rest (rw k at t) (rw k at b))
 
-pub below_is : (s : Server) (fs : List ℕ) (d : ℕ) → Apart s.entries
+pub below_is : (s : Server) (fs : List ℕ) (d : ℕ) → FileApart s.entries
     → ((g : ℕ) → has g fs ≡ (is_directory s d && (exists_in s.entries g && is_below (path_of s d) (path_in s.entries g))))
     → any_open s fs ≡ (is_directory s d && open_below s s.entries (path_of s d))
 below_is s fs d a h = by (any_open s fs) refl

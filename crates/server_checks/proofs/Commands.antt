@@ -2,15 +2,15 @@
 use Rattle.std.proofs.Common.{◌≡◌, ◌<◌, ℕ, ◌+◌, ◌==◌, nat_lt, nat_le, Bool, true, false, not, if◌then◌else◌, List, [], ◌∷◌}
 use Rattle.std.proofs.Common.{length, Option, Some, None, refl, ap, arith}
 use Rattle.std.proofs.lemmas.Bool.Decides.{nat_tests}
-use Rattle.exchange_defs.specs.Check.{tree_command, on_open}
-use Rattle.exchange_defs.specs.Commands as asks
-use Rattle.exchange_defs.specs.Commands.{Element, lock_form, transfer_form}
-use Rattle.exchange_defs.specs.State.{Server, Message}
-use Rattle.exchange_defs.specs.Status.{invalid_parameter, not_supported}
-use Rattle.exchange_defs.specs.Table.{is_filled}
-use Rattle.exchange_defs.specs.Verdict.{Refuse}
-use Rattle.server_checks.specs.Looks.{IsOnOpen, IsShort, open_command}
-use Rattle.server_verdicts.specs.Looks.{file_in}
+use Rattle.spec_exchange.specs.Check.{tree_command, on_open}
+use Rattle.spec_exchange.specs.Commands as asks
+use Rattle.spec_exchange.specs.Commands.{Element, lock_form, transfer_form}
+use Rattle.spec_exchange.specs.State.{Server, Message}
+use Rattle.spec_exchange.specs.Status.{invalid_parameter, not_supported}
+use Rattle.spec_exchange.specs.Table.{is_filled}
+use Rattle.spec_exchange.specs.Verdict.{Refuse}
+use Rattle.server_checks.specs.Looks.{IsOnOpen, IsListingShort, open_command}
+use Rattle.server_checks.specs.verdicts.Looks.{file_in}
 
 -- a request that names no open
 pub unnamed_is : (s : Server) (m : Message) (pipes : Bool) (c : asks.Command) → IsOnOpen c → file_in c ≡ None
@@ -75,7 +75,7 @@ abbrev ended_form : Bool → Option ℕ
 ended_form c = if c then None else Some invalid_parameter
 
 -- a write that keeps its form
-pub short_write : (at : ℕ) (bytes : List ℕ) (channel : ℕ) → transfer_form at (length bytes) channel ≡ None → IsShort at bytes
+pub short_write : (at : ℕ) (bytes : List ℕ) (channel : ℕ) → transfer_form at (length bytes) channel ≡ None → IsListingShort at bytes
 short_write at bytes channel e = record {
   few = few (nat_lt 1048576 (length bytes)) refl;
   low = low (nat_lt 1048576

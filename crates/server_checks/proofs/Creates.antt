@@ -4,38 +4,38 @@ use Rattle.std.proofs.Common.{refl, sym, ap}
 use Rattle.std.proofs.Common.{◌∙◌, arith}
 use Rattle.std.specs.Prelude.{option_map}
 use Rattle.std.proofs.lemmas.Bool.Decides.{nat_tests}
-use Rattle.command_values.specs.Meaning.{durable_of}
-use Rattle.command_values.specs.declared.command.Durable.{Durable}
-use Rattle.exchange_defs.specs.CheckCreate.{guid_check, has_guid, live_check, max_guids, new_check, reconnect_check, refusal_check}
-use Rattle.exchange_defs.specs.Commands as asks
-use Rattle.exchange_defs.specs.CheckOpen.{target_of}
-use Rattle.exchange_defs.specs.Files.{exists, find}
-use Rattle.exchange_defs.specs.State.{Server, Message}
-use Rattle.exchange_defs.specs.Table.{is_at}
-use Rattle.exchange_defs.specs.Texts.{same_name}
-use Rattle.exchange_defs.specs.Status.{access_denied, duplicate_objectid, object_name_not_found}
-use Rattle.exchange_defs.specs.Verdict.{Verdict, Refuse, Attach}
-use Rattle.open_index.specs.Keep.{capped, kept_of}
-use Rattle.open_index.specs.declared.keep.KeptCreate.{KeptCreate}
-use Rattle.open_index.specs.declared.keep.KeptCreate.TheVariants as told
-use Rattle.open_table.specs.Changes.{attach_refusal}
-use Rattle.open_table.specs.Rows.{RowFound}
-use Rattle.open_table.specs.declared.row.Row.{Row}
-use Rattle.server_law.proofs.Checked.{found_exists}
+use Rattle.wire_commands.specs.values.Meaning.{durable_of}
+use Rattle.wire_commands.specs.declared.values.command.Durable.{Durable}
+use Rattle.spec_exchange.specs.CheckCreate.{guid_check, has_guid, live_check, max_guids, new_check, reconnect_check, refusal_check}
+use Rattle.spec_exchange.specs.Commands as asks
+use Rattle.spec_exchange.specs.CheckOpen.{target_of}
+use Rattle.spec_exchange.specs.Files.{exists, find}
+use Rattle.spec_exchange.specs.State.{Server, Message}
+use Rattle.spec_exchange.specs.Table.{is_at}
+use Rattle.spec_exchange.specs.Texts.{same_name}
+use Rattle.spec_exchange.specs.Status.{access_denied, duplicate_objectid, object_name_not_found}
+use Rattle.spec_exchange.specs.Verdict.{Verdict, Refuse, Attach}
+use Rattle.store_opens.specs.open_index.Keep.{keep_capped, kept_of}
+use Rattle.store_opens.specs.declared.open_index.keep.KeptCreate.{KeptCreate}
+use Rattle.store_opens.specs.declared.open_index.keep.KeptCreate.TheVariants as told
+use Rattle.store_opens.specs.open_table.Changes.{attach_refusal}
+use Rattle.store_opens.specs.open_table.Rows.{OpenRowFound}
+use Rattle.store_opens.specs.declared.open_table.row.Row.{Row}
+use Rattle.law_server.proofs.tables.Checked.{found_exists}
 use Rattle.server_checks.specs.Looks.{row_check}
 
 -- ---- counts
 
-full_on : (n : ℕ) → nat_le max_guids n ≡ true → nat_le max_guids (capped n) ≡ true
+full_on : (n : ℕ) → nat_le max_guids n ≡ true → nat_le max_guids (keep_capped n) ≡ true
 full_on n e = grind (arith, nat_tests)
 
-full_off : (n : ℕ) → nat_le max_guids n ≡ false → nat_le max_guids (capped n) ≡ false
+full_off : (n : ℕ) → nat_le max_guids n ≡ false → nat_le max_guids (keep_capped n) ≡ false
 full_off n e = grind (arith, nat_tests)
 
-pub full_capped : (n : ℕ) → nat_le max_guids (capped n) ≡ nat_le max_guids n
+pub full_capped : (n : ℕ) → nat_le max_guids (keep_capped n) ≡ nat_le max_guids n
 full_capped n = by (nat_le max_guids n) refl
   where
-    by : (b : Bool) → nat_le max_guids n ≡ b → nat_le max_guids (capped n) ≡ b
+    by : (b : Bool) → nat_le max_guids n ≡ b → nat_le max_guids (keep_capped n) ≡ b
     by true k = full_on n k
     by false k = full_off n k
 
@@ -100,7 +100,7 @@ unkept s m r d h = none_case (s.closed m.session_id d.guid) (s.expired_guids m.c
 
 -- ---- a live open
 
-pub live_by_row : (s : Server) (m : Message) (r : asks.CreateRequest) (o : ℕ) (row : Row) (user : List ℕ) → RowFound (Some row) s o
+pub live_by_row : (s : Server) (m : Message) (r : asks.CreateRequest) (o : ℕ) (row : Row) (user : List ℕ) → OpenRowFound (Some row) s o
     → user ≡ s.user m.session_id → row_check m r o row user ≡ live_check s m r o
 live_by_row s m r o row user h e = rw (h.1.session_is, h.1.opened_is, e) refl
 

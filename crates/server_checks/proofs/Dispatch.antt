@@ -1,23 +1,23 @@
 -- Which check a command comes to.
 use Rattle.std.proofs.Common.{◌≡◌, ℕ, ◌==◌, Bool, true, false, if◌then◌else◌, List, None, Bor, refl, sym, ap, ◌∙◌}
-use Rattle.command_values.specs.Meaning.{command_of}
-use Rattle.command_values.specs.declared.command.Command.{Command}
-use Rattle.command_values.specs.declared.command.Command.TheVariants.{Unreadable, Aside, Setup, Logoff, TreeConnect}
-use Rattle.command_values.specs.declared.command.Command.TheVariants.{TreeDisconnect, Create, Close, Flush, Read, Write, Lock}
-use Rattle.command_values.specs.declared.command.Command.TheVariants.{Ioctl, ListDirectory, QueryFile, QueryVolume, SetInfo}
-use Rattle.command_values.specs.declared.command.CreateRequest.{CreateRequest}
-use Rattle.command_values.specs.declared.setup.SetupRequest.{SetupRequest}
-use Rattle.exchange_defs.specs.Check.{command_check, on_open, tree_command, with_tree}
-use Rattle.exchange_defs.specs.CheckOpen.{free_ioctl_check, ioctl_check}
-use Rattle.exchange_defs.specs.Commands as asks
-use Rattle.exchange_defs.specs.Commands.{form, is_setup, no_file}
-use Rattle.exchange_defs.specs.Opens.{is_of_session}
-use Rattle.exchange_defs.specs.State.{Server, Message}
-use Rattle.exchange_defs.specs.Status.{file_closed}
-use Rattle.exchange_defs.specs.Verdict.{Verdict, Refuse}
+use Rattle.wire_commands.specs.values.Meaning.{command_of}
+use Rattle.wire_commands.specs.declared.values.command.Command.{Command}
+use Rattle.wire_commands.specs.declared.values.command.Command.TheVariants.{Unreadable, Aside, Setup, Logoff, TreeConnect}
+use Rattle.wire_commands.specs.declared.values.command.Command.TheVariants.{TreeDisconnect, Create, Close, Flush, Read, Write, Lock}
+use Rattle.wire_commands.specs.declared.values.command.Command.TheVariants.{Ioctl, ListDirectory, QueryFile, QueryVolume, SetInfo}
+use Rattle.wire_commands.specs.declared.values.command.CreateRequest.{CreateRequest}
+use Rattle.wire_commands.specs.declared.values.setup.SetupRequest.{SetupRequest}
+use Rattle.spec_exchange.specs.Check.{command_check, on_open, tree_command, with_tree}
+use Rattle.spec_exchange.specs.CheckOpen.{free_ioctl_check, ioctl_check}
+use Rattle.spec_exchange.specs.Commands as asks
+use Rattle.spec_exchange.specs.Commands.{form, is_setup, no_file}
+use Rattle.spec_exchange.specs.Opens.{is_of_session}
+use Rattle.spec_exchange.specs.State.{Server, Message}
+use Rattle.spec_exchange.specs.Status.{file_closed}
+use Rattle.spec_exchange.specs.Verdict.{Verdict, Refuse}
 use Rattle.server_checks.proofs.Commands.{short_write}
 use Rattle.server_checks.proofs.Passed.{then_is}
-use Rattle.server_checks.specs.Looks.{IsOnOpen, IsShort}
+use Rattle.server_checks.specs.Looks.{IsOnOpen, IsListingShort}
 
 -- ---- on a tree
 
@@ -99,7 +99,7 @@ free_is s m pipes o code room e = then_is (o == no_file) (free_ioctl_check s cod
 
 -- a write that keeps its form
 pub short_of : (c : Command) (f p : ℕ) (bytes : Bor (List ℕ)) (channel : ℕ) → c ≡ Write f p bytes channel → form (command_of c) ≡ None
-    → IsShort p bytes.now
+    → IsListingShort p bytes.now
 short_of c f p bytes channel e g = short_write p bytes.now channel (sym (ap (λ (z : Command). form (command_of z)) e) ∙ g)
 
 pub on_this : (s : Server) (m : Message) (o : ℕ) (v : Verdict) → is_of_session s o m.session_id ≡ true → v ≡ on_open s m o v

@@ -3,14 +3,14 @@ use Rattle.std.proofs.Common.{◌≡◌, ℕ, ◌-◌, Bool, true, false, List, 
 use Rattle.std.proofs.Common.{sym, ap}
 use Rattle.std.proofs.Common.{◌∙◌, arith}
 use Rattle.std.specs.Prelude.{option_map}
-use Rattle.exchange_defs.specs.CheckOpen.{file_of, list_from, listing_of, none_wanted}
-use Rattle.exchange_defs.specs.Listing.{all_named, fitting, last_name, one_or_all, wanted}
-use Rattle.exchange_defs.specs.State.{Server, Named, Listing}
-use Rattle.exchange_defs.specs.Status.{info_length_mismatch, no_more_files, no_such_file}
-use Rattle.exchange_defs.specs.Table.{is_filled}
-use Rattle.exchange_defs.specs.Verdict.{Show, TurnDown}
-use Rattle.file_store.specs.Listed.{model_named}
-use Rattle.file_store.specs.declared.list.Entry.{Entry}
+use Rattle.spec_exchange.specs.CheckOpen.{file_of, list_from, listing_of, none_wanted}
+use Rattle.spec_exchange.specs.Listing.{all_named, fitting, last_name, one_or_all, wanted}
+use Rattle.spec_exchange.specs.State.{Server, Named, Listing}
+use Rattle.spec_exchange.specs.Status.{info_length_mismatch, no_more_files, no_such_file}
+use Rattle.spec_exchange.specs.Table.{is_filled}
+use Rattle.spec_exchange.specs.Verdict.{Show, TurnDown}
+use Rattle.store_files.specs.file_tree.Listed.{model_named}
+use Rattle.store_files.specs.declared.file_tree.list.Entry.{Entry}
 
 pub some_mapped : {X Y : Type 0} (f : X → Y) (o : Option X) → is_some o ≡ is_some (option_map f o)
 some_mapped f None = refl

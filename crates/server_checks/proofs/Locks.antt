@@ -1,16 +1,16 @@
 -- Ranges that a LOCK names, and what refuses it.
 use Rattle.std.proofs.Common.{◌≡◌, ℕ, true, false, List, [], ◌∷◌, Some, map, refl, sym, ap, ◌∙◌, subst}
 use Rattle.std.specs.Prelude.{Result, MatchResult}
-use Rattle.exchange_defs.specs.Commands.{Element, all_lock}
-use Rattle.exchange_defs.specs.Ranges.{RangeAnswer, Stands, Denied, change_ranges, lock_ranges, unlock_ranges, ranges_of}
-use Rattle.exchange_defs.specs.State as model
-use Rattle.exchange_defs.specs.Table.{is_filled}
-use Rattle.open_table.specs.Locks.{DeniedBy}
-use Rattle.share_modes.specs.Locking.{range_of}
-use Rattle.share_modes.specs.declared.lists.Range.{Range}
-use Rattle.share_modes.specs.declared.ranges.RangeError.{RangeError}
-use Rattle.share_modes.specs.declared.ranges.RangeError.TheVariants.{Memory, NotGranted, NotLocked, Conflict, BadRange, TooMany}
-use Rattle.server_verdicts.specs.Looks.{told_by}
+use Rattle.spec_exchange.specs.Commands.{Element, all_lock}
+use Rattle.spec_exchange.specs.Ranges.{RangeAnswer, Stands, Denied, change_ranges, lock_ranges, unlock_ranges, ranges_of}
+use Rattle.spec_exchange.specs.State as model
+use Rattle.spec_exchange.specs.Table.{is_filled}
+use Rattle.store_opens.specs.open_table.Locks.{DeniedBy}
+use Rattle.store_opens.specs.share_modes.Locking.{range_of}
+use Rattle.store_opens.specs.declared.share_modes.lists.Range.{Range}
+use Rattle.store_opens.specs.declared.share_modes.ranges.RangeError.{RangeError}
+use Rattle.store_opens.specs.declared.share_modes.ranges.RangeError.TheVariants.{Memory, NotGranted, NotLocked, Conflict, BadRange, TooMany}
+use Rattle.server_checks.specs.verdicts.Looks.{told_by}
 
 pub named_filled : (o : ℕ) (es : List Element) (rs : List Range) → map range_of rs ≡ ranges_of o es → is_filled es ≡ true
     → is_filled rs ≡ true

@@ -1,9 +1,9 @@
 -- Reads and listings, by the file of their open.
 use Rattle.std.proofs.Common.{◌≡◌, ℕ, Bool, true, false, ◌||◌, List, refl, subst}
-use Rattle.exchange_defs.specs.CheckOpen.{begins_at, file_of, has_access, list_check, list_from, read_check}
-use Rattle.exchange_defs.specs.Files.{is_directory}
-use Rattle.exchange_defs.specs.Ranges.{may_read}
-use Rattle.exchange_defs.specs.State.{Server}
+use Rattle.spec_exchange.specs.CheckOpen.{begins_at, file_of, has_access, list_check, list_from, read_check}
+use Rattle.spec_exchange.specs.Files.{is_directory}
+use Rattle.spec_exchange.specs.Ranges.{may_read}
+use Rattle.spec_exchange.specs.State.{Server}
 use Rattle.server_checks.specs.Looks.{read_bytes}
 
 pub read_is : (s : Server) (o f at size minimum : ℕ) → (has_access s o 0x1 || has_access s o 0x20) ≡ true → is_directory s f ≡ false

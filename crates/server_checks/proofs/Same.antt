@@ -1,7 +1,7 @@
 -- Bytes of texts.
 use Rattle.std.proofs.Common.{◌≡◌, ℕ, List, [], ◌∷◌, refl}
 use Rattle.std.specs.Str.{bytes_eq}
-use Rattle.exchange_defs.specs.Content.{same_bytes}
+use Rattle.spec_exchange.specs.Content.{same_bytes}
 
 pub same_is : (a b : List ℕ) → same_bytes a b ≡ bytes_eq a b
 unfolding same_bytes

@@ -1,15 +1,15 @@
 -- The session of a request.
 use Rattle.std.proofs.Common.{◌≡◌, ℕ, ◌==◌, nat_le, List, Bool, true, false, ◌&&◌, ◌||◌, if◌then◌else◌, None, refl, sym, ap}
-use Rattle.exchange_defs.specs.Check.{check, has_session, owed}
-use Rattle.exchange_defs.specs.CheckSetup.{binding_check, granted_session, live_binding, max_sessions, previous_of}
-use Rattle.exchange_defs.specs.Commands.{is_setup, SetupRequest}
-use Rattle.exchange_defs.specs.State.{Server, Message}
-use Rattle.exchange_defs.specs.Status.{access_denied, insufficient_resources, user_session_deleted}
-use Rattle.exchange_defs.specs.Verdict.{Verdict, Begin, Refuse}
-use Rattle.server_law.proofs.Logic.{at_of}
-use Rattle.server_law.specs.Fits.{Fits}
-use Rattle.session_bind.specs.declared.row.Purpose.{Purpose}
-use Rattle.session_bind.specs.declared.row.Purpose.TheVariants.{New, Binding}
+use Rattle.spec_exchange.specs.Check.{check, has_session, owed}
+use Rattle.spec_exchange.specs.CheckSetup.{binding_check, granted_session, live_binding, max_sessions, previous_of}
+use Rattle.spec_exchange.specs.Commands.{is_setup, SetupRequest}
+use Rattle.spec_exchange.specs.State.{Server, Message}
+use Rattle.spec_exchange.specs.Status.{access_denied, insufficient_resources, user_session_deleted}
+use Rattle.spec_exchange.specs.Verdict.{Verdict, Begin, Refuse}
+use Rattle.law_server.proofs.tables.Logic.{at_of}
+use Rattle.law_server.specs.tables.Fits.{Fits}
+use Rattle.server_checks.specs.declared.session_table.row.Purpose.{Purpose}
+use Rattle.server_checks.specs.declared.session_table.row.Purpose.TheVariants.{New, Binding}
 use Rattle.server_checks.proofs.Passed.{else_is, then_is}
 use Rattle.server_checks.specs.Looks.{HasItsSession, is_made_for}
 

@@ -2,12 +2,12 @@
 use Rattle.std.proofs.Common.{◌≡◌, ℕ, ◌-◌, ◌==◌, min, nat_lt, if◌then◌else◌, Bool, true, false, List, length, refl, sym, ap, ◌∙◌, arith}
 use Rattle.std.proofs.lemmas.List.{append-nil}
 use Rattle.std.proofs.Math.Seq.{take-length}
-use Rattle.exchange_defs.specs.CheckOpen.{allocation_change, changes_nothing}
-use Rattle.exchange_defs.specs.Content.{ended, padded, same_bytes}
-use Rattle.exchange_defs.specs.Files.{allocated}
-use Rattle.exchange_defs.specs.State.{Server}
-use Rattle.exchange_defs.specs.Verdict.{PutEnd, PutNothing}
-use Rattle.exchange_defs.proofs.Content.{length-ended, same_bytes-true, same_bytes-refl}
+use Rattle.spec_exchange.specs.CheckOpen.{allocation_change, changes_nothing}
+use Rattle.spec_exchange.specs.Content.{ended, padded, same_bytes}
+use Rattle.spec_exchange.specs.Files.{allocated}
+use Rattle.spec_exchange.specs.State.{Server}
+use Rattle.spec_exchange.specs.Verdict.{PutEnd, PutNothing}
+use Rattle.spec_exchange.proofs.Content.{length-ended, same_bytes-true, same_bytes-refl}
 
 whole : (c : List ℕ) → ended (length c) c ≡ c
 unfolding ended padded

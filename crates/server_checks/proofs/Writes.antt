@@ -1,8 +1,8 @@
 -- A replayed write.
 use Rattle.std.proofs.Common.{◌≡◌, ℕ, true, false, List, refl}
-use Rattle.exchange_defs.specs.CheckOpen.{bytes_change, file_of, is_repeated}
-use Rattle.exchange_defs.specs.Content.{is_empty, same_bytes, written}
-use Rattle.exchange_defs.specs.State.{Server, Message}
+use Rattle.spec_exchange.specs.CheckOpen.{bytes_change, file_of, is_repeated}
+use Rattle.spec_exchange.specs.Content.{is_empty, same_bytes, written}
+use Rattle.spec_exchange.specs.State.{Server, Message}
 
 pub never_repeated : (s : Server) (m : Message) (o at : ℕ) (bytes : List ℕ) → m.replay ≡ false
     → false ≡ is_repeated s m o (bytes_change at bytes)

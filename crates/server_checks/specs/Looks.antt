@@ -3,23 +3,23 @@ use Rattle.std.specs.Prelude.{◌≡◌, ℕ, ◌+◌, ◌==◌, Bool, true, fal
 use Rattle.std.specs.Prelude.{◌||◌, Option}
 use Rattle.std.specs.Prelude.{Some, None, nat_le, nat_lt, ◌<◌, is_some}
 use Rattle.std.specs.Prelude.{⊤}
-use Rattle.exchange_defs.specs.CheckOpen.{bytes_change, file_of, there, close_check, flush_check, read_check, write_check}
-use Rattle.exchange_defs.specs.CheckOpen.{lock_check, ioctl_check, list_check, file_query_check, volume_query_check, set_check}
-use Rattle.exchange_defs.specs.CheckSetup.{is_new, is_binding}
-use Rattle.exchange_defs.specs.Commands as asks
-use Rattle.exchange_defs.specs.Content.{is_empty}
-use Rattle.exchange_defs.specs.Files.{passes_room}
-use Rattle.exchange_defs.specs.Listing.{last_name}
-use Rattle.exchange_defs.specs.Opens.{file_has_open}
-use Rattle.exchange_defs.specs.Ranges.{may_write}
-use Rattle.exchange_defs.specs.State as says
-use Rattle.exchange_defs.specs.Status.{disk_full, end_of_file, file_lock_conflict, not_supported, duplicate_objectid, access_denied}
-use Rattle.exchange_defs.specs.Table.{is_at, is_filled}
-use Rattle.exchange_defs.specs.Texts.{same_name}
-use Rattle.open_table.specs.declared.row.Row.{Row}
-use Rattle.exchange_defs.specs.Verdict.{Verdict, Refuse, TurnDown, Tell, Alter, Repeat}
-use Rattle.session_bind.specs.declared.row.Purpose.{Purpose}
-use Rattle.session_bind.specs.declared.row.Purpose.TheVariants.{New, Binding}
+use Rattle.spec_exchange.specs.CheckOpen.{bytes_change, file_of, there, close_check, flush_check, read_check, write_check}
+use Rattle.spec_exchange.specs.CheckOpen.{lock_check, ioctl_check, list_check, file_query_check, volume_query_check, set_check}
+use Rattle.spec_exchange.specs.CheckSetup.{is_new, is_binding}
+use Rattle.spec_exchange.specs.Commands as asks
+use Rattle.spec_exchange.specs.Content.{is_empty}
+use Rattle.spec_exchange.specs.Files.{passes_room}
+use Rattle.spec_exchange.specs.Listing.{last_name}
+use Rattle.spec_exchange.specs.Opens.{file_has_open}
+use Rattle.spec_exchange.specs.Ranges.{may_write}
+use Rattle.spec_exchange.specs.State as says
+use Rattle.spec_exchange.specs.Status.{disk_full, end_of_file, file_lock_conflict, not_supported, duplicate_objectid, access_denied}
+use Rattle.spec_exchange.specs.Table.{is_at, is_filled}
+use Rattle.spec_exchange.specs.Texts.{same_name}
+use Rattle.store_opens.specs.declared.open_table.row.Row.{Row}
+use Rattle.spec_exchange.specs.Verdict.{Verdict, Refuse, TurnDown, Tell, Alter, Repeat}
+use Rattle.server_checks.specs.declared.session_table.row.Purpose.{Purpose}
+use Rattle.server_checks.specs.declared.session_table.row.Purpose.TheVariants.{New, Binding}
 
 -- what is in the making is for this purpose
 abbrev pub is_made_for : Purpose → Option says.Making → Bool
@@ -46,7 +46,7 @@ read_bytes s o f at size minimum =
     else Tell o (says.Content (take size (drop at (s.content f))))
 
 -- a write that keeps its form
-pub record IsShort (at : ℕ) (bytes : List ℕ) : Type 0 where
+pub record IsListingShort (at : ℕ) (bytes : List ℕ) : Type 0 where
   pub few : nat_le (length bytes) 1048576 ≡ true
   pub low : at + length bytes < 0x8000_0000_0000_0000
 
@@ -72,9 +72,9 @@ row_check m r o row user =
     else Refuse access_denied
 
 -- the name of the last of a list, which a listing goes on behind; none where the list is empty
-abbrev pub IsLast : Option (List ℕ) → Option (List ℕ) → List says.Named → Type 0
-IsLast None last ns = ns ≡ []
-IsLast (Some name) last ns = (is_filled ns ≡ true) × (last_name last ns ≡ Some name)
+abbrev pub IsListingLast : Option (List ℕ) → Option (List ℕ) → List says.Named → Type 0
+IsListingLast None last ns = ns ≡ []
+IsListingLast (Some name) last ns = (is_filled ns ≡ true) × (last_name last ns ≡ Some name)
 
 -- what a request comes to that names this open of its session
 abbrev pub open_command : says.Server → says.Message → ℕ → asks.Command → Verdict

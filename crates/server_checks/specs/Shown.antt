@@ -1,11 +1,11 @@
 -- The server's tables show a state of the model, column by column.
 use Rattle.std.specs.Prelude.{◌≡◌, min}
-use Rattle.exchange_defs.specs.Fold.{full_room}
-use Rattle.exchange_defs.specs.State as model
-use Rattle.open_table.specs.Shown.{ShowsOpens}
-use Rattle.file_store.specs.Shown.{ShowsFiles}
-use Rattle.session_bind.specs.Shown.{ShowsSessions}
-use Rattle.command_values.specs.Meaning.{address_of}
+use Rattle.spec_exchange.specs.Fold.{full_room}
+use Rattle.spec_exchange.specs.State as model
+use Rattle.store_opens.specs.open_table.Shown.{ShowsOpens}
+use Rattle.store_files.specs.file_tree.Shown.{ShowsFiles}
+use Rattle.server_checks.specs.session_table.Shown.{ShowsSessions}
+use Rattle.wire_commands.specs.values.Meaning.{address_of}
 use Rattle.server_checks.specs.declared.tables.Tables.{Tables}
 
 pub record TablesShown (t : Tables) (s : model.Server) : Type 0 where

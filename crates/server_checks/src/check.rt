@@ -1,23 +1,23 @@
 //! The ordered checks of a message; the first that applies answers (MS-SMB2 3.3.5.2).
 ghost use Rattle.std.specs.Prelude.{◌≡◌, ◌==◌, ◌||◌, true, false, None, is_some, IfOk, IsOk, Bool};
-ghost use Rattle.command_values.specs.Meaning.{command_of, message_of};
-ghost use Rattle.exchange_defs.specs.Check.{check, command_check, formed, has_session, on_open, owed};
-ghost use Rattle.exchange_defs.specs.Check.{tree_command, with_tree};
-ghost use Rattle.exchange_defs.specs.Commands.{Ioctl, form, is_setup, no_file};
-ghost use Rattle.exchange_defs.specs.Opens.{is_of_session};
-ghost use Rattle.exchange_defs.specs.State.{Server};
+ghost use Rattle.wire_commands.specs.values.Meaning.{command_of, message_of};
+ghost use Rattle.spec_exchange.specs.Check.{check, command_check, formed, has_session, on_open, owed};
+ghost use Rattle.spec_exchange.specs.Check.{tree_command, with_tree};
+ghost use Rattle.spec_exchange.specs.Commands.{Ioctl, form, is_setup, no_file};
+ghost use Rattle.spec_exchange.specs.Opens.{is_of_session};
+ghost use Rattle.spec_exchange.specs.State.{Server};
 ghost use Rattle.server_checks.specs.Looks.{HasItsSession, IsOnOpen, open_command};
 ghost use Rattle.server_checks.specs.Shown.{TablesShown};
-ghost use Rattle.server_law.specs.Fits.{Fits};
-ghost use Rattle.server_verdicts.specs.Views.{verdict_of};
+ghost use Rattle.law_server.specs.tables.Fits.{Fits};
+ghost use Rattle.server_checks.specs.verdicts.Views.{verdict_of};
 
 use crate::tables::{Tables, is_at};
-use command_values::{Command, Message};
-use server_verdicts::status::{
+use crate::verdicts::status::{
     FILE_CLOSED, NETWORK_NAME_DELETED, NOT_SUPPORTED, USER_SESSION_DELETED,
 };
-use server_verdicts::{Verdict, file_named, form, is_setup, refuse};
+use crate::verdicts::{Verdict, file_named, form, is_setup, refuse};
 use std::alloc::AllocError;
+use wire_commands::{Command, Message};
 
 // The FileId of 16 bytes FF, by which an IOCTL names no open.
 const NO_FILE: u64 = 0xffff_ffff_ffff_ffff;

@@ -1,34 +1,34 @@
 //! The checks of CREATE (MS-SMB2 3.3.5.9, 3.3.5.9.10, 3.3.5.9.12; MS-FSA 2.1.5.1).
 ghost use Rattle.std.specs.Prelude.{◌≡◌, ◌&&◌, ◌||◌, not, is_some, length, nat_le, nat_lt, if◌then◌else◌, true, None, Some};
-ghost use Rattle.command_values.specs.Meaning.{create_of, durable_of, message_of, reconnect_of};
-ghost use Rattle.exchange_defs.specs.CheckCreate.{after_names, create_check, durable_check, found_names, guid_check, is_counted_out};
-ghost use Rattle.exchange_defs.specs.CheckCreate.{keeps_guid, last_file, live_check, max_files, max_guids, max_opens};
-ghost use Rattle.exchange_defs.specs.CheckCreate.{missing_names, names, new_check};
-ghost use Rattle.exchange_defs.specs.CheckCreate.{reconnect_check, shares};
-ghost use Rattle.exchange_defs.specs.Commands as asks;
-ghost use Rattle.exchange_defs.specs.Commands.{Command, Create, deletes_on_close};
-ghost use Rattle.exchange_defs.specs.Files.{exists, find};
-ghost use Rattle.exchange_defs.specs.State.{Server};
-ghost use Rattle.exchange_defs.specs.Opens.{deletes, mapped, max_ids};
-ghost use Rattle.exchange_defs.specs.Status.{duplicate_objectid};
-ghost use Rattle.exchange_defs.specs.Verdict.{Refuse};
+ghost use Rattle.wire_commands.specs.values.Meaning.{create_of, durable_of, message_of, reconnect_of};
+ghost use Rattle.spec_exchange.specs.CheckCreate.{after_names, create_check, durable_check, found_names, guid_check, is_counted_out};
+ghost use Rattle.spec_exchange.specs.CheckCreate.{keeps_guid, last_file, live_check, max_files, max_guids, max_opens};
+ghost use Rattle.spec_exchange.specs.CheckCreate.{missing_names, names, new_check};
+ghost use Rattle.spec_exchange.specs.CheckCreate.{reconnect_check, shares};
+ghost use Rattle.spec_exchange.specs.Commands as asks;
+ghost use Rattle.spec_exchange.specs.Commands.{Command, Create, deletes_on_close};
+ghost use Rattle.spec_exchange.specs.Files.{exists, find};
+ghost use Rattle.spec_exchange.specs.State.{Server};
+ghost use Rattle.spec_exchange.specs.Opens.{deletes, mapped, max_ids};
+ghost use Rattle.spec_exchange.specs.Status.{duplicate_objectid};
+ghost use Rattle.spec_exchange.specs.Verdict.{Refuse};
 ghost use Rattle.server_checks.specs.Looks.{row_check};
 ghost use Rattle.server_checks.specs.Shown.{TablesShown};
-ghost use Rattle.server_law.specs.Fits.{Fits};
-ghost use Rattle.server_verdicts.specs.Views.{verdict_of};
+ghost use Rattle.law_server.specs.tables.Fits.{Fits};
+ghost use Rattle.server_checks.specs.verdicts.Views.{verdict_of};
 
 use crate::tables::{Tables, is_at};
-use command_values::{CreateRequest, Durable, Message, Reconnect};
-use open_table::{KeptCreate, Row, same_name};
-use server_verdicts::status::{
+use crate::verdicts::status::{
     ACCESS_DENIED, DELETE_PENDING, DUPLICATE_OBJECTID, FILE_IS_A_DIRECTORY, INSUFFICIENT_RESOURCES,
     INVALID_PARAMETER, NOT_A_DIRECTORY, OBJECT_NAME_COLLISION, OBJECT_NAME_NOT_FOUND,
     OBJECT_PATH_NOT_FOUND, SHARING_VIOLATION,
 };
-use server_verdicts::{
+use crate::verdicts::{
     Verdict, action_of, deletes_on_close, empties, has_bit, makes_file, makes_missing, mapped,
     refuse, refused_create, shared_access,
 };
+use store_opens::{KeptCreate, Row, same_name};
+use wire_commands::{CreateRequest, Durable, Message, Reconnect};
 
 const MAX_OPENS: usize = 16_384;
 
@@ -242,7 +242,7 @@ impl Tables {
         }
     }
 
-    #[tactic(auto, unfolding(exchange_defs::specs::CheckCreate::names, exchange_defs::specs::CheckCreate::names_of_found))]
+    #[tactic(auto, unfolding(spec_exchange::specs::CheckCreate::names, spec_exchange::specs::CheckCreate::names_of_found))]
     fn names(&self, request: &CreateRequest, found: Option<u64>) -> Option<u32>
         ensures { (s : Server) → TablesShown self.now s → found ≡ find s request.now.path
             → result ≡ names s (create_of request.now) found }
@@ -253,7 +253,7 @@ impl Tables {
         }
     }
 
-    #[tactic(auto, unfolding(exchange_defs::specs::CheckCreate::names, exchange_defs::specs::CheckCreate::names_of_found))]
+    #[tactic(auto, unfolding(spec_exchange::specs::CheckCreate::names, spec_exchange::specs::CheckCreate::names_of_found))]
     fn absent_names(&self, request: &CreateRequest) -> Option<u32>
         ensures { (s : Server) → TablesShown self.now s → result ≡ names s (create_of request.now) None }
     {
@@ -264,7 +264,7 @@ impl Tables {
     }
 
     // What is there: the status of the first rule that it breaks.
-    #[tactic(auto, unfolding(exchange_defs::specs::CheckCreate::found_names))]
+    #[tactic(auto, unfolding(spec_exchange::specs::CheckCreate::found_names))]
     fn found_names(&self, request: &CreateRequest, file: u64) -> Option<u32>
         ensures { (s : Server) → TablesShown self.now s → exists s file ≡ true
             → result ≡ found_names s (create_of request.now) file }
@@ -303,7 +303,7 @@ impl Tables {
     }
 }
 
-#[tactic(auto, unfolding(exchange_defs::specs::CheckCreate::missing_names))]
+#[tactic(auto, unfolding(spec_exchange::specs::CheckCreate::missing_names))]
 fn missing_names(request: &CreateRequest) -> Option<u32>
     ensures { result ≡ missing_names (create_of request.now) }
 {
@@ -315,7 +315,7 @@ fn missing_names(request: &CreateRequest) -> Option<u32>
 }
 
 // The request may not delete, and is to delete on close.
-#[tactic(auto, unfolding(exchange_defs::specs::Opens::deletes))]
+#[tactic(auto, unfolding(spec_exchange::specs::Opens::deletes))]
 fn lacks_delete(request: &CreateRequest) -> bool
     ensures { result
         ≡ (deletes_on_close (create_of request.now).options && not (deletes (mapped (create_of request.now).access))) }

@@ -1,43 +1,43 @@
 //! The checks of the requests that name an open (MS-SMB2 3.3.5.10 to 3.3.5.20), but for SET_INFO.
 ghost use Rattle.std.specs.Prelude.{◌≡◌, ◌+◌, ◌<◌, ◌||◌, ℕ, true, IfOk, List, MatchResult, None, Option, Some, is_some};
 ghost use Rattle.std.specs.Prelude.{length, map, option_map};
-ghost use Rattle.command_values.specs.Meaning.{body_of, command_of, message_of, named_of};
-ghost use Rattle.exchange_defs.specs.CheckOpen.{begins_at, bytes_change, close_check, file_of, file_query_check, flush_check};
-ghost use Rattle.exchange_defs.specs.CheckOpen.{free_ioctl_check, has_access, ioctl_check, is_repeated, kept_lock, list_check};
-ghost use Rattle.exchange_defs.specs.CheckOpen.{list_from, listing_of, needs_attributes, range_check};
-ghost use Rattle.exchange_defs.specs.CheckOpen.{lock_check, new_lock_check, read_check, timely_write, volume_query_check};
-ghost use Rattle.exchange_defs.specs.CheckOpen.{none_wanted, write_check};
-ghost use Rattle.exchange_defs.specs.Commands.{Command};
-ghost use Rattle.exchange_defs.specs.Files.{exists, info_of, path_of};
-ghost use Rattle.exchange_defs.specs.Ranges.{RangeAnswer, Stands, change_ranges, ranges_of};
-ghost use Rattle.exchange_defs.specs.State as says;
-ghost use Rattle.exchange_defs.specs.State.{FileInfo, Interfaces, Listing, Server};
-ghost use Rattle.exchange_defs.specs.Table.{is_filled};
-ghost use Rattle.file_store.specs.Listed.{model_named};
-ghost use Rattle.open_table.specs.Locks.{DeniedBy};
-ghost use Rattle.server_checks.specs.Looks.{IsLast, IsShort, bytes_or_full, new_bytes, read_bytes};
+ghost use Rattle.wire_commands.specs.values.Meaning.{body_of, command_of, message_of, named_of};
+ghost use Rattle.spec_exchange.specs.CheckOpen.{begins_at, bytes_change, close_check, file_of, file_query_check, flush_check};
+ghost use Rattle.spec_exchange.specs.CheckOpen.{free_ioctl_check, has_access, ioctl_check, is_repeated, kept_lock, list_check};
+ghost use Rattle.spec_exchange.specs.CheckOpen.{list_from, listing_of, needs_attributes, range_check};
+ghost use Rattle.spec_exchange.specs.CheckOpen.{lock_check, new_lock_check, read_check, timely_write, volume_query_check};
+ghost use Rattle.spec_exchange.specs.CheckOpen.{none_wanted, write_check};
+ghost use Rattle.spec_exchange.specs.Commands.{Command};
+ghost use Rattle.spec_exchange.specs.Files.{exists, info_of, path_of};
+ghost use Rattle.spec_exchange.specs.Ranges.{RangeAnswer, Stands, change_ranges, ranges_of};
+ghost use Rattle.spec_exchange.specs.State as says;
+ghost use Rattle.spec_exchange.specs.State.{FileInfo, Interfaces, Listing, Server};
+ghost use Rattle.spec_exchange.specs.Table.{is_filled};
+ghost use Rattle.store_files.specs.file_tree.Listed.{model_named};
+ghost use Rattle.store_opens.specs.open_table.Locks.{DeniedBy};
+ghost use Rattle.server_checks.specs.Looks.{IsListingLast, IsListingShort, bytes_or_full, new_bytes, read_bytes};
 ghost use Rattle.server_checks.specs.Shown.{TablesShown};
-ghost use Rattle.exchange_defs.specs.Verdict.{Show, Tell};
-ghost use Rattle.server_law.specs.Fits.{Fits};
-ghost use Rattle.server_verdicts.specs.Views.{bytes_in, elements_in, verdict_of};
-ghost use Rattle.share_modes.specs.Answers.{AllOf};
-ghost use Rattle.share_modes.specs.Locking.{range_of};
+ghost use Rattle.spec_exchange.specs.Verdict.{Show, Tell};
+ghost use Rattle.law_server.specs.tables.Fits.{Fits};
+ghost use Rattle.server_checks.specs.verdicts.Views.{bytes_in, elements_in, verdict_of};
+ghost use Rattle.store_opens.specs.share_modes.Answers.{AllOf};
+ghost use Rattle.store_opens.specs.share_modes.Locking.{range_of};
 
 use crate::tables::{Tables, info_of};
-use command_values::{Body, Element, Message, Named};
-use file_store::{Entry, Listed};
-use server_verdicts::status::{
+use crate::verdicts::status::{
     ACCESS_DENIED, DISK_FULL, END_OF_FILE, FILE_LOCK_CONFLICT, FILE_NOT_AVAILABLE,
     INFO_LENGTH_MISMATCH, INVALID_DEVICE_REQUEST, INVALID_PARAMETER, NO_MORE_FILES, NO_SUCH_FILE,
     SUCCESS,
 };
-use server_verdicts::{
+use crate::verdicts::{
     Verdict, all_lock, bytes_change, count_of, file_info_size, ioctl_status, is_empty, ranges_of,
     refuse, status_of, turn_down, turn_down_lock, volume_info_size,
 };
-use share_modes::{Range, RangeError};
-use smb_bytes::Text;
 use std::alloc::{AllocError, Global};
+use store_files::{Entry, Listed};
+use store_opens::{Range, RangeError};
+use wire_bytes::Text;
+use wire_commands::{Body, Element, Message, Named};
 
 impl Tables {
     pub(crate) fn check_flush(&self, id: u64) -> Verdict
@@ -136,7 +136,7 @@ impl Tables {
         bytes: &[u8],
     ) -> Result<Verdict, AllocError>
         ensures { (s : Server) → Fits s → TablesShown self.now s → s.standing id ≡ true
-            → bytes_in (command_of m.now.command) ≡ bytes.now → IsShort at bytes.now
+            → bytes_in (command_of m.now.command) ≡ bytes.now → IsListingShort at bytes.now
             → IfOk result (λ v. verdict_of (command_of m.now.command) v
             ≡ write_check s (message_of m.now) id at bytes.now) }
     {
@@ -154,7 +154,7 @@ impl Tables {
         bytes: &[u8],
     ) -> Result<Verdict, AllocError>
         ensures { (s : Server) → Fits s → TablesShown self.now s → s.standing id ≡ true
-            → bytes_in (command_of m.now.command) ≡ bytes.now → IsShort at bytes.now
+            → bytes_in (command_of m.now.command) ≡ bytes.now → IsListingShort at bytes.now
             → IfOk result (λ v. verdict_of (command_of m.now.command) v
             ≡ timely_write s (message_of m.now) id at bytes.now) }
     {
@@ -194,7 +194,7 @@ impl Tables {
     // A write that isn't repeated meets ranges and the room.
     fn check_new_bytes(&self, id: u64, file: u64, at: u64, bytes: &[u8]) -> Verdict
         ensures { (c : Command) (s : Server) → TablesShown self.now s → s.standing id ≡ true → file ≡ file_of s id → exists s file ≡ true
-            → bytes_in c ≡ bytes.now → IsShort at bytes.now → verdict_of c result ≡ new_bytes s id at bytes.now }
+            → bytes_in c ≡ bytes.now → IsListingShort at bytes.now → verdict_of c result ≡ new_bytes s id at bytes.now }
     {
         match self.opens.may_write(id, at, bytes.len() as u64) {
             Ok(()) => self.check_room(id, file, at, bytes),
@@ -205,7 +205,7 @@ impl Tables {
     // The room.
     fn check_room(&self, id: u64, file: u64, at: u64, bytes: &[u8]) -> Verdict
         ensures { (c : Command) (s : Server) → TablesShown self.now s → file ≡ file_of s id → exists s file ≡ true
-            → bytes_in c ≡ bytes.now → IsShort at bytes.now → verdict_of c result ≡ bytes_or_full s id at bytes.now }
+            → bytes_in c ≡ bytes.now → IsListingShort at bytes.now → verdict_of c result ≡ bytes_or_full s id at bytes.now }
     {
         if !is_empty(bytes) && self.tree.passes_room(file, end_of(at, bytes)) {
             return turn_down(id, DISK_FULL);
@@ -561,7 +561,7 @@ fn shown(id: u64, class: u8, last: Text, entries: Vec<Named>) -> Verdict
 
 // The name of the last entry.
 fn last_name(entries: &[Entry]) -> Result<Option<Text>, AllocError>
-    ensures { (last : Option (List ℕ)) → IfOk result (λ n. IsLast n last (map model_named entries.now)) }
+    ensures { (last : Option (List ℕ)) → IfOk result (λ n. IsListingLast n last (map model_named entries.now)) }
 {
     match entries.last() {
         Some(end) => {

@@ -1,27 +1,27 @@
 //! The checks of SET_INFO (MS-SMB2 3.3.5.21, MS-FSA 2.1.5.15).
 ghost use Rattle.std.specs.Prelude.{◌≡◌, ◌==◌, ◌&&◌, ◌||◌, ℕ, List, true, IfOk, length};
-ghost use Rattle.command_values.specs.Meaning.{command_of, message_of, setting_of};
-ghost use Rattle.exchange_defs.specs.CheckOpen.{allocation_change, changes_nothing, delete_names, file_of, open_below};
-ghost use Rattle.exchange_defs.specs.CheckOpen.{rename_names, set_check, setting_check, size_change, target_of, target_refused};
-ghost use Rattle.exchange_defs.specs.Commands.{Command, Rename, SetAllocation, SetBasic, SetDelete, SetEnd};
-ghost use Rattle.exchange_defs.specs.Content.{same_bytes};
-ghost use Rattle.exchange_defs.specs.Files.{allocated, exists, find, is_directory, path_of, same_basic};
-ghost use Rattle.exchange_defs.specs.Opens.{file_has_open};
-ghost use Rattle.exchange_defs.specs.State.{Server};
-ghost use Rattle.exchange_defs.specs.Verdict.{PutDeletePending, PutPath};
+ghost use Rattle.wire_commands.specs.values.Meaning.{command_of, message_of, setting_of};
+ghost use Rattle.spec_exchange.specs.CheckOpen.{allocation_change, changes_nothing, delete_names, file_of, open_below};
+ghost use Rattle.spec_exchange.specs.CheckOpen.{rename_names, set_check, setting_check, size_change, target_of, target_refused};
+ghost use Rattle.spec_exchange.specs.Commands.{Command, Rename, SetAllocation, SetBasic, SetDelete, SetEnd};
+ghost use Rattle.spec_exchange.specs.Content.{same_bytes};
+ghost use Rattle.spec_exchange.specs.Files.{allocated, exists, find, is_directory, path_of, same_basic};
+ghost use Rattle.spec_exchange.specs.Opens.{file_has_open};
+ghost use Rattle.spec_exchange.specs.State.{Server};
+ghost use Rattle.spec_exchange.specs.Verdict.{PutDeletePending, PutPath};
 ghost use Rattle.server_checks.specs.Looks.{any_open};
 ghost use Rattle.server_checks.specs.Shown.{TablesShown};
-ghost use Rattle.server_law.specs.Fits.{Fits};
-ghost use Rattle.server_verdicts.specs.Views.{change_of, path_in, path_in_setting, verdict_of};
+ghost use Rattle.law_server.specs.tables.Fits.{Fits};
+ghost use Rattle.server_checks.specs.verdicts.Views.{change_of, path_in, path_in_setting, verdict_of};
 
 use crate::tables::Tables;
-use command_values::{Basic, Message, Setting};
-use server_verdicts::status::{
+use crate::verdicts::status::{
     ACCESS_DENIED, DIRECTORY_NOT_EMPTY, DISK_FULL, FILE_NOT_AVAILABLE, INVALID_DEVICE_REQUEST,
     INVALID_PARAMETER, OBJECT_NAME_COLLISION, OBJECT_PATH_NOT_FOUND,
 };
-use server_verdicts::{Change, Verdict, altered, refuse, set_basic, target_of, told, turn_down};
+use crate::verdicts::{Change, Verdict, altered, refuse, set_basic, target_of, told, turn_down};
 use std::alloc::AllocError;
+use wire_commands::{Basic, Message, Setting};
 
 impl Tables {
     pub(crate) fn check_set(
@@ -157,7 +157,7 @@ impl Tables {
         }
     }
 
-    #[tactic(auto, unfolding(exchange_defs::specs::CheckOpen::delete_names))]
+    #[tactic(auto, unfolding(spec_exchange::specs::CheckOpen::delete_names))]
     fn delete_names(&self, file: u64, pending: bool) -> Option<u32>
         ensures { (s : Server) → TablesShown self.now s → exists s file ≡ true → result
             ≡ delete_names s file pending }
@@ -213,7 +213,7 @@ impl Tables {
         }
     }
 
-    #[tactic(auto, unfolding(exchange_defs::specs::CheckOpen::rename_names))]
+    #[tactic(auto, unfolding(spec_exchange::specs::CheckOpen::rename_names))]
     fn rename_names(
         &self,
         file: u64,
@@ -296,14 +296,14 @@ fn allocation(size: u64, old: u64) -> Change
     }
 }
 
-#[tactic(auto, unfolding(exchange_defs::specs::Files::allocated))]
+#[tactic(auto, unfolding(spec_exchange::specs::Files::allocated))]
 fn allocated(size: u64, old: u64) -> u64
     ensures { result ≡ allocated size old }
 {
     size.min(old)
 }
 
-#[tactic(auto, unfolding(exchange_defs::specs::Files::same_basic))]
+#[tactic(auto, unfolding(spec_exchange::specs::Files::same_basic))]
 fn same_basic(a: &Basic, b: &Basic) -> bool
     ensures { result ≡ same_basic a.now b.now }
 {

@@ -1,30 +1,30 @@
 //! The checks of SESSION_SETUP and TREE_CONNECT (MS-SMB2 3.3.5.5, 3.3.5.5.2, 3.3.5.5.3, 3.3.5.7).
 ghost use Rattle.std.specs.Prelude.{◌≡◌, ◌==◌, ◌&&◌, if◌then◌else◌, ℕ, nat_le, true, false, None, Some};
-ghost use Rattle.command_values.specs.Meaning.{command_of, message_of, setup_of, shows_of};
-ghost use Rattle.exchange_defs.specs.CheckSetup.{binding_check, first_token, granted_binding};
-ghost use Rattle.exchange_defs.specs.CheckSetup.{granted_session, live_binding, max_numbers, max_sessions, previous_of, second_binding};
-ghost use Rattle.exchange_defs.specs.CheckSetup.{second_token, session_check, setup_check, tree_check};
-ghost use Rattle.exchange_defs.specs.Commands.{Command, Logon, Setup};
-ghost use Rattle.exchange_defs.specs.Opens.{max_ids};
-ghost use Rattle.exchange_defs.specs.State.{Server};
-ghost use Rattle.exchange_defs.specs.Status.{insufficient_resources};
-ghost use Rattle.exchange_defs.specs.Texts.{same_name};
-ghost use Rattle.exchange_defs.specs.Verdict.{Begin, Challenge, Refuse};
+ghost use Rattle.wire_commands.specs.values.Meaning.{command_of, message_of, setup_of, shows_of};
+ghost use Rattle.spec_exchange.specs.CheckSetup.{binding_check, first_token, granted_binding};
+ghost use Rattle.spec_exchange.specs.CheckSetup.{granted_session, live_binding, max_numbers, max_sessions, previous_of, second_binding};
+ghost use Rattle.spec_exchange.specs.CheckSetup.{second_token, session_check, setup_check, tree_check};
+ghost use Rattle.spec_exchange.specs.Commands.{Command, Logon, Setup};
+ghost use Rattle.spec_exchange.specs.Opens.{max_ids};
+ghost use Rattle.spec_exchange.specs.State.{Server};
+ghost use Rattle.spec_exchange.specs.Status.{insufficient_resources};
+ghost use Rattle.spec_exchange.specs.Texts.{same_name};
+ghost use Rattle.spec_exchange.specs.Verdict.{Begin, Challenge, Refuse};
 ghost use Rattle.server_checks.specs.Looks.{is_made_for};
 ghost use Rattle.server_checks.specs.Shown.{TablesShown};
-ghost use Rattle.server_verdicts.specs.Views.{verdict_of};
-ghost use Rattle.server_law.specs.Fits.{Fits};
-ghost use Rattle.session_bind.specs.Shown.{RowFound, making_for};
+ghost use Rattle.server_checks.specs.verdicts.Views.{verdict_of};
+ghost use Rattle.law_server.specs.tables.Fits.{Fits};
+ghost use Rattle.server_checks.specs.session_table.Shown.{SessionRowFound, making_for};
 
+use crate::session_table::{Purpose, SessionRow};
 use crate::tables::Tables;
-use command_values::{Message, SetupRequest, Shows};
-use open_table::same_name;
-use server_verdicts::status::{
+use crate::verdicts::status::{
     ACCESS_DENIED, BAD_NETWORK_NAME, INSUFFICIENT_RESOURCES, INVALID_PARAMETER, LOGON_FAILURE,
     REQUEST_NOT_ACCEPTED, USER_SESSION_DELETED,
 };
-use server_verdicts::{Verdict, check_first_binding, refuse};
-use session_bind::{Purpose, SessionRow};
+use crate::verdicts::{Verdict, check_first_binding, refuse};
+use store_opens::same_name;
+use wire_commands::{Message, SetupRequest, Shows};
 
 const MAX_SESSIONS: usize = 64;
 
@@ -199,7 +199,7 @@ impl Tables {
         request: &SetupRequest,
         row: &SessionRow,
     ) -> Verdict
-        ensures { (s : Server) → Fits s → TablesShown self.now s → RowFound (Some row.now) s m.now.session_id
+        ensures { (s : Server) → Fits s → TablesShown self.now s → SessionRowFound (Some row.now) s m.now.session_id
             → verdict_of (Setup (setup_of request.now)) result ≡ live_binding s (message_of m.now) (setup_of request.now) }
     {
         if !request.signed {
@@ -221,7 +221,7 @@ impl Tables {
 
     fn check_second_binding(&self, m: &Message<'_>, shows: &Shows, row: &SessionRow) -> Verdict
         ensures { (c : Command) (s : Server) → Fits s → TablesShown self.now s
-            → RowFound (Some row.now) s m.now.session_id
+            → SessionRowFound (Some row.now) s m.now.session_id
             → verdict_of c result ≡ second_binding s (message_of m.now) (shows_of shows.now) }
     {
         match shows {
@@ -236,7 +236,7 @@ impl Tables {
 
     fn granted_binding(&self, m: &Message<'_>, user: &str, row: &SessionRow) -> Verdict
         ensures { (c : Command) (s : Server) → Fits s → TablesShown self.now s
-            → RowFound (Some row.now) s m.now.session_id
+            → SessionRowFound (Some row.now) s m.now.session_id
             → verdict_of c result ≡ granted_binding s (message_of m.now) user.now }
     {
         if !is_user_of(user, row) {
@@ -284,7 +284,7 @@ fn own_session(row: &SessionRow, user: &str, session: u64) -> Option<u64>
 
 // The request comes from the client of the session.
 fn is_client(m: &Message<'_>, row: &SessionRow) -> bool
-    ensures { (s : Server) → RowFound (Some row.now) s m.now.session_id
+    ensures { (s : Server) → SessionRowFound (Some row.now) s m.now.session_id
         → result ≡ (m.now.client_guid == s.client m.now.session_id) }
 {
     m.client_guid == row.client
@@ -292,20 +292,20 @@ fn is_client(m: &Message<'_>, row: &SessionRow) -> bool
 
 // The request's connection chose the ciphers of the session.
 fn is_chosen(m: &Message<'_>, request: &SetupRequest, row: &SessionRow) -> bool
-    ensures { (s : Server) → RowFound (Some row.now) s m.now.session_id
+    ensures { (s : Server) → SessionRowFound (Some row.now) s m.now.session_id
         → result ≡ ((request.now.cipher == s.cipher m.now.session_id) && (request.now.signing == s.signing m.now.session_id)) }
 {
     has_ciphers(request, row)
 }
 
 fn is_user_of(user: &str, row: &SessionRow) -> bool
-    ensures { (s : Server) (session : ℕ) → RowFound (Some row.now) s session → result ≡ same_name user.now (s.user session) }
+    ensures { (s : Server) (session : ℕ) → SessionRowFound (Some row.now) s session → result ≡ same_name user.now (s.user session) }
 {
     same_name(user, row.user.as_str())
 }
 
 fn has_no_number_left(row: &SessionRow) -> bool
-    ensures { (s : Server) (session : ℕ) → RowFound (Some row.now) s session
+    ensures { (s : Server) (session : ℕ) → SessionRowFound (Some row.now) s session
         → result ≡ nat_le max_numbers (s.channel_numbers_drawn session) }
 {
     row.drawn >= MAX_NUMBERS

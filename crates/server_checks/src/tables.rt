@@ -1,23 +1,23 @@
 //! The server's tables, and single looks at them.
 ghost use Rattle.std.specs.Prelude.{◌≡◌, ◌<◌, length, true};
-ghost use Rattle.command_values.specs.Meaning.{info_of};
-ghost use Rattle.exchange_defs.specs.CheckOpen.{file_of, has_access};
-ghost use Rattle.exchange_defs.specs.Files as files;
-ghost use Rattle.exchange_defs.specs.Files.{exists};
-ghost use Rattle.exchange_defs.specs.State.{Server};
-ghost use Rattle.exchange_defs.specs.Table.{is_at};
-ghost use Rattle.file_store.specs.Shown.{model_info};
-ghost use Rattle.server_law.specs.Fits.{Fits};
+ghost use Rattle.wire_commands.specs.values.Meaning.{info_of};
+ghost use Rattle.spec_exchange.specs.CheckOpen.{file_of, has_access};
+ghost use Rattle.spec_exchange.specs.Files as files;
+ghost use Rattle.spec_exchange.specs.Files.{exists};
+ghost use Rattle.spec_exchange.specs.State.{Server};
+ghost use Rattle.spec_exchange.specs.Table.{is_at};
+ghost use Rattle.store_files.specs.file_tree.Shown.{model_info};
+ghost use Rattle.law_server.specs.tables.Fits.{Fits};
 ghost use Rattle.server_checks.specs.Shown.{TablesShown};
 
-use command_values::{Address, Basic, Info};
-use file_store::Tree;
-use ntlmv2::Users;
-use open_table::Opens;
-use server_verdicts::has_bit;
-use session_bind::Sessions;
-use smb_bytes::Text;
+use crate::session_table::Sessions;
+use crate::verdicts::has_bit;
+use crypto_sessions::Users;
 use std::alloc::Global;
+use store_files::Tree;
+use store_opens::Opens;
+use wire_bytes::Text;
+use wire_commands::{Address, Basic, Info};
 
 /// What a server is told when it starts, beside its disk.
 #[derive(Drop)]
@@ -80,7 +80,7 @@ impl Tables {
     }
 
     /// How many bytes a file that is there has.
-    #[tactic(auto, unfolding(exchange_defs::specs::Files::info_of))]
+    #[tactic(auto, unfolding(spec_exchange::specs::Files::info_of))]
     pub fn length(&self, file: u64) -> u64
         ensures { (s : Server) → TablesShown self.now s → exists s file ≡ true → result ≡ length (s.content file) }
     {
@@ -88,7 +88,7 @@ impl Tables {
     }
 
     /// Times (100 ns since 1601) and attributes of a file that is there.
-    #[tactic(auto, unfolding(exchange_defs::specs::Files::info_of))]
+    #[tactic(auto, unfolding(spec_exchange::specs::Files::info_of))]
     pub fn basic(&self, file: u64) -> Basic
         ensures { (s : Server) → TablesShown self.now s → exists s file ≡ true → result ≡ s.basic file }
     {
@@ -96,7 +96,7 @@ impl Tables {
     }
 
     /// Whether a file that is there is delete pending.
-    #[tactic(auto, unfolding(exchange_defs::specs::Files::info_of))]
+    #[tactic(auto, unfolding(spec_exchange::specs::Files::info_of))]
     pub fn is_pending(&self, file: u64) -> bool
         ensures { (s : Server) → TablesShown self.now s → exists s file ≡ true → result ≡ s.delete_pending file }
     {
@@ -126,7 +126,7 @@ impl Tables {
 }
 
 /// What the store knows of a file, as a reply tells it.
-pub fn info_of(info: &file_store::Info) -> Info
+pub fn info_of(info: &store_files::Info) -> Info
     ensures { info_of result ≡ model_info info.now }
 {
     Info {

@@ -1,2 +1,7 @@
+pub mod logon_progress
+pub mod commit_event
+pub mod behind_expiry
+pub mod event_step
 pub mod Shown
-pub use Rattle.server_event.specs.ServerHolds
+pub mod event_replies
+pub mod disk_server

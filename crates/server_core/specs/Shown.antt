@@ -1,12 +1,12 @@
 -- A server as its callers' clauses speak of it: what it holds, its configuration, its journal with the disk, and where it stopped.
 use Rattle.std.specs.Prelude.{ℕ, List, Option}
-use Rattle.exchange_defs.specs.State as model
-use Rattle.persist_journal.specs.Journal.{JournalState}
+use Rattle.spec_exchange.specs.State as model
+use Rattle.journal.specs.disk_journal.Journal.{JournalState}
 use Rattle.server_checks.specs.declared.tables.Config.{Config}
 use Rattle.server_core.specs.declared.server.Server.{Server}
-use Rattle.server_event.specs.ServerHolds.Holds.{Holds}
-use Rattle.server_event.specs.ServerHolds.declared.state.ServerState.{ServerState}
-use Rattle.world_defs.specs.Ends.{Logons}
+use Rattle.server_recovery.specs.journaled_tables.Holds.{JournaledHolds}
+use Rattle.server_recovery.specs.declared.journaled_tables.state.ServerState.{ServerState}
+use Rattle.spec_world.specs.Ends.{Logons}
 
 abbrev pub state_of : {D : Type 0} → Server D → ServerState D
 state_of x = x.state
@@ -27,4 +27,4 @@ stopped_of x = x.state.stopped
 -- it shows this state of the model with these logons, and its disk stands for these records
 abbrev pub HoldsServer : {D : Type 0} → Type 0 → (D → List ℕ) → (D → List ℕ → Type 0) → Server D → model.Server → Logons
     → List model.Record → Type 0
-HoldsServer told seen may_leave x s L records = Holds told seen may_leave x.state s L records
+HoldsServer told seen may_leave x s L records = JournaledHolds told seen may_leave x.state s L records

@@ -1,34 +1,32 @@
 //! The server's step over its tables and its journal.
 ghost use Rattle.std.specs.Prelude.{◌≡◌, ℕ, Err, IfOk, List, MatchResult, None, Some, false, if◌then◌else◌, true, ⊤};
-ghost use Rattle.exchange_defs.specs.State as model;
-ghost use Rattle.exchange_defs.specs.Step.{due, step, with_deadlines};
-ghost use Rattle.file_store.specs.Stored.{AreFiles};
-ghost use Rattle.journal_defs.specs.Grammar.{StandsFor};
-ghost use Rattle.journal_defs.specs.Moments.{LeavesOnly};
-ghost use Rattle.server_asked.specs.Heard.{heard_event, is_setup_heard};
-ghost use Rattle.server_asked.specs.declared.event.ServerEvent.{ServerEvent};
-ghost use Rattle.server_begun.specs.Begun.{Begins};
-ghost use Rattle.server_event.specs.Early.{HasMemory, is_refused_early};
-ghost use Rattle.server_event.specs.ServerHolds.Beside.{logons_behind};
-ghost use Rattle.server_event.specs.ServerHolds.Holds.{EventLeaves, EventRefused, GoesOn, StepAnswers};
-ghost use Rattle.server_event.specs.ServerHolds.Shown.{ServerShown};
-ghost use Rattle.server_events.specs.Setups.{progress_of};
-ghost use Rattle.server_events.specs.declared.error.EventError.TheVariants as errors;
-ghost use Rattle.server_begun.specs.ServerRestart.Restart.{RestartLeaves, RestartRefused};
-ghost use Rattle.world_defs.specs.Ends.{Logons};
+ghost use Rattle.spec_exchange.specs.State as model;
+ghost use Rattle.spec_exchange.specs.Step.{due, step, with_deadlines};
+ghost use Rattle.store_files.specs.file_tree.Stored.{AreFiles};
+ghost use Rattle.spec_wire.specs.journal.Grammar.{StandsFor};
+ghost use Rattle.spec_wire.specs.journal.Moments.{LeavesOnly};
+ghost use Rattle.server_checks.specs.event_heard.Heard.{heard_event, is_setup_heard};
+ghost use Rattle.server_checks.specs.declared.event_heard.event.ServerEvent.{ServerEvent};
+ghost use Rattle.server_recovery.specs.server_start.Begun.{ServerBegins};
+ghost use Rattle.server_core.specs.event_step.Early.{HasMemory, is_refused_early};
+ghost use Rattle.server_recovery.specs.journaled_tables.Beside.{logons_behind};
+ghost use Rattle.server_recovery.specs.journaled_tables.Holds.{EventLeavesBodies, EventRefused, JournaledGoesOn, StepAnswers};
+ghost use Rattle.server_recovery.specs.journaled_tables.Shown.{ServerShown};
+ghost use Rattle.server_checks.specs.setups.Setups.{progress_of};
+ghost use Rattle.server_checks.specs.declared.setups.error.EventError.TheVariants as errors;
+ghost use Rattle.server_recovery.specs.restart_tables.Restart.{RestartLeaves, RestartRefused};
+ghost use Rattle.spec_world.specs.Ends.{Logons};
 
+use crate::event_step::{ServerState, answer_event};
 use crate::signing::signer_of;
-use file_store::StoredFile;
-use persist_journal::JournalError;
-use server_asked::ServerEvent;
-use server_begun::recover_state;
-use server_checks::Config;
+use base_outside::Disk;
+use journal::JournalError;
+use server_checks::{Config, EventError, ServerEvent};
 use server_effects::Answer;
-use server_event::{ServerState, answer_event};
-use server_events::EventError;
-use session_defs::Signer;
-use smb_io::Disk;
+use server_recovery::recover_state;
+use spec_crypto::Signer;
 use std::alloc::{AllocError, Global};
+use store_files::StoredFile;
 
 /// An SMB 3.1.1 server's state, with the journal that outlives it.
 #[derive(Drop)]
@@ -48,7 +46,7 @@ impl<D: Disk> Server<D> {
     pub fn recover(alloc: Global, disk: D, config: Config) -> Result<Server<D>, JournalError>
     where
         D: Drop,
-        ensures holds { IfOk result (λ c. Begins D.told D.seen D.may_leave D.faults config disk (state_of c)) }
+        ensures holds { IfOk result (λ c. ServerBegins D.told D.seen D.may_leave D.faults config disk (state_of c)) }
         ensures refused { MatchResult result (λ _. ⊤) (λ x. RestartRefused D.told D.seen D.faults disk x) }
         ensures any_moment { IfOk result (λ c. D.told → (all : List (List ℕ)) → StandsFor (D.seen disk) all
             → LeavesOnly D.moment D.left_since disk (disk_of c) (RestartLeaves (D.may_leave disk) all)) }
@@ -76,9 +74,9 @@ impl<D: Disk> Server<D> {
             (logons_behind (config_of self.old).users L event.entry now (progress_of e (step s now e).reply))) }
         ensures any_moment { D.told
             → (s : model.Server) (L : Logons) (records : List model.Record) (bodies : List (List ℕ))
-            → HoldsServer D.told D.seen D.may_leave self.old s L records → GoesOn D.seen D.may_leave (state_of self.old) s records bodies
+            → HoldsServer D.told D.seen D.may_leave self.old s L records → JournaledGoesOn D.seen D.may_leave (state_of self.old) s records bodies
             → LeavesOnly D.moment D.left_since (disk_of self.old) (disk_of self.new)
-            (EventLeaves s now (heard_event (config_of self.old).users L s event.entry) bodies) }
+            (EventLeavesBodies s now (heard_event (config_of self.old).users L s event.entry) bodies) }
         ensures stopped { (count : ℕ) → stopped_of self.old ≡ Some count
             → (result ≡ Err (errors.Stopped count)) × (self.new ≡ self.old) }
         ensures config { config_of self.new ≡ config_of self.old }

@@ -1,12 +1,12 @@
 -- A session that begins is the one of its row.
 use Rattle.std.proofs.Common.{◌≡◌, ℕ, List, subst, refl}
-use Rattle.exchange_defs.specs.Commands.{SetupRequest}
-use Rattle.exchange_defs.specs.Effects.{add_session}
-use Rattle.exchange_defs.specs.State.{Message, Server}
-use Rattle.session_bind.specs.Changes.{session_added}
-use Rattle.session_bind.specs.Shown.{ShowsSessions}
-use Rattle.session_bind.specs.declared.row.SessionRow.{SessionRow}
-use Rattle.session_bind.specs.declared.table.Sessions.{Sessions}
+use Rattle.spec_exchange.specs.Commands.{SetupRequest}
+use Rattle.spec_exchange.specs.Effects.{add_session}
+use Rattle.spec_exchange.specs.State.{Message, Server}
+use Rattle.server_checks.specs.session_table.Changes.{session_added}
+use Rattle.server_checks.specs.session_table.Shown.{ShowsSessions}
+use Rattle.server_checks.specs.declared.session_table.row.SessionRow.{SessionRow}
+use Rattle.server_checks.specs.declared.session_table.table.Sessions.{Sessions}
 use Rattle.server_checks.specs.Shown.{TablesShown}
 use Rattle.server_checks.specs.declared.tables.Tables.{Tables}
 use Rattle.server_effects.proofs.Steps.{session_pieces}

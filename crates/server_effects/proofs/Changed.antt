@@ -1,23 +1,23 @@
 -- A change of a file leaves what the other tables show.
 use Rattle.std.proofs.Common.{◌≡◌, ℕ, ◌+◌, Bool, true, false, if◌then◌else◌, List, length, Option, refl, sym, subst, ◌∙◌}
-use Rattle.exchange_defs.specs.CheckOpen.{is_late, target_of}
-use Rattle.exchange_defs.specs.Commands as asks
-use Rattle.exchange_defs.specs.Commands.{Basic}
-use Rattle.exchange_defs.specs.Content.{ended, written}
-use Rattle.exchange_defs.specs.Effects.{change_file, reach}
-use Rattle.exchange_defs.specs.Files.{find, is_directory, passes_room, path_of, rename_file, set_content, set_delete_pending, store_basic}
-use Rattle.exchange_defs.specs.State.{Message, Server}
-use Rattle.exchange_defs.specs.Table.{put}
-use Rattle.exchange_defs.specs.Verdict.{Change, PutBytes, PutEnd, PutBasic, PutDeletePending, PutPath, PutNothing}
-use Rattle.file_store.specs.Bytes.{CanWrite}
-use Rattle.file_store.specs.Moved.{Moving}
-use Rattle.file_store.specs.Shown.{ShowsFiles}
-use Rattle.file_store.specs.declared.bytes.NewBytes.{NewBytes}
-use Rattle.file_store.specs.declared.rename.Move.{Move}
-use Rattle.file_store.specs.declared.tree.Tree.{Tree}
+use Rattle.spec_exchange.specs.CheckOpen.{is_late, target_of}
+use Rattle.spec_exchange.specs.Commands as asks
+use Rattle.spec_exchange.specs.Commands.{Basic}
+use Rattle.spec_exchange.specs.Content.{ended, written}
+use Rattle.spec_exchange.specs.Effects.{change_file, reach}
+use Rattle.spec_exchange.specs.Files.{find, is_directory, passes_room, path_of, rename_file, set_content, set_delete_pending, store_basic}
+use Rattle.spec_exchange.specs.State.{Message, Server}
+use Rattle.spec_exchange.specs.Table.{put}
+use Rattle.spec_exchange.specs.Verdict.{Change, PutBytes, PutEnd, PutBasic, PutDeletePending, PutPath, PutNothing}
+use Rattle.store_files.specs.file_tree.Bytes.{CanWrite}
+use Rattle.store_files.specs.file_tree.Moved.{Moving}
+use Rattle.store_files.specs.file_tree.Shown.{ShowsFiles}
+use Rattle.store_files.specs.declared.file_tree.bytes.NewBytes.{NewBytes}
+use Rattle.store_files.specs.declared.file_tree.rename.Move.{Move}
+use Rattle.store_files.specs.declared.file_tree.tree.Tree.{Tree}
 use Rattle.server_checks.specs.Shown.{TablesShown}
 use Rattle.server_checks.specs.declared.tables.Tables.{Tables}
-use Rattle.server_verdicts.specs.Views.{bytes_in}
+use Rattle.server_checks.specs.verdicts.Views.{bytes_in}
 use Rattle.server_effects.proofs.Steps.{file_pieces}
 use Rattle.server_effects.specs.Able.{AbleToChange, IsChangeOf}
 use Rattle.server_effects.specs.Ready.{ChangeFor, OthersShown}

@@ -3,29 +3,29 @@ use Rattle.std.proofs.Common.{◌≡◌, ◌⊎◌, inl, inr, ℕ, ◌+◌, ◌-
 use Rattle.std.proofs.Common.{if◌then◌else◌, List, [], ◌∷◌, length, refl, arith, sym, subst, ◌∙◌, ap, Option, Some, None, is_some}
 use Rattle.std.proofs.lemmas.Bool.{eqb-false}
 use Rattle.std.proofs.lemmas.Bool.Decides.{nat_tests}
-use Rattle.exchange_defs.specs.Check.{check, owed, formed, command_check, has_session}
-use Rattle.exchange_defs.specs.CheckCreate.{refused_by}
-use Rattle.exchange_defs.specs.CheckOpen.{file_of}
-use Rattle.exchange_defs.specs.CheckSetup.{binding_check, count_channels, first_binding, first_token, granted_binding, is_binding}
-use Rattle.exchange_defs.specs.CheckSetup.{granted_session, is_new, max_channels, max_numbers, max_sessions, no_tree_left, pipes_name}
-use Rattle.exchange_defs.specs.CheckSetup.{previous_of, second_binding, second_token, session_check, setup_check, tree_check}
-use Rattle.exchange_defs.specs.Commands.{Bad, Begins, Command, CreateRequest, Durable, Logon, Refused, Rename, Setting, SetAllocation}
-use Rattle.exchange_defs.specs.Commands.{SetBasic, SetDelete, SetEnd, Setup, SetupRequest, Shows, TreeConnect, form, is_setup}
-use Rattle.exchange_defs.specs.Content.{is_empty}
-use Rattle.exchange_defs.specs.Files.{passes_room, root, used}
-use Rattle.exchange_defs.specs.Opens.{max_ids}
-use Rattle.exchange_defs.specs.State.{Body, Message, Server}
-use Rattle.exchange_defs.specs.Status.{disk_full}
-use Rattle.exchange_defs.specs.Step.{without_room}
-use Rattle.exchange_defs.specs.Texts.{same_name}
-use Rattle.exchange_defs.specs.Verdict.{AddTree, Alter, Attach, Begin, Challenge, ChallengeBinding, Change, CloseOpen, DropTree}
-use Rattle.exchange_defs.specs.Verdict.{EndSession, Give, Join, KeepRefusal, KeepSlot, Make, PutBytes, PutEnd, PutNothing}
-use Rattle.exchange_defs.specs.Verdict.{PutRanges, Refuse, Repeat, Show, Tell, TurnDown, Verdict}
-use Rattle.server_law.specs.Fits.{Fits}
-use Rattle.server_law.proofs.Checked.{checked, lesser}
-use Rattle.server_law.proofs.Found.{AlterFacts, Facts, MakeFacts, SettingFacts, SettingSays, WriteFacts, setting_change}
-use Rattle.server_law.proofs.Logic.{either, front_of}
-use Rattle.server_verdicts.specs.Views.{bytes_in, create_in, elements_in, path_in, path_in_setting}
+use Rattle.spec_exchange.specs.Check.{check, owed, formed, command_check, has_session}
+use Rattle.spec_exchange.specs.CheckCreate.{refused_by}
+use Rattle.spec_exchange.specs.CheckOpen.{file_of}
+use Rattle.spec_exchange.specs.CheckSetup.{binding_check, count_channels, first_binding, first_token, granted_binding, is_binding}
+use Rattle.spec_exchange.specs.CheckSetup.{granted_session, is_new, max_channels, max_numbers, max_sessions, no_tree_left, pipes_name}
+use Rattle.spec_exchange.specs.CheckSetup.{previous_of, second_binding, second_token, session_check, setup_check, tree_check}
+use Rattle.spec_exchange.specs.Commands.{Bad, Begins, Command, CreateRequest, Durable, Logon, Refused, Rename, Setting, SetAllocation}
+use Rattle.spec_exchange.specs.Commands.{SetBasic, SetDelete, SetEnd, Setup, SetupRequest, Shows, TreeConnect, form, is_setup}
+use Rattle.spec_exchange.specs.Content.{is_empty}
+use Rattle.spec_exchange.specs.Files.{passes_room, root, used}
+use Rattle.spec_exchange.specs.Opens.{max_ids}
+use Rattle.spec_exchange.specs.State.{Body, Message, Server}
+use Rattle.spec_exchange.specs.Status.{disk_full}
+use Rattle.spec_exchange.specs.Step.{without_room}
+use Rattle.spec_exchange.specs.Texts.{same_name}
+use Rattle.spec_exchange.specs.Verdict.{AddTree, Alter, Attach, Begin, Challenge, ChallengeBinding, Change, CloseOpen, DropTree}
+use Rattle.spec_exchange.specs.Verdict.{EndSession, Give, Join, KeepRefusal, KeepSlot, Make, PutBytes, PutEnd, PutNothing}
+use Rattle.spec_exchange.specs.Verdict.{PutRanges, Refuse, Repeat, Show, Tell, TurnDown, Verdict}
+use Rattle.law_server.specs.tables.Fits.{Fits}
+use Rattle.law_server.proofs.tables.Checked.{checked, lesser}
+use Rattle.law_server.proofs.tables.Found.{AlterFacts, Facts, MakeFacts, SettingFacts, SettingSays, WriteFacts, setting_change}
+use Rattle.law_server.proofs.tables.Logic.{either, front_of}
+use Rattle.server_checks.specs.verdicts.Views.{bytes_in, create_in, elements_in, path_in, path_in_setting}
 use Rattle.server_effects.specs.Able.{Able, AbleToChange, AbleToMake, IsChangeOf}
 
 -- ---- numbers that are left

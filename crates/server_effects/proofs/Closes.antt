@@ -1,19 +1,19 @@
 -- An open that leaves, and its file with it.
 use Rattle.std.proofs.Common.{◌≡◌, ℕ, ◌==◌, Bool, true, false, not, ◌&&◌, if◌then◌else◌, Option, Some, None, refl, sym, subst}
-use Rattle.exchange_defs.specs.Commands.{deletes_on_close}
-use Rattle.exchange_defs.specs.Effects.{keep_closed}
-use Rattle.exchange_defs.specs.Files.{exists, is_directory, is_full_directory, path_of, remove_file, root, set_delete_pending}
-use Rattle.exchange_defs.specs.Opens.{drop_open, file_has_open, goes, pending_behind, without_gone}
-use Rattle.exchange_defs.specs.State.{Server}
-use Rattle.exchange_defs.specs.Table.{put2}
-use Rattle.file_store.specs.Refusals.{Refuses, remove_refusal}
-use Rattle.file_store.specs.declared.error.StoreError.{StoreError}
-use Rattle.file_store.specs.declared.error.StoreError.TheVariants.{Memory, Status}
-use Rattle.file_store.specs.Shown.{ShowsFiles}
-use Rattle.file_store.specs.declared.tree.Tree.{Tree}
-use Rattle.open_table.specs.Shown.{ShowsOpens}
-use Rattle.open_table.specs.declared.table.Opens.{Opens}
-use Rattle.server_law.proofs.Logic.{back_of, front_of, not_true}
+use Rattle.spec_exchange.specs.Commands.{deletes_on_close}
+use Rattle.spec_exchange.specs.Effects.{keep_closed}
+use Rattle.spec_exchange.specs.Files.{exists, is_directory, is_full_directory, path_of, remove_file, root, set_delete_pending}
+use Rattle.spec_exchange.specs.Opens.{drop_open, file_has_open, goes, pending_behind, without_gone}
+use Rattle.spec_exchange.specs.State.{Server}
+use Rattle.spec_exchange.specs.Table.{put2}
+use Rattle.store_files.specs.file_tree.Refusals.{StoreRefuses, remove_refusal}
+use Rattle.store_files.specs.declared.file_tree.error.StoreError.{StoreError}
+use Rattle.store_files.specs.declared.file_tree.error.StoreError.TheVariants.{Memory, Status}
+use Rattle.store_files.specs.file_tree.Shown.{ShowsFiles}
+use Rattle.store_files.specs.declared.file_tree.tree.Tree.{Tree}
+use Rattle.store_opens.specs.open_table.Shown.{ShowsOpens}
+use Rattle.store_opens.specs.declared.open_table.table.Opens.{Opens}
+use Rattle.law_server.proofs.tables.Logic.{back_of, front_of, not_true}
 use Rattle.server_checks.specs.Shown.{TablesShown}
 use Rattle.server_checks.specs.declared.tables.Tables.{Tables}
 use Rattle.server_effects.proofs.Steps.{file_pieces, pieces}
@@ -61,7 +61,7 @@ going_empty s f e =
 not_refused : (s : Server) (f : ℕ) → goes s f ≡ true → remove_refusal s f ≡ None
 not_refused s f e = rw (going_not_root s f e, going_empty s f e) refl
 
-pub never_refused : (s : Server) (f : ℕ) (e : StoreError) → goes s f ≡ true → Refuses e (remove_refusal s f) → ⊥
+pub never_refused : (s : Server) (f : ℕ) (e : StoreError) → goes s f ≡ true → StoreRefuses e (remove_refusal s f) → ⊥
 never_refused s f Memory g r = r
 never_refused s f (Status status) g r = let k = not_refused s f g in absurd (cc)
 

@@ -2,25 +2,25 @@
 use Rattle.std.proofs.Common.{◌≡◌, ℕ, ◌+◌, ◌==◌, Bool, true, false, if◌then◌else◌, List, [], ◌∷◌, Option, Some, None, slice_get}
 use Rattle.std.proofs.Common.{refl, sym, ap, subst, arith, ◌∙◌}
 use Rattle.std.proofs.lemmas.Bool.Decides.{nat_tests}
-use Rattle.exchange_defs.specs.CheckCreate.{empties}
-use Rattle.exchange_defs.specs.Commands.{CreateRequest, Durable, asks_directory}
-use Rattle.exchange_defs.specs.Effects.{file_made, guid_of, guids_after, make_open, new_file, next_open, open_row}
-use Rattle.exchange_defs.specs.Files.{empty_file, exists, make_file}
-use Rattle.exchange_defs.specs.Opens.{add_open}
-use Rattle.exchange_defs.specs.State as model
-use Rattle.exchange_defs.specs.State.{Message, Server, Range}
-use Rattle.exchange_defs.specs.Table.{put}
-use Rattle.file_store.specs.Shown.{ShowsFiles}
-use Rattle.file_store.specs.declared.tree.Tree.{Tree}
-use Rattle.open_index.specs.Keep.{guids_with}
-use Rattle.open_table.specs.Changes.{created}
-use Rattle.open_table.specs.Rows.{parts_of}
-use Rattle.open_table.specs.Shown.{ShowsOpens}
-use Rattle.open_table.specs.declared.row.Row.{Row}
-use Rattle.open_table.specs.declared.table.Opens.{Opens}
-use Rattle.server_law.proofs.Lists.{exists-pushed}
-use Rattle.server_law.proofs.Logic.{either}
-use Rattle.server_law.specs.Fits.{Fits}
+use Rattle.spec_exchange.specs.CheckCreate.{empties}
+use Rattle.spec_exchange.specs.Commands.{CreateRequest, Durable, asks_directory}
+use Rattle.spec_exchange.specs.Effects.{file_made, guid_of, guids_after, make_open, new_file, next_open, open_row}
+use Rattle.spec_exchange.specs.Files.{empty_file, exists, make_file}
+use Rattle.spec_exchange.specs.Opens.{add_open}
+use Rattle.spec_exchange.specs.State as model
+use Rattle.spec_exchange.specs.State.{Message, Server, Range}
+use Rattle.spec_exchange.specs.Table.{put}
+use Rattle.store_files.specs.file_tree.Shown.{ShowsFiles}
+use Rattle.store_files.specs.declared.file_tree.tree.Tree.{Tree}
+use Rattle.store_opens.specs.open_index.Keep.{guids_with}
+use Rattle.store_opens.specs.open_table.Changes.{created}
+use Rattle.store_opens.specs.open_table.Rows.{parts_of}
+use Rattle.store_opens.specs.open_table.Shown.{ShowsOpens}
+use Rattle.store_opens.specs.declared.open_table.row.Row.{Row}
+use Rattle.store_opens.specs.declared.open_table.table.Opens.{Opens}
+use Rattle.law_server.proofs.tables.Lists.{exists-pushed}
+use Rattle.law_server.proofs.tables.Logic.{either}
+use Rattle.law_server.specs.tables.Fits.{Fits}
 use Rattle.server_checks.specs.Shown.{TablesShown}
 use Rattle.server_checks.specs.declared.tables.Tables.{Tables}
 use Rattle.server_effects.specs.Able.{AbleToMake, FoundIsFile}

@@ -1,21 +1,21 @@
 -- A change of the opens leaves what the other tables show.
 use Rattle.std.proofs.Common.{◌≡◌, ◌<◌, ℕ, min, Bool, true, false, if◌then◌else◌, Some, is_some, sym, ap, subst, arith}
 use Rattle.std.proofs.lemmas.Bool.Decides.{nat_tests}
-use Rattle.exchange_defs.specs.CheckOpen.{is_late, is_slot}
-use Rattle.exchange_defs.specs.Effects.{attach, attached, keep_slot, reach}
-use Rattle.exchange_defs.specs.Fold.{full_room}
-use Rattle.exchange_defs.specs.Opens.{file_has_open}
-use Rattle.exchange_defs.specs.State.{Message, Server}
-use Rattle.exchange_defs.specs.Table.{put, put2}
-use Rattle.command_values.specs.Meaning.{address_of}
-use Rattle.file_store.specs.Shown.{ShowsFiles}
-use Rattle.file_store.specs.declared.tree.Tree.{Tree}
-use Rattle.open_table.specs.Shown.{ShowsOpens}
-use Rattle.open_table.specs.declared.table.Opens.{Opens}
-use Rattle.server_law.proofs.Logic.{either}
-use Rattle.session_bind.specs.Logons.{LogonsShown, LogonsStay}
-use Rattle.session_bind.specs.Shown.{ShowsSessions}
-use Rattle.session_bind.specs.declared.table.Sessions.{Sessions}
+use Rattle.spec_exchange.specs.CheckOpen.{is_late, is_slot}
+use Rattle.spec_exchange.specs.Effects.{attach, attached, keep_slot, reach}
+use Rattle.spec_exchange.specs.Fold.{full_room}
+use Rattle.spec_exchange.specs.Opens.{file_has_open}
+use Rattle.spec_exchange.specs.State.{Message, Server}
+use Rattle.spec_exchange.specs.Table.{put, put2}
+use Rattle.wire_commands.specs.values.Meaning.{address_of}
+use Rattle.store_files.specs.file_tree.Shown.{ShowsFiles}
+use Rattle.store_files.specs.declared.file_tree.tree.Tree.{Tree}
+use Rattle.store_opens.specs.open_table.Shown.{ShowsOpens}
+use Rattle.store_opens.specs.declared.open_table.table.Opens.{Opens}
+use Rattle.law_server.proofs.tables.Logic.{either}
+use Rattle.server_checks.specs.session_table.Logons.{LogonsShown, LogonsStay}
+use Rattle.server_checks.specs.session_table.Shown.{ShowsSessions}
+use Rattle.server_checks.specs.declared.session_table.table.Sessions.{Sessions}
 use Rattle.server_checks.specs.Shown.{TablesShown}
 use Rattle.server_checks.specs.declared.tables.Tables.{Tables}
 

@@ -2,12 +2,12 @@
 use Rattle.std.proofs.Common.{◌≡◌, ◌<◌, ℕ, ◌+◌, Bool, false, nat_le, Option, Some, None, is_some, refl, arith}
 use Rattle.std.proofs.lemmas.Bool.Decides.{nat_tests}
 use Rattle.std.specs.Prelude.{option_map}
-use Rattle.command_values.specs.Meaning.{durable_of}
-use Rattle.command_values.specs.declared.command.Durable.{Durable}
-use Rattle.exchange_defs.specs.CheckSetup.{max_numbers}
-use Rattle.exchange_defs.specs.Effects.{connected}
-use Rattle.exchange_defs.specs.State.{Body, Created, Empty, Info, Message, Reply, SetUp}
-use Rattle.exchange_defs.specs.Status.{more_processing_required, success}
+use Rattle.wire_commands.specs.values.Meaning.{durable_of}
+use Rattle.wire_commands.specs.declared.values.command.Durable.{Durable}
+use Rattle.spec_exchange.specs.CheckSetup.{max_numbers}
+use Rattle.spec_exchange.specs.Effects.{connected}
+use Rattle.spec_exchange.specs.State.{Body, Created, Empty, Info, Message, Reply, SetUp}
+use Rattle.spec_exchange.specs.Status.{more_processing_required, success}
 
 abbrev pub said : Message → ℕ → Body → Reply
 said m status body = record { status = status; session_id = m.session_id; tree_id = m.tree_id; body = body }

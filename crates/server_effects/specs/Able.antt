@@ -1,14 +1,14 @@
 -- What the tables know of what a verdict names: it follows from the checks, and effects and records lean on it.
 use Rattle.std.specs.Prelude.{◌≡◌, ℕ, ◌+◌, ◌<◌, true, false, length, Option, Some, None, nat_le}
-use Rattle.exchange_defs.specs.Commands as asks
-use Rattle.exchange_defs.specs.State as model
-use Rattle.exchange_defs.specs.Files.{root, exists, is_directory, passes_room, find}
-use Rattle.exchange_defs.specs.Opens.{max_ids}
-use Rattle.exchange_defs.specs.CheckCreate.{empties}
-use Rattle.exchange_defs.specs.CheckOpen.{is_slot, file_of, target_of}
-use Rattle.exchange_defs.specs.CheckSetup.{max_numbers, no_tree_left}
-use Rattle.exchange_defs.specs.Verdict as verdicts
-use Rattle.server_verdicts.specs.Views.{bytes_in, create_in, elements_in, path_in}
+use Rattle.spec_exchange.specs.Commands as asks
+use Rattle.spec_exchange.specs.State as model
+use Rattle.spec_exchange.specs.Files.{root, exists, is_directory, passes_room, find}
+use Rattle.spec_exchange.specs.Opens.{max_ids}
+use Rattle.spec_exchange.specs.CheckCreate.{empties}
+use Rattle.spec_exchange.specs.CheckOpen.{is_slot, file_of, target_of}
+use Rattle.spec_exchange.specs.CheckSetup.{max_numbers, no_tree_left}
+use Rattle.spec_exchange.specs.Verdict as verdicts
+use Rattle.server_checks.specs.verdicts.Views.{bytes_in, create_in, elements_in, path_in}
 
 -- a change that the file can take
 abbrev pub AbleToChange : model.Server → ℕ → verdicts.Change → Type 0

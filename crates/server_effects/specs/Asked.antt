@@ -1,6 +1,6 @@
 -- What a CREATE asks to be told.
 use Rattle.std.specs.Prelude.{Bool, is_some}
-use Rattle.exchange_defs.specs.Commands.{CreateRequest}
+use Rattle.spec_exchange.specs.Commands.{CreateRequest}
 use Rattle.server_effects.specs.declared.creates.Asks.{Asks}
 
 abbrev pub asks_with : Bool → Bool → Bool → Asks

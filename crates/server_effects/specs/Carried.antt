@@ -1,15 +1,15 @@
 -- What an effect leaves, and answers.
 use Rattle.std.specs.Prelude.{◌≡◌, ℕ, Bool, List, [], Option, Some, None}
-use Rattle.exchange_defs.specs.Effects.{apply}
-use Rattle.exchange_defs.specs.State as model
-use Rattle.exchange_defs.specs.Table.{put}
-use Rattle.exchange_defs.specs.Verdict as verdicts
-use Rattle.server_law.specs.Fits.{Fits}
-use Rattle.ntlmv2.specs.Judging.{AcceptorState}
-use Rattle.session_bind.specs.Logons.{LogonsShown, pending_made}
-use Rattle.session_defs.specs.declared.material.Keys.{Keys}
-use Rattle.token_defs.specs.Tokens.{Pending}
-use Rattle.command_values.specs.Meaning.{reply_of}
+use Rattle.spec_exchange.specs.Effects.{apply}
+use Rattle.spec_exchange.specs.State as model
+use Rattle.spec_exchange.specs.Table.{put}
+use Rattle.spec_exchange.specs.Verdict as verdicts
+use Rattle.law_server.specs.tables.Fits.{Fits}
+use Rattle.crypto_sessions.specs.ntlmv2.Judging.{AcceptorState}
+use Rattle.server_checks.specs.session_table.Logons.{LogonsShown, pending_made}
+use Rattle.spec_crypto.specs.declared.sessions.material.Keys.{Keys}
+use Rattle.spec_crypto.specs.tokens.Tokens.{Pending}
+use Rattle.wire_commands.specs.values.Meaning.{reply_of}
 use Rattle.server_checks.specs.Shown.{TablesShown}
 use Rattle.server_checks.specs.declared.tables.Tables.{Tables}
 use Rattle.server_effects.specs.Able.{Able}
@@ -23,18 +23,18 @@ pub record Carried (t : Tables) (r : Answer) (a : model.Answer) : Type 0 where
   pub acted : r.acted ≡ a.acted
 
 -- nothing beside the reply
-abbrev pub IsBare : Answer → Type 0
-IsBare r = (r.token ≡ []) × (r.keys ≡ None) × (r.channel ≡ None)
+abbrev pub IsEffectBare : Answer → Type 0
+IsEffectBare r = (r.token ≡ []) × (r.keys ≡ None) × (r.channel ≡ None)
 
 -- an answer to a message, with nothing beside the reply
-pub record IsAnswer (r : Answer) (m : model.Message) (status : ℕ) (body : model.Body) (acted : Bool) : Type 0 where
+pub record IsEffectAnswer (r : Answer) (m : model.Message) (status : ℕ) (body : model.Body) (acted : Bool) : Type 0 where
   pub reply : reply_of r.reply ≡ record { status = status; session_id = m.session_id; tree_id = m.tree_id; body = body }
   pub acted_is : r.acted ≡ acted
-  pub bare : IsBare r
+  pub bare : IsEffectBare r
 
 -- a verdict on a message is carried out, from any state in which it can be
-abbrev pub Carries : Tables → Tables → Answer → model.Message → ℕ → verdicts.Verdict → Type 0
-Carries old new r m now v = (s : model.Server) → Fits s → TablesShown old s → Able s m v → Carried new r (apply s m now v)
+abbrev pub EffectCarries : Tables → Tables → Answer → model.Message → ℕ → verdicts.Verdict → Type 0
+EffectCarries old new r m now v = (s : model.Server) → Fits s → TablesShown old s → Able s m v → Carried new r (apply s m now v)
 
 -- a challenge is answered, and kept for the connection of its message
 pub record KeepsChallenge (old new : Tables) (r : Answer) (m : model.Message) (list : List ℕ) (acceptor : AcceptorState)

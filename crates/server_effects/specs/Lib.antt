@@ -1,5 +1,14 @@
+pub mod leaving_opens
+pub mod expiry
 pub mod Able
 pub mod Carried
 pub mod Asked
 pub mod Making
 pub mod Ready
+pub mod reserved
+pub mod session_ends
+pub mod lost_connections
+pub mod verdict_effects
+pub mod prepared_event
+pub mod event_effects
+pub mod recovered_deadlines

@@ -1,14 +1,14 @@
 -- What was made ready of a new open stands for it.
 use Rattle.std.specs.Prelude.{◌≡◌, ℕ, true, false, Option, Some, None}
-use Rattle.exchange_defs.specs.CheckCreate.{empties}
-use Rattle.exchange_defs.specs.Commands as asks
-use Rattle.exchange_defs.specs.Commands.{asks_directory}
-use Rattle.exchange_defs.specs.Effects.{open_row, new_file}
-use Rattle.exchange_defs.specs.State as model
-use Rattle.file_store.specs.Made.{IsReady, Prepared}
-use Rattle.file_store.specs.Shown.{ShowsFiles}
-use Rattle.open_table.specs.Rows.{IsNewRow, open_of, parts_of}
-use Rattle.open_table.specs.declared.row.Row.{Row}
+use Rattle.spec_exchange.specs.CheckCreate.{empties}
+use Rattle.spec_exchange.specs.Commands as asks
+use Rattle.spec_exchange.specs.Commands.{asks_directory}
+use Rattle.spec_exchange.specs.Effects.{open_row, new_file}
+use Rattle.spec_exchange.specs.State as model
+use Rattle.store_files.specs.file_tree.Made.{IsFileReady, Prepared}
+use Rattle.store_files.specs.file_tree.Shown.{ShowsFiles}
+use Rattle.store_opens.specs.open_table.Rows.{IsOpenNewRow, open_of, parts_of}
+use Rattle.store_opens.specs.declared.open_table.row.Row.{Row}
 use Rattle.server_checks.specs.declared.tables.Tables.{Tables}
 use Rattle.server_effects.specs.declared.making.FileReady.{FileReady}
 use Rattle.server_effects.specs.declared.making.FileReady.TheVariants as files
@@ -21,7 +21,7 @@ FileFor t s r found now (files.Emptied file attributes) = (found ≡ Some file) 
 FileFor t s r found now (files.AsItIs file) = (found ≡ Some file) × (empties r.disposition ≡ false) × ShowsFiles t.tree s
 
 abbrev pub FileRoom : Tables → FileReady → Type 0
-FileRoom t (files.New file) = IsReady t.tree
+FileRoom t (files.New file) = IsFileReady t.tree
 FileRoom t _ = Unit {0}
 
 -- the row is the one of the open that is made
@@ -29,4 +29,4 @@ pub record RowFor (s : model.Server) (m : model.Message) (r : asks.CreateRequest
   pub opened_is : open_of row ≡ open_row s m r (new_file s found) action
   pub session_is : row.session ≡ Some m.session_id
   pub sequence_is : row.sequence ≡ m.channel_sequence
-  pub is_new : IsNewRow row (parts_of row) row.user
+  pub is_new : IsOpenNewRow row (parts_of row) row.user

@@ -1,17 +1,17 @@
 -- What was made ready of a verdict stands for it.
 use Rattle.std.specs.Prelude.{◌≡◌, ℕ, List, min}
-use Rattle.exchange_defs.specs.Commands as asks
-use Rattle.exchange_defs.specs.Fold.{full_room}
-use Rattle.exchange_defs.specs.State as model
-use Rattle.exchange_defs.specs.Verdict as verdicts
-use Rattle.command_values.specs.Meaning.{address_of}
-use Rattle.file_store.specs.Bytes.{CanWrite}
-use Rattle.file_store.specs.Moved.{Moving}
-use Rattle.file_store.specs.Shown.{ShowsFiles}
-use Rattle.open_table.specs.Shown.{ShowsOpens}
-use Rattle.session_bind.specs.Shown.{ShowsSessions}
-use Rattle.session_bind.specs.Steps.{IsNewSession}
-use Rattle.session_bind.specs.declared.row.SessionRow.{SessionRow}
+use Rattle.spec_exchange.specs.Commands as asks
+use Rattle.spec_exchange.specs.Fold.{full_room}
+use Rattle.spec_exchange.specs.State as model
+use Rattle.spec_exchange.specs.Verdict as verdicts
+use Rattle.wire_commands.specs.values.Meaning.{address_of}
+use Rattle.store_files.specs.file_tree.Bytes.{CanWrite}
+use Rattle.store_files.specs.file_tree.Moved.{Moving}
+use Rattle.store_files.specs.file_tree.Shown.{ShowsFiles}
+use Rattle.store_opens.specs.open_table.Shown.{ShowsOpens}
+use Rattle.server_checks.specs.session_table.Shown.{ShowsSessions}
+use Rattle.server_checks.specs.session_table.Steps.{IsNewSession}
+use Rattle.server_checks.specs.declared.session_table.row.SessionRow.{SessionRow}
 use Rattle.server_checks.specs.declared.tables.Tables.{Tables}
 use Rattle.server_effects.specs.declared.changing.ChangeReady.{ChangeReady}
 use Rattle.server_effects.specs.declared.changing.ChangeReady.TheVariants as changes

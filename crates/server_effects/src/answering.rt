@@ -1,14 +1,14 @@
 //! Answers to messages.
 ghost use Rattle.std.specs.Prelude.{◌≡◌, false, true};
-ghost use Rattle.command_values.specs.Meaning.{body_of, message_of, reply_of};
-ghost use Rattle.exchange_defs.specs.Status.{success};
-ghost use Rattle.server_effects.specs.Carried.{IsAnswer};
+ghost use Rattle.wire_commands.specs.values.Meaning.{body_of, message_of, reply_of};
+ghost use Rattle.spec_exchange.specs.Status.{success};
+ghost use Rattle.server_effects.specs.Carried.{IsEffectAnswer};
 
-use command_values::{Body, Message, Reply};
-use server_verdicts::status::SUCCESS;
-use session_defs::Keys;
-use smb_bytes::Bytes;
+use server_checks::status::SUCCESS;
+use spec_crypto::Keys;
 use std::alloc::Global;
+use wire_bytes::Bytes;
+use wire_commands::{Body, Message, Reply};
 
 /// What the server answers. `acted` tells whether files, the set of opens or ranges changed.
 #[derive(Drop, Debug)]
@@ -38,7 +38,7 @@ pub fn reply(m: &Message<'_>, status: u32, body: Body) -> Reply
 
 /// An answer with nothing beside its reply.
 pub fn answer_with(alloc: Global, m: &Message<'_>, status: u32, body: Body, acted: bool) -> Answer
-    ensures { IsAnswer result (message_of m.now) status (body_of body) acted }
+    ensures { IsEffectAnswer result (message_of m.now) status (body_of body) acted }
 {
     Answer {
         reply: reply(m, status, body),
@@ -51,14 +51,14 @@ pub fn answer_with(alloc: Global, m: &Message<'_>, status: u32, body: Body, acte
 
 /// Nothing in the files, the set of opens and the ranges changed.
 pub fn quiet(alloc: Global, m: &Message<'_>, status: u32, body: Body) -> Answer
-    ensures { IsAnswer result (message_of m.now) status (body_of body) false }
+    ensures { IsEffectAnswer result (message_of m.now) status (body_of body) false }
 {
     answer_with(alloc, m, status, body, false)
 }
 
 /// A success that changed them.
 pub fn acting(alloc: Global, m: &Message<'_>, body: Body) -> Answer
-    ensures { IsAnswer result (message_of m.now) success (body_of body) true }
+    ensures { IsEffectAnswer result (message_of m.now) success (body_of body) true }
 {
     answer_with(alloc, m, SUCCESS, body, true)
 }

@@ -1,26 +1,26 @@
 //! WRITE and SET_INFO (MS-SMB2 3.3.5.13, 3.3.5.21): a change of a file, for which there is memory.
 ghost use Rattle.std.specs.Prelude.{◌≡◌, ℕ, true, List, [], Some};
-ghost use Rattle.command_values.specs.Meaning.{body_of, command_of, message_of};
-ghost use Rattle.exchange_defs.specs.CheckOpen.{file_of};
-ghost use Rattle.exchange_defs.specs.Effects as effects;
-ghost use Rattle.exchange_defs.specs.Effects.{apply, change_acts};
-ghost use Rattle.exchange_defs.specs.Files.{exists};
-ghost use Rattle.exchange_defs.specs.State.{Server};
-ghost use Rattle.exchange_defs.specs.Verdict as verdicts;
-ghost use Rattle.file_store.specs.Shown.{ShowsFiles};
-ghost use Rattle.session_bind.specs.Logons.{LogonsStay};
-ghost use Rattle.server_law.specs.Fits.{Fits};
-ghost use Rattle.server_verdicts.specs.Views.{bytes_in};
+ghost use Rattle.wire_commands.specs.values.Meaning.{body_of, command_of, message_of};
+ghost use Rattle.spec_exchange.specs.CheckOpen.{file_of};
+ghost use Rattle.spec_exchange.specs.Effects as effects;
+ghost use Rattle.spec_exchange.specs.Effects.{apply, change_acts};
+ghost use Rattle.spec_exchange.specs.Files.{exists};
+ghost use Rattle.spec_exchange.specs.State.{Server};
+ghost use Rattle.spec_exchange.specs.Verdict as verdicts;
+ghost use Rattle.store_files.specs.file_tree.Shown.{ShowsFiles};
+ghost use Rattle.server_checks.specs.session_table.Logons.{LogonsStay};
+ghost use Rattle.law_server.specs.tables.Fits.{Fits};
+ghost use Rattle.server_checks.specs.verdicts.Views.{bytes_in};
 ghost use Rattle.server_effects.specs.Able.{Able, AbleToChange, IsChangeOf};
-ghost use Rattle.server_effects.specs.Carried.{Carried, IsBare};
+ghost use Rattle.server_effects.specs.Carried.{Carried, IsEffectBare};
 ghost use Rattle.server_effects.specs.Ready.{ChangeFor, FilesForChange, OthersShown};
 
 use crate::answering::{Answer, answer_with};
 use crate::reached::reach;
-use command_values::{Basic, Body, Command, Message};
-use file_store::{Move, NewBytes};
 use server_checks::Tables;
-use server_verdicts::status::SUCCESS;
+use server_checks::status::SUCCESS;
+use store_files::{Move, NewBytes};
+use wire_commands::{Basic, Body, Command, Message};
 
 /// A change of a file with its memory: bytes at a place; a new end, with its size in bytes; times (100 ns since 1601) and
 /// attributes; whether the file is delete pending; a new path; or none.
@@ -48,7 +48,7 @@ pub fn alter(
         → Able s (message_of m.now) (verdicts.Alter id c (body_of body)) → ChangeFor t.old s (file_of s id) change c
         → acts ≡ change_acts s (file_of s id) now c
         → Carried t.new result (apply s (message_of m.now) now (verdicts.Alter id c (body_of body))) }
-    ensures bare { IsBare result }
+    ensures bare { IsEffectBare result }
     ensures config { t.new.config ≡ t.old.config }
     ensures logons { LogonsStay t.old.sessions t.new.sessions }
 {

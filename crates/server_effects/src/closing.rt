@@ -1,27 +1,26 @@
 //! CLOSE (MS-SMB2 3.3.5.10), and files that go with their last open (MS-FSA 2.1.5.5).
 ghost use Rattle.std.specs.Prelude.{◌≡◌, ℕ, Some, true};
-ghost use Rattle.command_values.specs.Meaning.{body_of, message_of};
-ghost use Rattle.exchange_defs.specs.Commands.{deletes_on_close};
-ghost use Rattle.exchange_defs.specs.Effects.{keep_closed};
-ghost use Rattle.exchange_defs.specs.Files as files;
-ghost use Rattle.exchange_defs.specs.Files.{exists};
-ghost use Rattle.exchange_defs.specs.Opens.{drop_open, goes, pending_behind, without_gone};
-ghost use Rattle.exchange_defs.specs.State.{Server};
-ghost use Rattle.exchange_defs.specs.Verdict.{CloseOpen};
-ghost use Rattle.session_bind.specs.Logons.{LogonsStay};
+ghost use Rattle.wire_commands.specs.values.Meaning.{body_of, message_of};
+ghost use Rattle.spec_exchange.specs.Commands.{deletes_on_close};
+ghost use Rattle.spec_exchange.specs.Effects.{keep_closed};
+ghost use Rattle.spec_exchange.specs.Files as files;
+ghost use Rattle.spec_exchange.specs.Files.{exists};
+ghost use Rattle.spec_exchange.specs.Opens.{drop_open, goes, pending_behind, without_gone};
+ghost use Rattle.spec_exchange.specs.State.{Server};
+ghost use Rattle.spec_exchange.specs.Verdict.{CloseOpen};
+ghost use Rattle.server_checks.specs.session_table.Logons.{LogonsStay};
 ghost use Rattle.server_checks.specs.Shown.{TablesShown};
-ghost use Rattle.server_effects.specs.Carried.{Carries, IsBare};
-ghost use Rattle.server_law.specs.Fits.{Fits};
+ghost use Rattle.server_effects.specs.Carried.{EffectCarries, IsEffectBare};
+ghost use Rattle.law_server.specs.tables.Fits.{Fits};
 
 use crate::answering::{Answer, acting};
-use command_values::{Body, Message};
-use server_checks::Tables;
-use server_verdicts::deletes_on_close;
+use server_checks::{Tables, deletes_on_close};
+use wire_commands::{Body, Message};
 
 /// The open leaves, and its file with it where it goes; its session keeps its CreateGuid as closed.
 pub fn close_open(t: &mut Tables, m: &Message<'_>, id: u64, body: Body) -> Answer
-    ensures shows { (now : ℕ) → Carries t.old t.new result (message_of m.now) now (CloseOpen id (body_of body)) }
-    ensures bare { IsBare result }
+    ensures shows { (now : ℕ) → EffectCarries t.old t.new result (message_of m.now) now (CloseOpen id (body_of body)) }
+    ensures bare { IsEffectBare result }
     ensures config { t.new.config ≡ t.old.config }
     ensures logons { LogonsStay t.old.sessions t.new.sessions }
 {
@@ -73,7 +72,7 @@ pub fn drop_gone(t: &mut Tables, file: u64)
     remove(t, file);
 }
 
-#[tactic(auto, unfolding(exchange_defs::specs::Opens::goes))]
+#[tactic(auto, unfolding(spec_exchange::specs::Opens::goes))]
 fn is_going(t: &Tables, file: u64) -> bool
     ensures { (s : Server) → TablesShown t.now s → exists s file ≡ true → result ≡ goes s file }
 {

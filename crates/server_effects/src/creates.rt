@@ -1,24 +1,24 @@
 //! CREATE (MS-SMB2 3.3.5.9) but for a new open: a refusal that is kept, a first answer again, an open that is attached.
 ghost use Rattle.std.specs.Prelude.{◌≡◌, ◌&&◌, if◌then◌else◌, ℕ, None, Some, true};
-ghost use Rattle.command_values.specs.Meaning.{body_of, command_of, create_of, message_of};
-ghost use Rattle.exchange_defs.specs.Commands as asks;
-ghost use Rattle.exchange_defs.specs.Effects as effects;
-ghost use Rattle.exchange_defs.specs.Files.{exists};
-ghost use Rattle.exchange_defs.specs.State.{Server};
-ghost use Rattle.exchange_defs.specs.Verdict.{Attach, KeepRefusal, Repeat};
-ghost use Rattle.open_table.specs.Changes.{attached_if};
-ghost use Rattle.open_table.specs.Shown.{HasResultRoom, HasSessionRoom};
-ghost use Rattle.session_bind.specs.Logons.{LogonsStay};
+ghost use Rattle.wire_commands.specs.values.Meaning.{body_of, command_of, create_of, message_of};
+ghost use Rattle.spec_exchange.specs.Commands as asks;
+ghost use Rattle.spec_exchange.specs.Effects as effects;
+ghost use Rattle.spec_exchange.specs.Files.{exists};
+ghost use Rattle.spec_exchange.specs.State.{Server};
+ghost use Rattle.spec_exchange.specs.Verdict.{Attach, KeepRefusal, Repeat};
+ghost use Rattle.store_opens.specs.open_table.Changes.{attached_if};
+ghost use Rattle.store_opens.specs.open_table.Shown.{HasResultRoom, HasOpensSessionRoom};
+ghost use Rattle.server_checks.specs.session_table.Logons.{LogonsStay};
 ghost use Rattle.server_checks.specs.Shown.{TablesShown};
 ghost use Rattle.server_effects.specs.Asked.{asks_of};
-ghost use Rattle.server_effects.specs.Carried.{Carries, IsBare};
-ghost use Rattle.server_verdicts.specs.Views.{create_in};
+ghost use Rattle.server_effects.specs.Carried.{EffectCarries, IsEffectBare};
+ghost use Rattle.server_checks.specs.verdicts.Views.{create_in};
 
 use crate::answering::{Answer, quiet};
-use command_values::{Body, Command, CreateReply, CreateRequest, Message};
-use open_table::Row;
 use server_checks::Tables;
-use server_verdicts::status::SUCCESS;
+use server_checks::status::SUCCESS;
+use store_opens::Row;
+use wire_commands::{Body, Command, CreateReply, CreateRequest, Message};
 
 /// What a CREATE asks to be told: an open that outlives its session, its maximal access, its file's number on the disk.
 #[derive(Clone, Copy, Debug, PartialEq, Eq)]
@@ -34,8 +34,8 @@ pub struct Asks {
 /// The refusal is kept by its CreateGuid, and comes again at each copy.
 pub fn keep_refusal(t: &mut Tables, m: &Message<'_>, guid: u128, status: u32) -> Answer
     requires { HasResultRoom t.old.opens m.now.session_id }
-    ensures shows { (now : ℕ) → Carries t.old t.new result (message_of m.now) now (KeepRefusal guid status) }
-    ensures bare { IsBare result }
+    ensures shows { (now : ℕ) → EffectCarries t.old t.new result (message_of m.now) now (KeepRefusal guid status) }
+    ensures bare { IsEffectBare result }
     ensures config { t.new.config ≡ t.old.config }
     ensures logons { LogonsStay t.old.sessions t.new.sessions }
 {
@@ -45,9 +45,9 @@ pub fn keep_refusal(t: &mut Tables, m: &Message<'_>, guid: u128, status: u32) ->
 
 /// The first answer again; an open without a session becomes this one's, with the request's sequence.
 pub fn repeat(t: &mut Tables, m: &Message<'_>, id: u64) -> Answer
-    requires { HasSessionRoom t.old.opens m.now.session_id id }
-    ensures shows { (now : ℕ) → Carries t.old t.new result (message_of m.now) now (Repeat id (create_in (command_of m.now.command))) }
-    ensures bare { IsBare result }
+    requires { HasOpensSessionRoom t.old.opens m.now.session_id id }
+    ensures shows { (now : ℕ) → EffectCarries t.old t.new result (message_of m.now) now (Repeat id (create_in (command_of m.now.command))) }
+    ensures bare { IsEffectBare result }
     ensures config { t.new.config ≡ t.old.config }
     ensures logons { LogonsStay t.old.sessions t.new.sessions }
 {
@@ -58,9 +58,9 @@ pub fn repeat(t: &mut Tables, m: &Message<'_>, id: u64) -> Answer
 
 /// An open is attached again.
 pub fn attach(t: &mut Tables, m: &Message<'_>, id: u64) -> Answer
-    requires { HasSessionRoom t.old.opens m.now.session_id id }
-    ensures shows { (now : ℕ) → Carries t.old t.new result (message_of m.now) now (Attach id (create_in (command_of m.now.command))) }
-    ensures bare { IsBare result }
+    requires { HasOpensSessionRoom t.old.opens m.now.session_id id }
+    ensures shows { (now : ℕ) → EffectCarries t.old t.new result (message_of m.now) now (Attach id (create_in (command_of m.now.command))) }
+    ensures bare { IsEffectBare result }
     ensures config { t.new.config ≡ t.old.config }
     ensures logons { LogonsStay t.old.sessions t.new.sessions }
 {
@@ -71,7 +71,7 @@ pub fn attach(t: &mut Tables, m: &Message<'_>, id: u64) -> Answer
 
 // An open without a session becomes this one's.
 fn take_up(t: &mut Tables, m: &Message<'_>, id: u64)
-    requires { HasSessionRoom t.old.opens m.now.session_id id }
+    requires { HasOpensSessionRoom t.old.opens m.now.session_id id }
     ensures shows { (s : Server) → TablesShown t.old s → s.standing id ≡ true
         → TablesShown t.new (effects.attached s (message_of m.now) id) }
     ensures kept { t.new ≡ record t.old { opens = t.new.opens } }

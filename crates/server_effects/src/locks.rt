@@ -1,23 +1,23 @@
 //! LOCK (MS-SMB2 3.3.5.14).
 ghost use Rattle.std.specs.Prelude.{◌≡◌, ℕ, map, true};
-ghost use Rattle.command_values.specs.Meaning.{command_of, message_of};
-ghost use Rattle.exchange_defs.specs.Effects as effects;
-ghost use Rattle.exchange_defs.specs.Effects.{set_ranges};
-ghost use Rattle.exchange_defs.specs.Opens.{file_has_open};
-ghost use Rattle.exchange_defs.specs.State.{Server};
-ghost use Rattle.exchange_defs.specs.Verdict.{KeepSlot, PutRanges};
-ghost use Rattle.session_bind.specs.Logons.{LogonsStay};
+ghost use Rattle.wire_commands.specs.values.Meaning.{command_of, message_of};
+ghost use Rattle.spec_exchange.specs.Effects as effects;
+ghost use Rattle.spec_exchange.specs.Effects.{set_ranges};
+ghost use Rattle.spec_exchange.specs.Opens.{file_has_open};
+ghost use Rattle.spec_exchange.specs.State.{Server};
+ghost use Rattle.spec_exchange.specs.Verdict.{KeepSlot, PutRanges};
+ghost use Rattle.server_checks.specs.session_table.Logons.{LogonsStay};
 ghost use Rattle.server_checks.specs.Shown.{TablesShown};
-ghost use Rattle.server_effects.specs.Carried.{Carries, IsBare};
-ghost use Rattle.server_verdicts.specs.Views.{elements_in};
-ghost use Rattle.share_modes.specs.Locking.{range_of};
+ghost use Rattle.server_effects.specs.Carried.{EffectCarries, IsEffectBare};
+ghost use Rattle.server_checks.specs.verdicts.Views.{elements_in};
+ghost use Rattle.store_opens.specs.share_modes.Locking.{range_of};
 
 use crate::answering::{Answer, acting, quiet};
 use crate::reached::reach;
-use command_values::{Body, Message};
 use server_checks::Tables;
-use server_verdicts::status::SUCCESS;
-use share_modes::Range;
+use server_checks::status::SUCCESS;
+use store_opens::Range;
+use wire_commands::{Body, Message};
 
 /// A LOCK fails, and its slot keeps the status.
 pub fn keep_slot(
@@ -28,9 +28,9 @@ pub fn keep_slot(
     number: u8,
     status: u32,
 ) -> Answer
-    ensures shows { (now : ℕ) → Carries t.old t.new result (message_of m.now) now
+    ensures shows { (now : ℕ) → EffectCarries t.old t.new result (message_of m.now) now
         (KeepSlot id index number status (elements_in (command_of m.now.command))) }
-    ensures bare { IsBare result }
+    ensures bare { IsEffectBare result }
     ensures config { t.new.config ≡ t.old.config }
     ensures logons { LogonsStay t.old.sessions t.new.sessions }
 {
@@ -48,9 +48,9 @@ pub fn put_ranges(
     number: u8,
     ranges: Vec<Range>,
 ) -> Answer
-    ensures shows { (now : ℕ) → Carries t.old t.new result (message_of m.now) now
+    ensures shows { (now : ℕ) → EffectCarries t.old t.new result (message_of m.now) now
         (PutRanges id index number (map range_of ranges.items) (elements_in (command_of m.now.command))) }
-    ensures bare { IsBare result }
+    ensures bare { IsEffectBare result }
     ensures config { t.new.config ≡ t.old.config }
     ensures logons { LogonsStay t.old.sessions t.new.sessions }
 {

@@ -1,31 +1,30 @@
 //! Steps of a logon (MS-SMB2 3.3.5.5, 3.3.5.5.3): a challenge goes out, a channel joins its session, or a session begins.
 ghost use Rattle.std.specs.Prelude.{◌≡◌, ◌+◌, ◌<◌, ℕ, false, List, None, Option, Some};
-ghost use Rattle.command_values.specs.Meaning.{message_of, reply_of};
-ghost use Rattle.exchange_defs.specs.Commands.{SetupRequest};
-ghost use Rattle.exchange_defs.specs.Effects.{add_session};
-ghost use Rattle.exchange_defs.specs.State as says;
-ghost use Rattle.exchange_defs.specs.State.{Server};
-ghost use Rattle.exchange_defs.specs.Status.{more_processing_required, success};
-ghost use Rattle.exchange_defs.specs.Table.{put};
-ghost use Rattle.exchange_defs.specs.Verdict.{Challenge, ChallengeBinding, Join};
-ghost use Rattle.server_law.specs.Fits.{Fits};
-ghost use Rattle.session_bind.specs.Logons.{LogonsShown, LogonsStay};
-ghost use Rattle.session_bind.specs.Shown.{HasChannelRoom, HasLink, HasSessionRoom};
-ghost use Rattle.session_defs.specs.declared.material.Keys.{Keys};
-ghost use Rattle.token_defs.specs.Tokens.{Pending};
+ghost use Rattle.wire_commands.specs.values.Meaning.{message_of, reply_of};
+ghost use Rattle.spec_exchange.specs.Commands.{SetupRequest};
+ghost use Rattle.spec_exchange.specs.Effects.{add_session};
+ghost use Rattle.spec_exchange.specs.State as says;
+ghost use Rattle.spec_exchange.specs.State.{Server};
+ghost use Rattle.spec_exchange.specs.Status.{more_processing_required, success};
+ghost use Rattle.spec_exchange.specs.Table.{put};
+ghost use Rattle.spec_exchange.specs.Verdict.{Challenge, ChallengeBinding, Join};
+ghost use Rattle.law_server.specs.tables.Fits.{Fits};
+ghost use Rattle.server_checks.specs.session_table.Logons.{LogonsShown, LogonsStay};
+ghost use Rattle.server_checks.specs.session_table.Shown.{HasChannelRoom, HasLink, HasSessionRoom};
+ghost use Rattle.spec_crypto.specs.declared.sessions.material.Keys.{Keys};
+ghost use Rattle.spec_crypto.specs.tokens.Tokens.{Pending};
 ghost use Rattle.server_checks.specs.Shown.{TablesShown};
 ghost use Rattle.server_effects.specs.Able.{Able};
-ghost use Rattle.server_effects.specs.Carried.{Carries, KeepsChallenge};
+ghost use Rattle.server_effects.specs.Carried.{EffectCarries, KeepsChallenge};
 ghost use Rattle.server_effects.specs.Ready.{IsRowFor};
 
 use crate::answering::{Answer, reply};
-use command_values::{Body, Message, Reply};
-use ntlmv2::Acceptor;
-use server_checks::Tables;
-use server_verdicts::status::{MORE_PROCESSING_REQUIRED, SUCCESS};
-use session_bind::SessionRow;
-use session_defs::Keys;
-use smb_bytes::Bytes;
+use crypto_sessions::Acceptor;
+use server_checks::status::{MORE_PROCESSING_REQUIRED, SUCCESS};
+use server_checks::{SessionRow, Tables};
+use spec_crypto::Keys;
+use wire_bytes::Bytes;
+use wire_commands::{Body, Message, Reply};
 
 /// A new session is in the making, under the next id.
 pub fn challenge(
@@ -36,7 +35,7 @@ pub fn challenge(
     token: Bytes,
 ) -> Answer
     requires { HasLink t.old.sessions m.now.connection × (t.old.sessions.given < 0xffff_ffff) }
-    ensures shows { (now : ℕ) → Carries t.old t.new result (message_of m.now) now Challenge }
+    ensures shows { (now : ℕ) → EffectCarries t.old t.new result (message_of m.now) now Challenge }
     ensures beside { KeepsChallenge t.old t.new result (message_of m.now) list acceptor token }
     ensures config { t.new.config ≡ t.old.config }
 {
@@ -54,7 +53,7 @@ pub fn challenge_binding(
     token: Bytes,
 ) -> Answer
     requires { HasLink t.old.sessions m.now.connection }
-    ensures shows { (now : ℕ) → Carries t.old t.new result (message_of m.now) now (ChallengeBinding session) }
+    ensures shows { (now : ℕ) → EffectCarries t.old t.new result (message_of m.now) now (ChallengeBinding session) }
     ensures beside { KeepsChallenge t.old t.new result (message_of m.now) list acceptor token }
     ensures config { t.new.config ≡ t.old.config }
 {
@@ -66,7 +65,7 @@ pub fn challenge_binding(
 /// A session has a further channel, whose number is the next one.
 pub fn join(t: &mut Tables, m: &Message<'_>, session: u64, keys: Keys, token: Bytes) -> Answer
     requires { HasLink t.old.sessions m.now.connection × HasChannelRoom t.old.sessions session }
-    ensures shows { (now : ℕ) → Carries t.old t.new result (message_of m.now) now (Join session) }
+    ensures shows { (now : ℕ) → EffectCarries t.old t.new result (message_of m.now) now (Join session) }
     ensures beside { (result.token ≡ token) × (result.keys ≡ Some keys) }
     ensures channel { (s : Server) → TablesShown t.old s → Able s (message_of m.now) (Join session)
         → result.channel ≡ Some (s.channel_numbers_drawn session + 1) }

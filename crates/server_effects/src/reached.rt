@@ -1,19 +1,19 @@
 //! Requests that came to their open (MS-SMB2 3.3.5.2.10): its channel sequence is theirs where that is newer.
 ghost use Rattle.std.specs.Prelude.{◌≡◌, ℕ, true};
-ghost use Rattle.command_values.specs.Meaning.{body_of, message_of};
-ghost use Rattle.exchange_defs.specs.Effects.{reach};
-ghost use Rattle.exchange_defs.specs.State.{Server};
-ghost use Rattle.exchange_defs.specs.Verdict.{Show, Tell, TurnDown};
-ghost use Rattle.open_table.specs.Changes.{located_at};
-ghost use Rattle.session_bind.specs.Logons.{LogonsStay};
+ghost use Rattle.wire_commands.specs.values.Meaning.{body_of, message_of};
+ghost use Rattle.spec_exchange.specs.Effects.{reach};
+ghost use Rattle.spec_exchange.specs.State.{Server};
+ghost use Rattle.spec_exchange.specs.Verdict.{Show, Tell, TurnDown};
+ghost use Rattle.store_opens.specs.open_table.Changes.{located_at};
+ghost use Rattle.server_checks.specs.session_table.Logons.{LogonsStay};
 ghost use Rattle.server_checks.specs.Shown.{TablesShown};
-ghost use Rattle.server_effects.specs.Carried.{Carries, IsBare};
+ghost use Rattle.server_effects.specs.Carried.{EffectCarries, IsEffectBare};
 
 use crate::answering::{Answer, quiet};
-use command_values::{Body, Message};
 use server_checks::Tables;
-use server_verdicts::status::SUCCESS;
-use smb_bytes::Text;
+use server_checks::status::SUCCESS;
+use wire_bytes::Text;
+use wire_commands::{Body, Message};
 
 /// The request comes to its open.
 pub fn reach(t: &mut Tables, m: &Message<'_>, id: u64)
@@ -25,8 +25,8 @@ pub fn reach(t: &mut Tables, m: &Message<'_>, id: u64)
 
 /// It fails, and nothing else changes.
 pub fn turn_down(t: &mut Tables, m: &Message<'_>, id: u64, status: u32) -> Answer
-    ensures shows { (now : ℕ) → Carries t.old t.new result (message_of m.now) now (TurnDown id status) }
-    ensures bare { IsBare result }
+    ensures shows { (now : ℕ) → EffectCarries t.old t.new result (message_of m.now) now (TurnDown id status) }
+    ensures bare { IsEffectBare result }
     ensures config { t.new.config ≡ t.old.config }
     ensures logons { LogonsStay t.old.sessions t.new.sessions }
 {
@@ -36,8 +36,8 @@ pub fn turn_down(t: &mut Tables, m: &Message<'_>, id: u64, status: u32) -> Answe
 
 /// It succeeds, and nothing else changes.
 pub fn tell(t: &mut Tables, m: &Message<'_>, id: u64, body: Body) -> Answer
-    ensures shows { (now : ℕ) → Carries t.old t.new result (message_of m.now) now (Tell id (body_of body)) }
-    ensures bare { IsBare result }
+    ensures shows { (now : ℕ) → EffectCarries t.old t.new result (message_of m.now) now (Tell id (body_of body)) }
+    ensures bare { IsEffectBare result }
     ensures config { t.new.config ≡ t.old.config }
     ensures logons { LogonsStay t.old.sessions t.new.sessions }
 {
@@ -47,8 +47,8 @@ pub fn tell(t: &mut Tables, m: &Message<'_>, id: u64, body: Body) -> Answer
 
 /// A listing that goes on behind this name.
 pub fn show(t: &mut Tables, m: &Message<'_>, id: u64, last: Option<Text>, body: Body) -> Answer
-    ensures shows { (now : ℕ) → Carries t.old t.new result (message_of m.now) now (Show id last (body_of body)) }
-    ensures bare { IsBare result }
+    ensures shows { (now : ℕ) → EffectCarries t.old t.new result (message_of m.now) now (Show id last (body_of body)) }
+    ensures bare { IsEffectBare result }
     ensures config { t.new.config ≡ t.old.config }
     ensures logons { LogonsStay t.old.sessions t.new.sessions }
 {

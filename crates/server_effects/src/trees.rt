@@ -1,25 +1,25 @@
 //! Trees of a session (MS-SMB2 3.3.5.7, 3.3.5.8).
 ghost use Rattle.std.specs.Prelude.{◌≡◌, ℕ, false};
-ghost use Rattle.command_values.specs.Meaning.{body_of, message_of, reply_of};
-ghost use Rattle.exchange_defs.specs.Effects as effects;
-ghost use Rattle.exchange_defs.specs.Status.{success};
-ghost use Rattle.exchange_defs.specs.Verdict.{AddTree, DropTree};
-ghost use Rattle.session_bind.specs.Logons.{LogonsStay};
-ghost use Rattle.session_bind.specs.Shown.{HasTreeRoom};
-ghost use Rattle.server_effects.specs.Carried.{Carries, IsBare};
+ghost use Rattle.wire_commands.specs.values.Meaning.{body_of, message_of, reply_of};
+ghost use Rattle.spec_exchange.specs.Effects as effects;
+ghost use Rattle.spec_exchange.specs.Status.{success};
+ghost use Rattle.spec_exchange.specs.Verdict.{AddTree, DropTree};
+ghost use Rattle.server_checks.specs.session_table.Logons.{LogonsStay};
+ghost use Rattle.server_checks.specs.session_table.Shown.{HasTreeRoom};
+ghost use Rattle.server_effects.specs.Carried.{EffectCarries, IsEffectBare};
 
 use crate::answering::{Answer, quiet};
-use command_values::{Body, Message, Reply};
 use server_checks::Tables;
-use server_verdicts::status::SUCCESS;
-use smb_bytes::Bytes;
+use server_checks::status::SUCCESS;
 use std::alloc::Global;
+use wire_bytes::Bytes;
+use wire_commands::{Body, Message, Reply};
 
 /// The session connects to a tree of the next id.
 pub fn add_tree(t: &mut Tables, m: &Message<'_>, pipes: bool) -> Answer
     requires { HasTreeRoom t.old.sessions m.now.session_id }
-    ensures shows { (now : ℕ) → Carries t.old t.new result (message_of m.now) now (AddTree pipes) }
-    ensures bare { IsBare result }
+    ensures shows { (now : ℕ) → EffectCarries t.old t.new result (message_of m.now) now (AddTree pipes) }
+    ensures bare { IsEffectBare result }
     ensures config { t.new.config ≡ t.old.config }
     ensures logons { LogonsStay t.old.sessions t.new.sessions }
 {
@@ -29,8 +29,8 @@ pub fn add_tree(t: &mut Tables, m: &Message<'_>, pipes: bool) -> Answer
 
 /// The tree of the message is gone.
 pub fn drop_tree(t: &mut Tables, m: &Message<'_>) -> Answer
-    ensures shows { (now : ℕ) → Carries t.old t.new result (message_of m.now) now DropTree }
-    ensures bare { IsBare result }
+    ensures shows { (now : ℕ) → EffectCarries t.old t.new result (message_of m.now) now DropTree }
+    ensures bare { IsEffectBare result }
     ensures config { t.new.config ≡ t.old.config }
     ensures logons { LogonsStay t.old.sessions t.new.sessions }
 {
@@ -43,7 +43,7 @@ fn tree_answer(alloc: Global, m: &Message<'_>, tree_id: u32, pipes: bool) -> Ans
     ensures reply { reply_of result.reply
         ≡ record { status = success; session_id = m.now.session_id; tree_id = tree_id; body = effects.connected pipes } }
     ensures acted { result.acted ≡ false }
-    ensures bare { IsBare result }
+    ensures bare { IsEffectBare result }
 {
     Answer {
         reply: Reply {

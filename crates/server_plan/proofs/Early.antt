@@ -1,20 +1,20 @@
 -- Events that want no memory to be ruled on.
 use Rattle.std.proofs.Common.{◌≡◌, ℕ, ◌||◌, Bool, true, false, not, if◌then◌else◌, length, nat_le, Option, Some, None, is_some, refl}
-use Rattle.command_values.specs.Meaning.{message_of}
-use Rattle.exchange_defs.specs.Check.{has_session, owed}
-use Rattle.exchange_defs.specs.Commands.{is_setup}
-use Rattle.exchange_defs.specs.State as model
-use Rattle.exchange_defs.specs.State.{Accept, End, Heard, Server, ServerEvent, Stop}
-use Rattle.exchange_defs.specs.Status.{user_session_deleted}
-use Rattle.exchange_defs.specs.Step as steps
-use Rattle.exchange_defs.specs.Step.{max_connections, ruling}
-use Rattle.exchange_defs.specs.Verdict.{Refuse}
-use Rattle.server_asked.specs.Heard.{event_of}
-use Rattle.server_asked.specs.declared.asked.Asked.{Asked}
-use Rattle.server_asked.specs.declared.asked.Asked.TheVariants as askings
-use Rattle.server_owed.specs.Owing.{may_owe}
+use Rattle.wire_commands.specs.values.Meaning.{message_of}
+use Rattle.spec_exchange.specs.Check.{has_session, owed}
+use Rattle.spec_exchange.specs.Commands.{is_setup}
+use Rattle.spec_exchange.specs.State as model
+use Rattle.spec_exchange.specs.State.{Accept, End, Heard, Server, ServerEvent, Stop}
+use Rattle.spec_exchange.specs.Status.{user_session_deleted}
+use Rattle.spec_exchange.specs.Step as steps
+use Rattle.spec_exchange.specs.Step.{max_connections, ruling}
+use Rattle.spec_exchange.specs.Verdict.{Refuse}
+use Rattle.server_checks.specs.event_heard.Heard.{event_of}
+use Rattle.server_checks.specs.declared.event_heard.asked.Asked.{Asked}
+use Rattle.server_checks.specs.declared.event_heard.asked.Asked.TheVariants as askings
+use Rattle.server_plan.specs.owed_records.Owing.{may_owe}
 use Rattle.server_plan.specs.Plans.{is_early, may_owe_by}
-use Rattle.server_rulings.specs.Rulings.{is_said}
+use Rattle.server_plan.specs.rulings.Rulings.{is_said}
 
 pub not_ok : false ≡ true → ⊥
 not_ok h = cc

@@ -1,15 +1,15 @@
 -- Rulings that owe no record, and what stands in the place of one whose records don't fit, which owes none.
 use Rattle.std.proofs.Common.{◌≡◌, ℕ, ◌&&◌, Bool, true, false, not, List, [], ◌∷◌, ◌++◌, Option, Some, None, is_some, refl, ap, ◌∙◌}
-use Rattle.exchange_defs.specs.CheckCreate.{refused_by}
-use Rattle.exchange_defs.specs.Commands.{Durable}
-use Rattle.exchange_defs.specs.Effects.{apply, end_records, records_if_named}
-use Rattle.exchange_defs.specs.Records.{origin_at, origin_of}
-use Rattle.exchange_defs.specs.State.{Message, Origin, Record, Server}
-use Rattle.exchange_defs.specs.Status.{disk_full}
-use Rattle.exchange_defs.specs.Step.{Ruling, Says, TakesAllOut, TakesIn, TakesOut, TurnsAway, carried_out, ends_with}
-use Rattle.exchange_defs.specs.Step.{ruling_without_room, take_all_records, take_out, without_room}
-use Rattle.exchange_defs.specs.Verdict.{Alter, Begin, CloseOpen, EndSession, KeepSlot, Make, PutRanges, Verdict}
-use Rattle.server_owed.specs.Owing.{may_owe}
+use Rattle.spec_exchange.specs.CheckCreate.{refused_by}
+use Rattle.spec_exchange.specs.Commands.{Durable}
+use Rattle.spec_exchange.specs.Effects.{apply, end_records, records_if_named}
+use Rattle.spec_exchange.specs.Records.{origin_at, origin_of}
+use Rattle.spec_exchange.specs.State.{Message, Origin, Record, Server}
+use Rattle.spec_exchange.specs.Status.{disk_full}
+use Rattle.spec_exchange.specs.Step.{Ruling, Says, TakesAllOut, TakesIn, TakesOut, TurnsAway, carried_out, ends_with}
+use Rattle.spec_exchange.specs.Step.{ruling_without_room, take_all_records, take_out, without_room}
+use Rattle.spec_exchange.specs.Verdict.{Alter, Begin, CloseOpen, EndSession, KeepSlot, Make, PutRanges, Verdict}
+use Rattle.server_plan.specs.owed_records.Owing.{may_owe}
 use Rattle.server_plan.specs.Plans.{may_owe_by}
 
 true_not : true ≡ false → ⊥

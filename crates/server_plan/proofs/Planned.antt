@@ -3,29 +3,29 @@ use Rattle.std.proofs.Common.{◌≡◌, ◌≤◌, ◌<◌, ℕ, suc, ◌+◌, 
 use Rattle.std.proofs.Common.{Option, refl, sym, ap, subst, arith, eqb-true, ◌∙◌}
 use Rattle.std.specs.Prelude.{IfOk, Result, Ok, Err}
 use Rattle.std.proofs.lemmas.Bool.Decides.{nat_tests}
-use Rattle.command_values.specs.declared.request.Message.{Message}
-use Rattle.exchange_defs.specs.Check.{check}
-use Rattle.exchange_defs.specs.Records.{fits}
-use Rattle.exchange_defs.specs.State as model
-use Rattle.exchange_defs.specs.State.{Accept, Answer, End, Heard, Server, ServerEvent, Stop}
-use Rattle.exchange_defs.specs.Step as steps
-use Rattle.exchange_defs.specs.Step.{carried_out, max_connections, ruling, ruling_without_room, without_room}
-use Rattle.server_asked.specs.Heard.{event_of}
-use Rattle.server_asked.specs.declared.asked.Asked.{Asked}
-use Rattle.server_asked.specs.declared.asked.Asked.TheVariants as askings
-use Rattle.server_asked.specs.declared.asked.LogonPart.{LogonPart}
-use Rattle.journal_records.specs.Meaning.{record_of, records_of}
-use Rattle.journal_records.specs.declared.value.Record.{Record}
-use Rattle.server_body.specs.Body.{IsBody, IsBodyOf, fits_by}
-use Rattle.server_law.specs.Fits.{Fits}
-use Rattle.server_owed.specs.Owing.{Owing}
+use Rattle.wire_commands.specs.declared.values.request.Message.{Message}
+use Rattle.spec_exchange.specs.Check.{check}
+use Rattle.spec_exchange.specs.Records.{fits}
+use Rattle.spec_exchange.specs.State as model
+use Rattle.spec_exchange.specs.State.{Accept, Answer, End, Heard, Server, ServerEvent, Stop}
+use Rattle.spec_exchange.specs.Step as steps
+use Rattle.spec_exchange.specs.Step.{carried_out, max_connections, ruling, ruling_without_room, without_room}
+use Rattle.server_checks.specs.event_heard.Heard.{event_of}
+use Rattle.server_checks.specs.declared.event_heard.asked.Asked.{Asked}
+use Rattle.server_checks.specs.declared.event_heard.asked.Asked.TheVariants as askings
+use Rattle.server_checks.specs.declared.event_heard.asked.LogonPart.{LogonPart}
+use Rattle.journal.specs.record_bytes.Meaning.{record_of, records_of}
+use Rattle.journal.specs.declared.record_bytes.value.Record.{Record}
+use Rattle.server_records.specs.record_bodies.Body.{IsBody, IsBodyOf, fits_by}
+use Rattle.law_server.specs.tables.Fits.{Fits}
+use Rattle.server_plan.specs.owed_records.Owing.{Owing}
 use Rattle.server_plan.proofs.Lesser.{lesser_owes, none_owed}
 use Rattle.server_plan.specs.Plans.{OwingOf, PlanFor, may_owe_by}
 use Rattle.server_plan.specs.declared.plan.Plan.{Plan}
-use Rattle.server_rulings.specs.Rulings.{ruling_of}
-use Rattle.server_rulings.specs.declared.ruling.Ruling.{Ruling}
-use Rattle.server_rulings.specs.declared.ruling.Ruling.TheVariants as rulings
-use Rattle.server_verdicts.specs.declared.verdict.Verdict.{Verdict}
+use Rattle.server_plan.specs.rulings.Rulings.{ruling_of}
+use Rattle.server_plan.specs.declared.rulings.ruling.Ruling.{Ruling}
+use Rattle.server_plan.specs.declared.rulings.ruling.Ruling.TheVariants as rulings
+use Rattle.server_checks.specs.declared.verdicts.verdict.Verdict.{Verdict}
 
 pub if_ok_by : {X Y : Type 0} {P Q : X → Type 0} (r : Result X Y) → IfOk r P → ((x : X) → P x → Q x) → IfOk r Q
 if_ok_by (Ok x) p f = f x p
@@ -91,7 +91,8 @@ fitting s now e p h b k =
       body = subst (λ (x : Answer). IsBodyOf p.body x.records) (sym (either_by (fits s A.records) A B k)) b;
     }
 
-pub lesser : (s : Server) (now : ℕ) (e : ServerEvent) (r : steps.Ruling) (p : Plan) → r ≡ ruling s e → ruling_of e p.ruling ≡ ruling_without_room r
+pub lesser : (s : Server) (now : ℕ) (e : ServerEvent) (r : steps.Ruling) (p : Plan) → r ≡ ruling s e
+    → ruling_of e p.ruling ≡ ruling_without_room r
     → p.body ≡ [] → fits s (carried_out s now (ruling s e)).records ≡ false → PlanFor p s now e
 lesser s now e r p h l b k =
     let q = ruling s e in let A = carried_out s now q in let B = carried_out s now (ruling_without_room q) in record {

@@ -1,15 +1,15 @@
 -- What an event comes to, with the body of its records.
 use Rattle.std.specs.Prelude.{◌≡◌, ℕ, ◌||◌, Bool, true, false, not, is_some, if◌then◌else◌, ⊤}
-use Rattle.exchange_defs.specs.Check.{has_session}
-use Rattle.exchange_defs.specs.Commands.{is_setup}
-use Rattle.exchange_defs.specs.Records.{fits}
-use Rattle.exchange_defs.specs.State as model
-use Rattle.exchange_defs.specs.Step.{carried_out, event_answer}
-use Rattle.exchange_defs.specs.Step as steps
-use Rattle.server_body.specs.Body.{IsBodyOf}
-use Rattle.server_owed.specs.Owing.{Owing, may_owe}
+use Rattle.spec_exchange.specs.Check.{has_session}
+use Rattle.spec_exchange.specs.Commands.{is_setup}
+use Rattle.spec_exchange.specs.Records.{fits}
+use Rattle.spec_exchange.specs.State as model
+use Rattle.spec_exchange.specs.Step.{carried_out, event_answer}
+use Rattle.spec_exchange.specs.Step as steps
+use Rattle.server_records.specs.record_bodies.Body.{IsBodyOf}
+use Rattle.server_plan.specs.owed_records.Owing.{Owing, may_owe}
 use Rattle.server_plan.specs.declared.plan.Plan.{Plan}
-use Rattle.server_rulings.specs.Rulings.{ruling_of}
+use Rattle.server_plan.specs.rulings.Rulings.{ruling_of}
 
 -- its records can be told
 abbrev pub OwingOf : model.Server → steps.Ruling → Type 0

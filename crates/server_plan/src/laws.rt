@@ -1,14 +1,14 @@
 //! What a plan leans on and what is had of it.
 ghost use Rattle.std.specs.Prelude.{ℕ};
-ghost use Rattle.exchange_defs.specs.State.{Server, ServerEvent};
-ghost use Rattle.exchange_defs.specs.Step as steps;
-ghost use Rattle.server_law.specs.Fits.{Fits};
+ghost use Rattle.spec_exchange.specs.State.{Server, ServerEvent};
+ghost use Rattle.spec_exchange.specs.Step as steps;
+ghost use Rattle.law_server.specs.tables.Fits.{Fits};
 ghost use Rattle.server_plan.specs.Plans.{OwingOf, PlanFor};
 ghost use Rattle.server_plan.specs.declared.plan.Plan.{Plan};
-ghost use Rattle.server_rulings.specs.Rulings.{AbleToRule, ruling_of};
+ghost use Rattle.server_plan.specs.rulings.Rulings.{AbleToRule, ruling_of};
 
-use server_owed::owing_law;
-use server_rulings::ruling_law;
+use crate::owed_records::owing_law;
+use crate::rulings::ruling_law;
 
 /// The records of the ruling on an event can be told in a state that fits, with room or without; those of a planned ruling can
 /// be told, and it can be carried out.

@@ -1,21 +1,19 @@
 //! The records of what an event comes to.
 ghost use Rattle.std.specs.Prelude.{◌≡◌, IfOk, IsOk, false};
-ghost use Rattle.exchange_defs.specs.State.{Server};
-ghost use Rattle.exchange_defs.specs.Step.{carried_out};
-ghost use Rattle.journal_records.specs.Meaning.{records_of};
-ghost use Rattle.server_asked.specs.Heard.{event_of};
+ghost use Rattle.spec_exchange.specs.State.{Server};
+ghost use Rattle.spec_exchange.specs.Step.{carried_out};
+ghost use Rattle.journal.specs.record_bytes.Meaning.{records_of};
+ghost use Rattle.server_checks.specs.event_heard.Heard.{event_of};
 ghost use Rattle.server_checks.specs.Shown.{TablesShown};
-ghost use Rattle.server_law.specs.Fits.{Fits};
+ghost use Rattle.law_server.specs.tables.Fits.{Fits};
 ghost use Rattle.server_plan.specs.Plans.{OwingOf, may_owe_by};
-ghost use Rattle.server_rulings.specs.Rulings.{ruling_of};
-ghost use Rattle.server_rulings.specs.declared.ruling.Ruling.TheVariants.{Says};
+ghost use Rattle.server_plan.specs.rulings.Rulings.{ruling_of};
+ghost use Rattle.server_plan.specs.declared.rulings.ruling.Ruling.TheVariants.{Says};
 
-use journal_records::Records;
-use server_asked::Asked;
-use server_checks::Tables;
-use server_owed::owed;
-use server_rulings::{Ruling, all_lost_records, lost_records};
-use server_verdicts::Verdict;
+use crate::owed_records::owed;
+use crate::rulings::{Ruling, all_lost_records, lost_records};
+use journal::Records;
+use server_checks::{Asked, Tables, Verdict};
 use std::alloc::AllocError;
 
 /// The records of what an event comes to, as it is carried out at `now` (100 ns since 1601).

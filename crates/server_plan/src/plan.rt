@@ -1,24 +1,23 @@
 //! What an event comes to, with the body of its records.
 ghost use Rattle.std.specs.Prelude.{◌≡◌, [], ℕ, IfOk, IsOk, IsOkAnd, false, length, true};
-ghost use Rattle.exchange_defs.specs.State as model;
-ghost use Rattle.exchange_defs.specs.Step as steps;
-ghost use Rattle.exchange_defs.specs.Step.{carried_out};
-ghost use Rattle.server_asked.specs.Heard.{event_of};
-ghost use Rattle.server_body.specs.Body.{IsBody, IsBodyOf, fits_by};
+ghost use Rattle.spec_exchange.specs.State as model;
+ghost use Rattle.spec_exchange.specs.Step as steps;
+ghost use Rattle.spec_exchange.specs.Step.{carried_out};
+ghost use Rattle.server_checks.specs.event_heard.Heard.{event_of};
+ghost use Rattle.server_records.specs.record_bodies.Body.{IsBody, IsBodyOf, fits_by};
 ghost use Rattle.server_checks.specs.Shown.{TablesShown};
-ghost use Rattle.server_law.specs.Fits.{Fits};
+ghost use Rattle.law_server.specs.tables.Fits.{Fits};
 ghost use Rattle.server_plan.specs.Plans.{OwingOf, PlanFor, is_early, may_owe_by};
-ghost use Rattle.server_rulings.specs.Rulings.{ruling_of};
+ghost use Rattle.server_plan.specs.rulings.Rulings.{ruling_of};
 
+use crate::owed_records::owing_law;
 use crate::owing::owed_by;
-use journal_records::Records;
-use server_asked::Asked;
-use server_body::{body_law, spelled};
-use server_checks::Tables;
-use server_owed::owing_law;
-use server_rulings::{Ruling, rule, without_records};
-use smb_bytes::Bytes;
+use crate::rulings::{Ruling, rule, without_records};
+use journal::Records;
+use server_checks::{Asked, Tables};
+use server_records::{body_law, spelled};
 use std::alloc::{AllocError, Global};
+use wire_bytes::Bytes;
 
 // Entries that begin no epoch end here, and a body has its length in front, in 4 bytes, and the next gate behind.
 const ROOM: u64 = 939_524_091;

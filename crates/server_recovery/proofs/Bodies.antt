@@ -1,17 +1,17 @@
 -- One more body behind those that were read.
 use Rattle.std.proofs.Common.{◌≡◌, ℕ, true, List, [], ◌∷◌, ◌++◌, refl, sym, ap, subst, ◌∙◌, append_assoc}
 use Rattle.std.proofs.lemmas.List.{append-nil}
-use Rattle.exchange_defs.specs.State as model
-use Rattle.exchange_defs.specs.State.{Server}
-use Rattle.exchange_defs.specs.Fold.{nothing_yet, fold_from, with_record}
-use Rattle.journal_records.specs.Grammar.{SpellsRecords}
-use Rattle.journal_records.specs.Meaning.{records_of}
-use Rattle.journal_records.specs.declared.value.Record.{Record}
-use Rattle.server_law.specs.Fits.{Fits, is_sound, all_sound}
-use Rattle.server_law.proofs.Logic.{front_of, back_of, both}
-use Rattle.server_law.proofs.Folded.{folded_keeps, sound_more}
-use Rattle.server_fold.specs.Durable.{DurableShown}
-use Rattle.server_fold.specs.declared.durable.Durable.{Durable}
+use Rattle.spec_exchange.specs.State as model
+use Rattle.spec_exchange.specs.State.{Server}
+use Rattle.spec_exchange.specs.Fold.{nothing_yet, fold_from, with_record}
+use Rattle.journal.specs.record_bytes.Grammar.{SpellsRecords}
+use Rattle.journal.specs.record_bytes.Meaning.{records_of}
+use Rattle.journal.specs.declared.record_bytes.value.Record.{Record}
+use Rattle.law_server.specs.tables.Fits.{Fits, is_sound, all_sound}
+use Rattle.law_server.proofs.tables.Logic.{front_of, back_of, both}
+use Rattle.law_server.proofs.tables.Folded.{folded_keeps, sound_more}
+use Rattle.server_records.specs.durable_state.Durable.{DurableShown}
+use Rattle.server_records.specs.declared.durable_state.durable.Durable.{Durable}
 use Rattle.server_recovery.specs.Reading.{SpellFrom, FoldedBy, IsReadFrom}
 
 -- ---- folds and sound records of two lists

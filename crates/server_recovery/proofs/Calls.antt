@@ -1,6 +1,6 @@
 -- Calls of a journal one behind the other.
 use Rattle.std.proofs.Common.{inl, inr, ⊎_elim, ℕ, List, refl, ◌∙◌, arith}
-use Rattle.journal_defs.specs.Moments.{LeavesOnly, Quiet}
+use Rattle.spec_wire.specs.journal.Moments.{LeavesOnly, Quiet}
 
 -- ---- runs of calls that only read
 

@@ -1,16 +1,16 @@
 -- The state of no records fits together.
 use Rattle.std.proofs.Common.{◌≡◌, false, refl, arith}
-use Rattle.exchange_defs.specs.Commands.{deletes_on_close}
-use Rattle.exchange_defs.specs.Files.{exists, exists_in}
-use Rattle.exchange_defs.specs.Fold.{nothing_yet}
-use Rattle.server_law.specs.Fits.{Fits}
+use Rattle.spec_exchange.specs.Commands.{deletes_on_close}
+use Rattle.spec_exchange.specs.Files.{exists, exists_in}
+use Rattle.spec_exchange.specs.Fold.{nothing_yet}
+use Rattle.law_server.specs.tables.Fits.{Fits}
 
 no_options : deletes_on_close 0 ≡ false
-unfolding deletes_on_close Rattle.exchange_defs.specs.Commands.has_bit
+unfolding deletes_on_close Rattle.spec_exchange.specs.Commands.has_bit
 no_options = refl
 
 pub nothing_fits : Fits nothing_yet
-unfolding Rattle.server_law.specs.Fits.is_ascending exists exists_in
+unfolding Rattle.law_server.specs.tables.Fits.is_ascending exists exists_in
 nothing_fits =
     record {
       attached = λ p x h. absurd (cc);

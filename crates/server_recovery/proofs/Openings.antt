@@ -1,12 +1,12 @@
 -- The records that a recovery writes down.
 use Rattle.std.proofs.Common.{◌≡◌, ℕ, ◌+◌, ◌==◌, Bool, true, false, if◌then◌else◌, List, [], ◌∷◌, ◌++◌, refl, sym, ap, ◌∙◌}
-use Rattle.exchange_defs.specs.Fold.{opening_records}
-use Rattle.exchange_defs.specs.State as model
-use Rattle.exchange_defs.specs.State.{Server, VersionRecord, EpochRecord}
-use Rattle.journal_records.specs.Meaning.{records_of}
-use Rattle.journal_records.specs.declared.value.Record.{Record}
-use Rattle.journal_records.specs.declared.value.Record.TheVariants.{Version, Epoch}
-use Rattle.server_fold.proofs.Choice.{eq_on, eq_off}
+use Rattle.spec_exchange.specs.Fold.{opening_records}
+use Rattle.spec_exchange.specs.State as model
+use Rattle.spec_exchange.specs.State.{Server, VersionRecord, EpochRecord}
+use Rattle.journal.specs.record_bytes.Meaning.{records_of}
+use Rattle.journal.specs.declared.record_bytes.value.Record.{Record}
+use Rattle.journal.specs.declared.record_bytes.value.Record.TheVariants.{Version, Epoch}
+use Rattle.server_records.proofs.durable_state.Choice.{eq_on, eq_off}
 use Rattle.server_recovery.specs.Opening.{versions_of}
 
 abbrev opens_with : Bool → ℕ → List model.Record

@@ -3,20 +3,20 @@ use Rattle.std.proofs.Common.{◌≡◌, ℕ, zero, suc, ◌+◌, ◌-◌, ◌<�
 use Rattle.std.proofs.Common.{refl, sym, ap, subst, ◌∙◌, append_assoc, arith}
 use Rattle.std.proofs.lemmas.List.{append-nil, append_cancel_right, take-append-drop}
 use Rattle.std.specs.Prelude.{Result, Ok, Err, IfErr, MatchResult}
-use Rattle.exchange_defs.specs.Fold.{nothing_yet, fold_from}
-use Rattle.exchange_defs.specs.State as model
-use Rattle.exchange_defs.specs.State.{Server}
-use Rattle.journal_defs.specs.Grammar.{front}
-use Rattle.journal_defs.specs.Moments.{Quiet}
-use Rattle.persist_journal.specs.Gather.{Gathered}
-use Rattle.persist_journal.specs.Journal.{JournalState, Settled, HandsOut, NextAnswers}
-use Rattle.persist_journal.specs.declared.journal.JournalError.{JournalError}
-use Rattle.persist_journal.specs.declared.journal.JournalError.TheVariants.{Memory, DiskFault, NotAJournal, Full, Stopped}
+use Rattle.spec_exchange.specs.Fold.{nothing_yet, fold_from}
+use Rattle.spec_exchange.specs.State as model
+use Rattle.spec_exchange.specs.State.{Server}
+use Rattle.spec_wire.specs.journal.Grammar.{front}
+use Rattle.spec_wire.specs.journal.Moments.{Quiet}
+use Rattle.journal.specs.disk_journal.Gather.{Gathered}
+use Rattle.journal.specs.disk_journal.Journal.{JournalState, JournalSettled, HandsOut, JournalNextAnswers}
+use Rattle.journal.specs.declared.disk_journal.journal.JournalError.{JournalError}
+use Rattle.journal.specs.declared.disk_journal.journal.JournalError.TheVariants.{Memory, DiskFault, NotAJournal, Full, Stopped}
 use Rattle.server_recovery.proofs.Calls.{quiet_begun, quiet_behind}
-use Rattle.smb_io.specs.Faults.{Rose}
-use Rattle.server_law.specs.Fits.{Fits, all_sound}
-use Rattle.server_fold.specs.Durable.{DurableShown}
-use Rattle.server_fold.specs.declared.durable.Durable.{Durable}
+use Rattle.base_outside.specs.streams.Faults.{Rose}
+use Rattle.law_server.specs.tables.Fits.{Fits, all_sound}
+use Rattle.server_records.specs.durable_state.Durable.{DurableShown}
+use Rattle.server_records.specs.declared.durable_state.durable.Durable.{Durable}
 use Rattle.server_recovery.specs.Reading.{BodiesSpell, FoldedBy, IsReadFrom, HandedOut, FoldRefused, BodyCause, BodyRefused}
 use Rattle.server_recovery.specs.Reading.{ReadRefused}
 use Rattle.server_recovery.proofs.Nothing.{nothing_fits}
@@ -75,7 +75,7 @@ module _ {D : Type 0} (told : Type 0) (seen : D → List ℕ) (may_leave : D →
 
   -- what the next call hands out
   abbrev Hands : JournalState D → Result (Option (List ℕ)) JournalError → JournalState D → Type 0
-  Hands now r new = told → (bodies : List (List ℕ)) → Settled seen may_leave now bodies → HandsOut seen may_leave now bodies r new
+  Hands now r new = told → (bodies : List (List ℕ)) → JournalSettled seen may_leave now bodies → HandsOut seen may_leave now bodies r new
 
   pub so_far_begun : ((disk : D) (c : List ℕ) → left_since disk (moment disk) c → may_leave disk c)
       → (old : JournalState D) (begun : Durable)
@@ -99,10 +99,10 @@ module _ {D : Type 0} (told : Type 0) (seen : D → List ℕ) (may_leave : D →
       ∙ ap (λ (j : JournalState D). record j { disk = new.disk; taken = new.taken; next = new.next }) a
 
   pub nearer : (now new : JournalState D) (body : List ℕ) (o : Option (List ℕ)) (r : Result (Option (List ℕ)) JournalError)
-      → r ≡ Ok o → o ≡ Some body → NextAnswers faults now r new → new.used - new.next < now.used - now.next
+      → r ≡ Ok o → o ≡ Some body → JournalNextAnswers faults now r new → new.used - new.next < now.used - now.next
   nearer now new body o r is some k =
-      let one : NextAnswers faults now (Ok (Some body)) new =
-      subst (λ (x : Result (Option (List ℕ)) JournalError). NextAnswers faults now x new) (some_of r o (Some body) is some) k in
+      let one : JournalNextAnswers faults now (Ok (Some body)) new =
+      subst (λ (x : Result (Option (List ℕ)) JournalError). JournalNextAnswers faults now x new) (some_of r o (Some body) is some) k in
       let used : new.used ≡ now.used = ap (λ (j : JournalState D). j.used) one.1 in
       let next : new.next ≡ now.next + 5 + length body = ap (λ (j : JournalState D). j.next) one.1 in
       let inside : new.next < new.used = one.2 in
@@ -111,15 +111,15 @@ module _ {D : Type 0} (told : Type 0) (seen : D → List ℕ) (may_leave : D →
   pub so_far_more : (old now new : JournalState D) (begun d e : Durable) (body : List ℕ) (o : Option (List ℕ))
       (r : Result (Option (List ℕ)) JournalError) (q : Result Unit JournalError) (v : Unit {0}) → SoFar old begun now d
       → r ≡ Ok o → o ≡ Some body → Hands now r new
-      → Quiet told seen may_leave moment left_since now.disk new.disk → NextAnswers faults now r new
+      → Quiet told seen may_leave moment left_since now.disk new.disk → JournalNextAnswers faults now r new
       → q ≡ Ok v
       → ((u : Server) → Fits u → DurableShown d u → MatchResult q (λ _. FoldedBy e u body) (λ x. BodyRefused u.version body x))
       → SoFar old begun new e
   so_far_more old now new begun d e body o r q v was is some hands quiet answers done apply =
       let one = some_of r o (Some body) is some in
       let out : Hands now (Ok (Some body)) new = subst (λ (x : Result (Option (List ℕ)) JournalError). Hands now x new) one hands in
-      let k : NextAnswers faults now (Ok (Some body)) new =
-      subst (λ (x : Result (Option (List ℕ)) JournalError). NextAnswers faults now x new) one answers in
+      let k : JournalNextAnswers faults now (Ok (Some body)) new =
+      subst (λ (x : Result (Option (List ℕ)) JournalError). JournalNextAnswers faults now x new) one answers in
       record {
         bodies = was.bodies ++ body ∷ [];
         gathered = record {
@@ -167,8 +167,8 @@ module _ {D : Type 0} (told : Type 0) (seen : D → List ℕ) (may_leave : D →
 
   pub stays_settled : (old now new : JournalState D) (begun d : Durable) (o : Option (List ℕ))
       (r : Result (Option (List ℕ)) JournalError) → SoFar old begun now d
-      → r ≡ Ok o → o ≡ None → Hands now r new → told → (bodies : List (List ℕ)) → Settled seen may_leave old bodies
-      → Settled seen may_leave new bodies
+      → r ≡ Ok o → o ≡ None → Hands now r new → told → (bodies : List (List ℕ)) → JournalSettled seen may_leave old bodies
+      → JournalSettled seen may_leave new bodies
   stays_settled old now new begun d o r was is end hands = λ t bodies settled.
       let out : Hands now (Ok None) new =
       subst (λ (x : Result (Option (List ℕ)) JournalError). Hands now x new) (some_of r o None is end) hands in
@@ -176,11 +176,11 @@ module _ {D : Type 0} (told : Type 0) (seen : D → List ℕ) (may_leave : D →
 
   pub reads_on : (old now new : JournalState D) (begun d : Durable) (o : Option (List ℕ))
       (r : Result (Option (List ℕ)) JournalError) → SoFar old begun now d
-      → r ≡ Ok o → o ≡ None → NextAnswers faults now r new → (new.stopped ≡ None) × (faults new.disk ≡ faults old.disk)
+      → r ≡ Ok o → o ≡ None → JournalNextAnswers faults now r new → (new.stopped ≡ None) × (faults new.disk ≡ faults old.disk)
       × (new.used ≡ old.used)
   reads_on old now new begun d o r was is end answers =
-      let one : NextAnswers faults now (Ok None) new =
-      subst (λ (x : Result (Option (List ℕ)) JournalError). NextAnswers faults now x new) (some_of r o None is end) answers in (
+      let one : JournalNextAnswers faults now (Ok None) new =
+      subst (λ (x : Result (Option (List ℕ)) JournalError). JournalNextAnswers faults now x new) (some_of r o None is end) answers in (
         ap (λ (j : JournalState D). j.stopped) one.2 ∙ one.0,
         ap (λ (j : JournalState D). faults j.disk) one.2 ∙ was.gathered.advances.1,
         ap (λ (j : JournalState D). j.used) one.2 ∙ ap (λ (j : JournalState D). j.used) was.gathered.advances.0,
@@ -203,13 +203,13 @@ module _ {D : Type 0} (told : Type 0) (seen : D → List ℕ) (may_leave : D →
 
   pub unread : (old now new : JournalState D) (begun d : Durable) (r : Result (Option (List ℕ)) JournalError) (x : JournalError)
       → SoFar old begun now d → r ≡ Err x → Hands now r new → told → (bodies : List (List ℕ))
-      → Settled seen may_leave old bodies → FoldRefused bodies x
+      → JournalSettled seen may_leave old bodies → FoldRefused bodies x
   unread old now new begun d r x was is hands t bodies settled =
       by_hands now new bodies x (subst (λ (y : Result (Option (List ℕ)) JournalError). HandsOut seen may_leave now bodies y new) is
       (hands t bodies (was.gathered.same t bodies settled)))
 
   by_answers : (old now new : JournalState D) (begun d : Durable) (x : JournalError) → SoFar old begun now d
-      → old.stopped ≡ None → NextAnswers faults now (Err x) new → ReadRefused faults old.disk x new
+      → old.stopped ≡ None → JournalNextAnswers faults now (Err x) new → ReadRefused faults old.disk x new
   by_answers old now new begun d Memory was on k = tt
   by_answers old now new begun d (DiskFault n) was on k =
       (subst (λ (m : ℕ). Rose m n) was.gathered.advances.1 k.0.1, k.0.2)
@@ -221,11 +221,11 @@ module _ {D : Type 0} (told : Type 0) (seen : D → List ℕ) (may_leave : D →
       none_not n (sym goes_on ∙ halted)
 
   pub unread_cause : (old now new : JournalState D) (begun d : Durable) (r : Result (Option (List ℕ)) JournalError)
-      (x : JournalError) → SoFar old begun now d → r ≡ Err x → old.stopped ≡ None → NextAnswers faults now r new
+      (x : JournalError) → SoFar old begun now d → r ≡ Err x → old.stopped ≡ None → JournalNextAnswers faults now r new
       → ReadRefused faults old.disk x new
   unread_cause old now new begun d r x was is on k =
       by_answers old now new begun d x was on
-      (subst (λ (y : Result (Option (List ℕ)) JournalError). NextAnswers faults now y new) is k)
+      (subst (λ (y : Result (Option (List ℕ)) JournalError). JournalNextAnswers faults now y new) is k)
 
   -- ---- a body was refused
 
@@ -244,7 +244,7 @@ module _ {D : Type 0} (told : Type 0) (seen : D → List ℕ) (may_leave : D →
   broken_at : (old now new : JournalState D) (begun d : Durable) (gate : ℕ) (body : List ℕ) (at : ℕ) → SoFar old begun now d
       → old.taken ≡ 0 → gate ≡ now.next → Hands now (Ok (Some body)) new → at ≡ gate
       → ((u : Server) → Fits u → DurableShown d u → BodyRefused u.version body (NotAJournal at)) → told → DurableShown begun nothing_yet
-      → (bodies : List (List ℕ)) → Settled seen may_leave old bodies → FoldRefused bodies (NotAJournal at)
+      → (bodies : List (List ℕ)) → JournalSettled seen may_leave old bodies → FoldRefused bodies (NotAJournal at)
   broken_at old now new begun d gate body at was none here out place refused t shown bodies settled =
       let s = was.gathered.same t bodies settled in
       let handed = out t bodies s in
@@ -256,7 +256,7 @@ module _ {D : Type 0} (told : Type 0) (seen : D → List ℕ) (may_leave : D →
   by_body : (old now new : JournalState D) (begun d : Durable) (gate : ℕ) (body : List ℕ) (x : JournalError) → SoFar old begun now d
       → old.taken ≡ 0 → gate ≡ now.next → Hands now (Ok (Some body)) new → BodyCause gate x
       → ((u : Server) → Fits u → DurableShown d u → BodyRefused u.version body x) → told → DurableShown begun nothing_yet
-      → (bodies : List (List ℕ)) → Settled seen may_leave old bodies → FoldRefused bodies x
+      → (bodies : List (List ℕ)) → JournalSettled seen may_leave old bodies → FoldRefused bodies x
   by_body old now new begun d gate body Memory was none here out cause refused t shown bodies settled = tt
   by_body old now new begun d gate body (DiskFault n) was none here out cause refused t shown bodies settled = tt
   by_body old now new begun d gate body (NotAJournal at) was none here out cause refused t shown bodies settled =
@@ -268,7 +268,7 @@ module _ {D : Type 0} (told : Type 0) (seen : D → List ℕ) (may_leave : D →
       (r : Result (Option (List ℕ)) JournalError) (q : Result Unit JournalError) (x : JournalError) → SoFar old begun now d
       → r ≡ Ok o → o ≡ Some body → old.taken ≡ 0 → gate ≡ now.next → Hands now r new → q ≡ Err x → IfErr q (λ y. BodyCause gate y)
       → ((u : Server) → Fits u → DurableShown d u → MatchResult q (λ _. FoldedBy e u body) (λ y. BodyRefused u.version body y))
-      → told → (s : Server) → s ≡ nothing_yet → DurableShown begun s → (bodies : List (List ℕ)) → Settled seen may_leave old bodies
+      → told → (s : Server) → s ≡ nothing_yet → DurableShown begun s → (bodies : List (List ℕ)) → JournalSettled seen may_leave old bodies
       → FoldRefused bodies x
   unfolded old now new begun d e gate body o r q x was is some none here hands stopped cause apply t s nothing shown bodies settled =
       by_body old now new begun d gate body x was none here

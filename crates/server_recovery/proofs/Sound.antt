@@ -3,17 +3,17 @@ use Rattle.std.proofs.Common.{◌≡◌, inl, inr, ℕ, ◌+◌, ◌<◌, ◌≤
 use Rattle.std.proofs.Common.{refl, sym, ap, subst, ◌∙◌, arith}
 use Rattle.std.proofs.lemmas.List.{drop_more}
 use Rattle.std.specs.Prelude.{Err}
-use Rattle.exchange_defs.specs.Fold.{fold_from}
-use Rattle.exchange_defs.specs.State.{Server}
-use Rattle.journal_records.specs.Grammar.{SpellsRecords, ReadsRecords}
-use Rattle.journal_records.specs.Meaning.{record_of, records_of}
-use Rattle.journal_records.specs.declared.fault.RecordError.{RecordError}
-use Rattle.journal_records.specs.declared.fault.RecordError.TheVariants as faulty
-use Rattle.journal_records.specs.declared.value.Record.{Record}
-use Rattle.persist_journal.specs.declared.journal.JournalError.{JournalError}
-use Rattle.server_fold.specs.Durable.{DurableShown}
-use Rattle.server_fold.specs.declared.durable.Durable.{Durable}
-use Rattle.server_law.specs.Fits.{is_sound, all_sound}
+use Rattle.spec_exchange.specs.Fold.{fold_from}
+use Rattle.spec_exchange.specs.State.{Server}
+use Rattle.journal.specs.record_bytes.Grammar.{SpellsRecords, ReadsRecords}
+use Rattle.journal.specs.record_bytes.Meaning.{record_of, records_of}
+use Rattle.journal.specs.declared.record_bytes.fault.RecordError.{RecordError}
+use Rattle.journal.specs.declared.record_bytes.fault.RecordError.TheVariants as faulty
+use Rattle.journal.specs.declared.record_bytes.value.Record.{Record}
+use Rattle.journal.specs.declared.disk_journal.journal.JournalError.{JournalError}
+use Rattle.server_records.specs.durable_state.Durable.{DurableShown}
+use Rattle.server_records.specs.declared.durable_state.durable.Durable.{Durable}
+use Rattle.law_server.specs.tables.Fits.{is_sound, all_sound}
 use Rattle.server_recovery.specs.Reading.{BodyCause, BodyRefused, FoldedBy, NoServerWrites, cause_of}
 
 -- ---- the records one by one

@@ -1,20 +1,20 @@
 -- What a recovery reads, body by body, and what stops it.
 use Rattle.std.specs.Prelude.{◌≡◌, ◌⊎◌, ℕ, List, [], ◌∷◌, ◌++◌, length, take, true, false, slice_get, Some, ⊤}
-use Rattle.exchange_defs.specs.Fold.{nothing_yet, fold, fold_from}
-use Rattle.exchange_defs.specs.State as model
-use Rattle.journal_defs.specs.Grammar.{front}
-use Rattle.journal_records.specs.Grammar.{SpellsRecords, BreaksRecords}
-use Rattle.journal_records.specs.Meaning.{records_of}
-use Rattle.journal_records.specs.declared.fault.RecordError.{RecordError}
-use Rattle.journal_records.specs.declared.fault.RecordError.TheVariants as faulty
-use Rattle.journal_records.specs.declared.value.Record.{Record}
-use Rattle.persist_journal.specs.Journal.{JournalState, Settled}
-use Rattle.persist_journal.specs.declared.journal.JournalError.{JournalError}
-use Rattle.persist_journal.specs.declared.journal.JournalError.TheVariants as causes
-use Rattle.smb_io.specs.Faults.{Rose}
-use Rattle.server_law.specs.Fits.{Fits, all_sound}
-use Rattle.server_fold.specs.Durable.{DurableShown}
-use Rattle.server_fold.specs.declared.durable.Durable.{Durable}
+use Rattle.spec_exchange.specs.Fold.{nothing_yet, fold, fold_from}
+use Rattle.spec_exchange.specs.State as model
+use Rattle.spec_wire.specs.journal.Grammar.{front}
+use Rattle.journal.specs.record_bytes.Grammar.{SpellsRecords, BreaksRecords}
+use Rattle.journal.specs.record_bytes.Meaning.{records_of}
+use Rattle.journal.specs.declared.record_bytes.fault.RecordError.{RecordError}
+use Rattle.journal.specs.declared.record_bytes.fault.RecordError.TheVariants as faulty
+use Rattle.journal.specs.declared.record_bytes.value.Record.{Record}
+use Rattle.journal.specs.disk_journal.Journal.{JournalState, JournalSettled}
+use Rattle.journal.specs.declared.disk_journal.journal.JournalError.{JournalError}
+use Rattle.journal.specs.declared.disk_journal.journal.JournalError.TheVariants as causes
+use Rattle.base_outside.specs.streams.Faults.{Rose}
+use Rattle.law_server.specs.tables.Fits.{Fits, all_sound}
+use Rattle.server_records.specs.durable_state.Durable.{DurableShown}
+use Rattle.server_records.specs.declared.durable_state.durable.Durable.{Durable}
 
 -- ---- what bodies stand for
 
@@ -52,7 +52,7 @@ pub record IsReadFrom (d : Durable) (s : model.Server) (bodies : List (List ℕ)
 
 -- where the disk tells its bytes they are all that it has
 abbrev pub HandedOut : {D : Type 0} → Type 0 → (D → List ℕ) → (D → List ℕ → Type 0) → JournalState D → List (List ℕ) → Type 0
-HandedOut told seen may_leave journal bodies = told → (all : List (List ℕ)) → Settled seen may_leave journal all → bodies ≡ all
+HandedOut told seen may_leave journal bodies = told → (all : List (List ℕ)) → JournalSettled seen may_leave journal all → bodies ≡ all
 
 -- ---- what stops it
 

@@ -1,10 +1,10 @@
 //! What bodies stand for, one behind the other.
 ghost use Rattle.std.specs.Prelude.{ℕ, List, [], ◌∷◌, ◌++◌};
-ghost use Rattle.exchange_defs.specs.Fold.{fold};
-ghost use Rattle.exchange_defs.specs.State as model;
-ghost use Rattle.journal_records.specs.Grammar.{SpellsRecords};
-ghost use Rattle.journal_records.specs.Meaning.{records_of};
-ghost use Rattle.journal_records.specs.declared.value.Record.{Record};
+ghost use Rattle.spec_exchange.specs.Fold.{fold};
+ghost use Rattle.spec_exchange.specs.State as model;
+ghost use Rattle.journal.specs.record_bytes.Grammar.{SpellsRecords};
+ghost use Rattle.journal.specs.record_bytes.Meaning.{records_of};
+ghost use Rattle.journal.specs.declared.record_bytes.value.Record.{Record};
 ghost use Rattle.server_recovery.specs.Reading.{BodiesSpell};
 
 /// With one more body, which spells records in the version that the records before it have reached, bodies spell these records too.

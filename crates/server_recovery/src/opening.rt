@@ -1,12 +1,12 @@
 //! What a recovery writes down.
 ghost use Rattle.std.specs.Prelude.{◌≡◌, IfOk};
-ghost use Rattle.exchange_defs.specs.Fold.{opening_records};
-ghost use Rattle.exchange_defs.specs.State.{Server};
-ghost use Rattle.journal_records.specs.Meaning.{records_of};
+ghost use Rattle.spec_exchange.specs.Fold.{opening_records};
+ghost use Rattle.spec_exchange.specs.State.{Server};
+ghost use Rattle.journal.specs.record_bytes.Meaning.{records_of};
 ghost use Rattle.server_recovery.specs.Opening.{versions_of};
 
-use journal_records::{Record, Records};
-use server_fold::Durable;
+use journal::{Record, Records};
+use server_records::Durable;
 use std::alloc::{AllocError, Global};
 
 /// The next epoch, in a journal of version 1 behind the record of version 2. Behind 2^32 - 1 epochs, which no journal holds,

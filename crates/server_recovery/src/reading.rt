@@ -1,21 +1,20 @@
 //! Body by body, one in memory.
 ghost use Rattle.std.specs.Prelude.{◌≡◌, ℕ, List, true, IfErr, IfOk, MatchResult, None, OnOk, ⊤};
-ghost use Rattle.exchange_defs.specs.State as model;
-ghost use Rattle.journal_defs.specs.Moments.{Quiet};
-ghost use Rattle.journal_records.specs.Grammar.{SpellsRecords};
-ghost use Rattle.journal_records.specs.Meaning.{opened, record_of, records_of};
-ghost use Rattle.persist_journal.specs.Journal.{Settled};
-ghost use Rattle.server_fold.specs.Durable.{DurableShown};
-ghost use Rattle.server_law.specs.Fits.{Fits, all_sound, is_sound, keeps_root};
+ghost use Rattle.spec_exchange.specs.State as model;
+ghost use Rattle.spec_wire.specs.journal.Moments.{Quiet};
+ghost use Rattle.journal.specs.record_bytes.Grammar.{SpellsRecords};
+ghost use Rattle.journal.specs.record_bytes.Meaning.{opened, record_of, records_of};
+ghost use Rattle.journal.specs.disk_journal.Journal.{JournalSettled};
+ghost use Rattle.server_records.specs.durable_state.Durable.{DurableShown};
+ghost use Rattle.law_server.specs.tables.Fits.{Fits, all_sound, is_sound, keeps_root};
 ghost use Rattle.server_recovery.specs.Reading.{BodyCause, BodyRefused, FoldRefused, FoldedBy, HandedOut, IsNothing};
 ghost use Rattle.server_recovery.specs.Reading.{IsReadFrom, ReadRefused, cause_of};
 
-use journal_records::{NewOpen, Record, RecordError, Records, read_records};
-use persist_journal::{Journal, JournalError};
-use server_fold::Durable;
-use server_verdicts::deletes_on_close;
-use smb_bytes::Bytes;
-use smb_io::Disk;
+use base_outside::Disk;
+use journal::{Journal, JournalError, NewOpen, Record, RecordError, Records, read_records};
+use server_checks::deletes_on_close;
+use server_records::Durable;
+use wire_bytes::Bytes;
 
 /// Applies each body of a journal that was just recovered. `NotAJournal` has the gate of the first body that no server writes: it
 /// is no list of records, or one of them makes an open that deletes the root on close. Where it is refused the state is no longer
@@ -30,10 +29,10 @@ pub fn fold_bodies<D: Disk>(
     ensures folded { (s : model.Server) → IsNothing s → DurableShown state.old s
         → IfOk result (λ _. (bodies : List (List ℕ)) × (records : List model.Record) × IsReadFrom state.new s bodies records
         × HandedOut D.told D.seen D.may_leave journal.old bodies) }
-    ensures stays { D.told → (bodies : List (List ℕ)) → Settled D.seen D.may_leave journal.old bodies
-        → OnOk result (Settled D.seen D.may_leave journal.new bodies) }
+    ensures stays { D.told → (bodies : List (List ℕ)) → JournalSettled D.seen D.may_leave journal.old bodies
+        → OnOk result (JournalSettled D.seen D.may_leave journal.new bodies) }
     ensures refused { D.told → (s : model.Server) → IsNothing s → DurableShown state.old s → (bodies : List (List ℕ))
-        → Settled D.seen D.may_leave journal.old bodies → IfErr result (λ x. FoldRefused bodies x) }
+        → JournalSettled D.seen D.may_leave journal.old bodies → IfErr result (λ x. FoldRefused bodies x) }
     ensures quiet { Quiet D.told D.seen D.may_leave D.moment D.left_since journal.old.disk journal.new.disk }
     ensures cause { MatchResult result (λ _. ⊤) (λ x. ReadRefused D.faults journal.old.disk x journal.new) }
 {

@@ -1,13 +1,16 @@
+//! The program: `drill`, `gen` and `serve` by the words behind its name. It is a room because `main` and the one call
+//! that it gives the machine to stand here. Nothing stands on it.
+//!
 //! The program: it does what the words behind its name ask, with the machine's input and output, net and clock, and the file
 //! `smb311.journal` of its folder. What it draws comes from 32 bytes of the machine's source of random bytes.
 #![tactic(auto)]
 
-use journal_file::JournalFile;
+mod command;
+
+use crate::command::smb311;
+use base_outside::{JournalFile, StdClock, StdNet, StdSink, StdSource};
 use rand_chacha::ChaCha20Rng;
 use rand_core::SeedableRng;
-use smb_io::{StdSink, StdSource};
-use smb_net::{StdClock, StdNet};
-use smb311_command::smb311;
 use std::alloc::AllocError;
 use std::env;
 use std::io::ErrorKind;

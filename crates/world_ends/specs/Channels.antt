@@ -1,20 +1,20 @@
 -- A connection in code shows one of the definitions: its two ends, and what is on its way.
 use Rattle.std.specs.Prelude.{◌≡◌, ℕ, ◌≤◌, ◌<◌, ◌^◌, Bool, true, false, List, [], ◌∷◌, length, slice_get, Option, Some, None, ⊤}
-use Rattle.exchange_defs.specs.Client.{Client, Stage, Apart}
-use Rattle.exchange_defs.specs.Network.{Conn as Link, Sent, Received, op_of, max_channel}
-use Rattle.session_defs.specs.Nonces.{last_counter}
-use Rattle.session_defs.specs.declared.material.Keys.{Keys}
-use Rattle.world_defs.specs.World.{Wires}
-use Rattle.world_defs.specs.Ends.{ClientEnd, ServerEnd}
+use Rattle.spec_exchange.specs.Client.{Client, Stage, Apart}
+use Rattle.spec_exchange.specs.Network.{Conn as Link, Sent, Received, op_of, max_channel}
+use Rattle.spec_crypto.specs.sessions.Nonces.{last_counter}
+use Rattle.spec_crypto.specs.declared.sessions.material.Keys.{Keys}
+use Rattle.spec_world.specs.World.{Wires}
+use Rattle.spec_world.specs.Ends.{ClientEnd, ServerEnd}
 use Rattle.conn_ends.specs.declared.conn.Conn.{Conn}
 use Rattle.conn_ends.specs.Shown.{ShowsEnd}
-use Rattle.line_ends.specs.declared.config.Bound.{Bound}
-use Rattle.line_ends.specs.declared.config.ClientConfig.{ClientConfig}
-use Rattle.line_ends.specs.declared.dialog.Dialog.{Dialog}
-use Rattle.line_ends.specs.declared.dialog.Stage.{Stage as DialogStage}
-use Rattle.line_ends.specs.declared.dialog.Stage.TheVariants as stages
-use Rattle.line_ends.specs.declared.line.Line.{Line}
-use Rattle.line_ends.specs.Shown.{ShowsDialog, ShowsLine, token_of}
+use Rattle.client_ends.specs.declared.ends.config.Bound.{Bound}
+use Rattle.client_ends.specs.declared.ends.config.ClientConfig.{ClientConfig}
+use Rattle.client_ends.specs.declared.ends.dialog.Dialog.{Dialog}
+use Rattle.client_ends.specs.declared.ends.dialog.Stage.{Stage as DialogStage}
+use Rattle.client_ends.specs.declared.ends.dialog.Stage.TheVariants as stages
+use Rattle.client_ends.specs.declared.ends.line.Line.{Line}
+use Rattle.client_ends.specs.ends.Shown.{ShowsDialog, ShowsLine, token_of}
 use Rattle.world_ends.specs.declared.sides.Channel.{Channel}
 use Rattle.world_ends.specs.declared.sides.ClientSide.{ClientSide}
 use Rattle.world_ends.specs.declared.sides.ClientSide.TheVariants.{Closed, Talks, Ready}
@@ -23,7 +23,7 @@ use Rattle.world_ends.specs.declared.sides.Up.{Up}
 
 -- ---- the columns of the client at which connections look
 
-pub record Seen : Type 0 where
+pub record ChannelSeen : Type 0 where
   pub ready : ℕ → Bool
   pub stage : ℕ → Stage
   pub making : Option ℕ
@@ -33,7 +33,7 @@ pub record Seen : Type 0 where
   pub accepted : ℕ
   pub pending : ℕ
 
-abbrev pub seen_of : Client → Seen
+abbrev pub seen_of : Client → ChannelSeen
 seen_of c = record {
   ready = c.ready;
   stage = c.stage;
@@ -48,14 +48,14 @@ seen_of c = record {
 -- ---- a dialog's own values are those of the client
 
 -- it goes on: it has neither ended nor been refused
-abbrev pub GoesOn : DialogStage → Type 0
-GoesOn stages.SaidNegotiate = ⊤
-GoesOn stages.SaidFirst = ⊤
-GoesOn stages.SaidSecond = ⊤
-GoesOn stages.AskedTree = ⊤
-GoesOn stages.Joined = ⊥
-GoesOn (stages.Refused why) = ⊥
-GoesOn stages.Over = ⊥
+abbrev pub ChannelGoesOn : DialogStage → Type 0
+ChannelGoesOn stages.SaidNegotiate = ⊤
+ChannelGoesOn stages.SaidFirst = ⊤
+ChannelGoesOn stages.SaidSecond = ⊤
+ChannelGoesOn stages.AskedTree = ⊤
+ChannelGoesOn stages.Joined = ⊥
+ChannelGoesOn (stages.Refused why) = ⊥
+ChannelGoesOn stages.Over = ⊥
 
 -- the session in the making, once the interim response told it
 abbrev pub session_at : DialogStage → ℕ → ℕ
@@ -69,7 +69,7 @@ IsPrevious stages.AskedTree previous accepted = ⊤
 IsPrevious _ previous accepted = previous ≡ accepted
 
 -- a binding is to the session that is live
-pub record IsBinding (keys : Keys) (c : Seen) (b : Bound) : Type 0 where
+pub record IsChannelBinding (keys : Keys) (c : ChannelSeen) (b : Bound) : Type 0 where
   pub live : c.live ≡ true
   pub session : b.session ≡ c.session
   pub tree : b.tree ≡ c.tree
@@ -77,36 +77,36 @@ pub record IsBinding (keys : Keys) (c : Seen) (b : Bound) : Type 0 where
   pub known : b.keys.cipher ≤ 4
 
 -- else its session is in the making on its connection
-pub record IsMaking (k : ℕ) (c : Seen) (d : Dialog) : Type 0 where
+pub record IsMaking (k : ℕ) (c : ChannelSeen) (d : Dialog) : Type 0 where
   pub making : c.making ≡ Some k
   pub apart : c.live ≡ false
   pub previous : IsPrevious d.stage d.previous c.accepted
   pub session : d.session ≡ session_at d.stage c.pending
 
-abbrev pub IsFor : ℕ → Keys → Seen → Dialog → Option Bound → Type 0
-IsFor k keys c d None = IsMaking k c d
-IsFor k keys c d (Some b) = IsBinding keys c b
+abbrev pub IsChannelFor : ℕ → Keys → ChannelSeen → Dialog → Option Bound → Type 0
+IsChannelFor k keys c d None = IsMaking k c d
+IsChannelFor k keys c d (Some b) = IsChannelBinding keys c b
 
 -- ---- the client's end
 
-pub record ShowsTalk (k : ℕ) (settings : ClientConfig) (keys : Keys) (c : Seen) (n : ClientEnd) (d : Dialog) : Type 0 where
-  pub goes_on : GoesOn d.stage
+pub record ChannelShowsTalk (k : ℕ) (settings : ClientConfig) (keys : Keys) (c : ChannelSeen) (n : ClientEnd) (d : Dialog) : Type 0 where
+  pub goes_on : ChannelGoesOn d.stage
   pub shown : ShowsDialog d n
   pub stage : c.stage k ≡ n.stage
   pub unready : c.ready k ≡ false
   pub config : d.config ≡ settings
-  pub own : IsFor k keys c d d.bound
+  pub own : IsChannelFor k keys c d d.bound
 
-pub record ShowsReady (k : ℕ) (c : Seen) (n : ClientEnd) (l : Line) : Type 0 where
+pub record ShowsReady (k : ℕ) (c : ChannelSeen) (n : ClientEnd) (l : Line) : Type 0 where
   pub shown : ShowsLine l n
   pub over : n.stage ≡ Apart
   pub apart : c.stage k ≡ Apart
   pub ready : c.ready k ≡ true
 
 -- whether it is open there
-abbrev pub ShowsClientSide : ℕ → ClientConfig → Keys → Seen → Bool → ClientEnd → ClientSide → Type 0
+abbrev pub ShowsClientSide : ℕ → ClientConfig → Keys → ChannelSeen → Bool → ClientEnd → ClientSide → Type 0
 ShowsClientSide k settings keys c there n Closed = (there ≡ false) × (c.ready k ≡ false)
-ShowsClientSide k settings keys c there n (Talks d) = (there ≡ true) × ShowsTalk k settings keys c n d
+ShowsClientSide k settings keys c there n (Talks d) = (there ≡ true) × ChannelShowsTalk k settings keys c n d
 ShowsClientSide k settings keys c there n (Ready l) = (there ≡ true) × ShowsReady k c n l
 
 -- ---- the server's end
@@ -142,7 +142,7 @@ AreDown _ _ _ = ⊥
 
 -- ---- a connection
 
-pub record ShowsChannel (k : ℕ) (settings : ClientConfig) (guid : List ℕ) (keys : Keys) (taken : ℕ) (c : Seen) (i : Link) (u : Wires)
+pub record ShowsChannel (k : ℕ) (settings : ClientConfig) (guid : List ℕ) (keys : Keys) (taken : ℕ) (c : ChannelSeen) (i : Link) (u : Wires)
     (x : Channel) : Type 0 where
   pub client : ShowsClientSide k settings keys c i.client_open u.client_end x.client
   pub server : ShowsServerSide k guid i.server_open u.server_end x.server
@@ -150,7 +150,7 @@ pub record ShowsChannel (k : ℕ) (settings : ClientConfig) (guid : List ℕ) (k
   pub down : AreDown x.down.items u.down i.down
 
 -- there are 256 of them, and beyond those both ends are closed
-pub record ShowsChannels (settings : ClientConfig) (guid : List ℕ) (keys : Keys) (taken : ℕ) (c : Seen) (conns : ℕ → Link)
+pub record ShowsChannels (settings : ClientConfig) (guid : List ℕ) (keys : Keys) (taken : ℕ) (c : ChannelSeen) (conns : ℕ → Link)
     (wires : ℕ → Wires) (xs : List Channel) : Type 0 where
   pub counted : length xs ≡ max_channel
   pub each : (k : ℕ) (x : Channel) → slice_get xs k ≡ Some x → ShowsChannel k settings guid keys taken c (conns k) (wires k) x

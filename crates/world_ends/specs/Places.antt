@@ -10,7 +10,7 @@ abbrev pub marks_at : List Marks → ℕ → Marks
 marks_at marks g = slice_index_or marks g no_marks
 
 -- the client took so many operations; of a log the places, whose messages they are, each operation's first one, and each create's birth
-pub record ShowsPlaces (x : Places) (taken : ℕ) (settled_by : ℕ → Option ℕ) (places : ℕ) (who : ℕ → ℕ) (first : ℕ → Option ℕ)
+pub record ChannelShowsPlaces (x : Places) (taken : ℕ) (settled_by : ℕ → Option ℕ) (places : ℕ) (who : ℕ → ℕ) (first : ℕ → Option ℕ)
     (birth : ℕ → ℕ) : Type 0 where
   pub places_are : places ≡ length x.served.items
   pub who_is : (n : ℕ) → n < length x.served.items → who n ≡ slice_index x.served.items n

@@ -1,10 +1,10 @@
 -- The settings that a world in code has.
 use Rattle.std.specs.Prelude.{◌≡◌, ℕ, List}
-use Rattle.client_dialog.specs.Ending.{CanConnect}
-use Rattle.line_ends.specs.Shown.{settings_of}
-use Rattle.line_ends.specs.declared.config.ClientConfig.{ClientConfig}
-use Rattle.line_messages.specs.Dialogs.{CanOffer}
-use Rattle.world_defs.specs.Settings.{WorldSettings, identity_of}
+use Rattle.client_ends.specs.dialog_calls.Ending.{CanConnect}
+use Rattle.client_ends.specs.ends.Shown.{settings_of}
+use Rattle.client_ends.specs.declared.ends.config.ClientConfig.{ClientConfig}
+use Rattle.client_ends.specs.dialog_requests.Dialogs.{CanOffer}
+use Rattle.spec_world.specs.Settings.{WorldSettings, identity_of}
 
 -- those of its client, the server's ServerGuid, its seed and its salt; of the server's configuration the book has the users, and the
 -- state the rest

@@ -7,17 +7,17 @@
 --
 -- Each part is stated of the columns that it looks at, so that a step which leaves them leaves it as it is.
 use Rattle.std.specs.Prelude.{◌≡◌, ℕ, ◌<◌, ◌≤◌, Bool, true, false, Option, is_some}
-use Rattle.client_played.specs.ClientCore.Shown.{ShowsClient}
-use Rattle.client_played.specs.ClientCore.declared.client.Client.{Client as Core}
-use Rattle.client_law.specs.Kept.{Kept}
-use Rattle.client_world_law.specs.Asking.{AsksFit}
-use Rattle.exchange_defs.specs.Client.{Client}
-use Rattle.session_defs.specs.declared.material.Keys.{Keys}
-use Rattle.world_book.specs.Held.{HoldsBook}
-use Rattle.world_defs.specs.Settings.{WorldSettings, identity_of}
-use Rattle.world_defs.specs.World as bytes
+use Rattle.client_steps.specs.whole_client.Shown.{ShowsClient}
+use Rattle.client_steps.specs.declared.whole_client.client.Client.{Client as Core}
+use Rattle.law_client.specs.table.Kept.{TableKept}
+use Rattle.client_events.specs.world_law.Asking.{AsksFit}
+use Rattle.spec_exchange.specs.Client.{Client}
+use Rattle.spec_crypto.specs.declared.sessions.material.Keys.{Keys}
+use Rattle.world_ends.specs.memory_server.Held.{HoldsBook}
+use Rattle.spec_world.specs.Settings.{WorldSettings, identity_of}
+use Rattle.spec_world.specs.World as bytes
 use Rattle.world_ends.specs.Channels.{ShowsChannels, seen_of}
-use Rattle.world_ends.specs.Places.{ShowsPlaces}
+use Rattle.world_ends.specs.Places.{ChannelShowsPlaces}
 use Rattle.world_ends.specs.Settings.{IsSetBy}
 use Rattle.world_ends.specs.declared.world.World.{World}
 
@@ -25,7 +25,7 @@ use Rattle.world_ends.specs.declared.world.World.{World}
 
 pub record ShowsOwn (z : WorldSettings) (x : Core) (accepted : ℕ) (making : Option ℕ) (c : Client) : Type 0 where
   pub client : ShowsClient x c
-  pub kept : Kept c
+  pub kept : TableKept c
   pub asks : AsksFit c
   pub who : c.who ≡ identity_of z
   pub accepted_is : c.accepted ≡ accepted
@@ -35,7 +35,7 @@ pub record ShowsOwn (z : WorldSettings) (x : Core) (accepted : ℕ) (making : Op
 
 -- ---- its session, whose keys are shown once one was accepted
 
-pub record ShowsSession (x : Keys) (seals : Bool) (count : ℕ) (keys : Keys) (encrypts : Bool) (numbers : ℕ) : Type 0 where
+pub record WorldShowsSession (x : Keys) (seals : Bool) (count : ℕ) (keys : Keys) (encrypts : Bool) (numbers : ℕ) : Type 0 where
   pub keys_are : 0 < numbers → keys ≡ x
   pub known : x.cipher ≤ 4
   pub encrypts_is : encrypts ≡ seals
@@ -46,11 +46,11 @@ pub record ShowsSession (x : Keys) (seals : Bool) (count : ℕ) (keys : Keys) (e
 pub record ShowsWorld (z : WorldSettings) (x : World) (w : bytes.World) : Type 0 where
   pub settings : IsSetBy z x.settings x.guid x.seed x.salt
   pub own : ShowsOwn z x.client x.accepted x.making w.values.client
-  pub session : ShowsSession x.keys x.encrypts x.numbers w.keys w.encrypts w.numbers
+  pub session : WorldShowsSession x.keys x.encrypts x.numbers w.keys w.encrypts w.numbers
   pub server : HoldsBook x.book z.server.users w.values.server w.logons w.values.records
   pub moment : w.values.moment ≡ x.moment
   pub draws : w.draws ≡ x.draws
-  pub places : ShowsPlaces x.places w.values.client.taken w.values.client.settled_by w.values.log.places w.values.log.who
+  pub places : ChannelShowsPlaces x.places w.values.client.taken w.values.client.settled_by w.values.log.places w.values.log.who
       w.values.log.first w.values.log.birth
   pub channels : ShowsChannels x.settings x.guid x.keys w.values.client.taken (seen_of w.values.client) w.values.conns w.wires
       x.channels.items

@@ -1,7 +1,7 @@
-use operation_values::OpKind;
-use smb_bytes::Bytes;
+use client_values::OpKind;
 use std::alloc::AllocError;
 use thiserror::Error;
+use wire_bytes::Bytes;
 
 /// What can happen to a world.
 #[derive(Drop)]

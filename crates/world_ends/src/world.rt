@@ -1,11 +1,11 @@
+use crate::memory_server::Book;
 use crate::notes::Notes;
 use crate::sides::Channel;
-use client_played::Played;
-use line_ends::ClientConfig;
-use session_defs::Keys;
-use smb_io::MemDisk;
+use base_outside::MemDisk;
+use client_ends::ClientConfig;
+use client_events::Played;
+use spec_crypto::Keys;
 use std::alloc::Global;
-use world_book::Book;
 
 /// What is known of an operation's places among the messages that the server took: of its first message that acted, and of the one
 /// whose reply settled it. Of a create that acted also the place behind it.

@@ -1,19 +1,19 @@
 -- A connection is seen as before where the client's columns that it looks at are.
 use Rattle.std.proofs.Common.{◌≡◌, ℕ, Bool, sym, ap, subst, ◌∙◌}
 use Rattle.std.proofs.Common.{List, Option, Some, None}
-use Rattle.exchange_defs.specs.Network.{Conn as Link}
-use Rattle.line_ends.specs.declared.config.Bound.{Bound}
-use Rattle.line_ends.specs.declared.config.ClientConfig.{ClientConfig}
-use Rattle.line_ends.specs.declared.dialog.Dialog.{Dialog}
-use Rattle.session_defs.specs.declared.material.Keys.{Keys}
-use Rattle.world_defs.specs.Ends.{ClientEnd}
-use Rattle.world_defs.specs.World.{Wires}
-use Rattle.world_ends.specs.Channels.{IsFor, IsPrevious, Seen, ShowsChannel, ShowsClientSide, session_at}
+use Rattle.spec_exchange.specs.Network.{Conn as Link}
+use Rattle.client_ends.specs.declared.ends.config.Bound.{Bound}
+use Rattle.client_ends.specs.declared.ends.config.ClientConfig.{ClientConfig}
+use Rattle.client_ends.specs.declared.ends.dialog.Dialog.{Dialog}
+use Rattle.spec_crypto.specs.declared.sessions.material.Keys.{Keys}
+use Rattle.spec_world.specs.Ends.{ClientEnd}
+use Rattle.spec_world.specs.World.{Wires}
+use Rattle.world_ends.specs.Channels.{IsChannelFor, IsPrevious, ChannelSeen, ShowsChannel, ShowsClientSide, session_at}
 use Rattle.world_ends.specs.declared.sides.Channel.{Channel}
 use Rattle.world_ends.specs.declared.sides.ClientSide.{ClientSide}
 use Rattle.world_ends.specs.declared.sides.ClientSide.TheVariants.{Closed, Talks, Ready}
 
-pub record Alike (j : ℕ) (c d : Seen) : Type 0 where
+pub record Alike (j : ℕ) (c d : ChannelSeen) : Type 0 where
   pub ready : d.ready j ≡ c.ready j
   pub stage : d.stage j ≡ c.stage j
   pub making : c.making ≡ Some j → d.making ≡ Some j
@@ -23,7 +23,8 @@ pub record Alike (j : ℕ) (c d : Seen) : Type 0 where
   pub accepted : d.accepted ≡ c.accepted
   pub pending : d.pending ≡ c.pending
 
-own_alike : (j : ℕ) (keys : Keys) (c d : Seen) (x : Dialog) (o : Option Bound) → Alike j c d → IsFor j keys c x o → IsFor j keys d x o
+own_alike : (j : ℕ) (keys : Keys) (c d : ChannelSeen) (x : Dialog) (o : Option Bound) → Alike j c d
+    → IsChannelFor j keys c x o → IsChannelFor j keys d x o
 own_alike j keys c d x None a h = record {
   making = a.making h.making;
   apart = a.live ∙ h.apart;
@@ -38,7 +39,7 @@ own_alike j keys c d x (Some b) a h = record {
   known = h.known;
 }
 
-side_alike : (j : ℕ) (s : ClientConfig) (keys : Keys) (c d : Seen) (there : Bool) (n : ClientEnd) (v : ClientSide) → Alike j c d
+side_alike : (j : ℕ) (s : ClientConfig) (keys : Keys) (c d : ChannelSeen) (there : Bool) (n : ClientEnd) (v : ClientSide) → Alike j c d
     → ShowsClientSide j s keys c there n v → ShowsClientSide j s keys d there n v
 side_alike j s keys c d there n Closed a h = (h.0, a.ready ∙ h.1)
 side_alike j s keys c d there n (Talks x) a h = (
@@ -62,7 +63,7 @@ side_alike j s keys c d there n (Ready l) a h = (
   },
 )
 
-pub seen_alike : (j : ℕ) (s : ClientConfig) (guid : List ℕ) (keys : Keys) (t : ℕ) (c d : Seen) (i : Link) (u : Wires) (x : Channel)
+pub seen_alike : (j : ℕ) (s : ClientConfig) (guid : List ℕ) (keys : Keys) (t : ℕ) (c d : ChannelSeen) (i : Link) (u : Wires) (x : Channel)
     → Alike j c d → ShowsChannel j s guid keys t c i u x → ShowsChannel j s guid keys t d i u x
 seen_alike j s guid keys t c d i u x a h = record {
   client = side_alike j s keys c d i.client_open u.client_end x.client a h.client;

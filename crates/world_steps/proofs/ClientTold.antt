@@ -3,19 +3,19 @@ use Rattle.std.proofs.Common.{◌≡◌, ℕ, zero, suc, ◌+◌, ◌≤◌, ◌
 use Rattle.std.proofs.Common.{List, [], ◌∷◌, ◌++◌, length, Option}
 use Rattle.std.specs.Prelude.{slice_index}
 use Rattle.std.proofs.lemmas.Bool.Decides.{nat_tests}
-use Rattle.exchange_defs.specs.Operations.{Op}
-use Rattle.exchange_defs.specs.Client.{Client, take_op}
-use Rattle.exchange_defs.specs.Network.{Conn as Link, Sent}
-use Rattle.world_ends.specs.ClientCore.Shown.{ShowsClient}
-use Rattle.world_ends.specs.ClientCore.declared.client.Client.{Client as Core}
-use Rattle.client_law.specs.Kept.{Kept}
-use Rattle.client_world_law.specs.Asking.{AsksFit}
-use Rattle.line_ends.specs.declared.config.ClientConfig.{ClientConfig}
-use Rattle.session_defs.specs.declared.material.Keys.{Keys}
-use Rattle.world_defs.specs.Settings.{WorldSettings}
-use Rattle.world_defs.specs.World.{Wires}
-use Rattle.world_ends.specs.Channels.{AreUp, Seen, ShowsChannel, ShowsChannels, seen_of}
-use Rattle.world_ends.specs.Places.{ShowsPlaces, marks_at, no_marks}
+use Rattle.spec_exchange.specs.Operations.{Op}
+use Rattle.spec_exchange.specs.Client.{Client, take_op}
+use Rattle.spec_exchange.specs.Network.{Conn as Link, Sent}
+use Rattle.client_steps.specs.whole_client.Shown.{ShowsClient}
+use Rattle.client_steps.specs.declared.whole_client.client.Client.{Client as Core}
+use Rattle.law_client.specs.table.Kept.{TableKept}
+use Rattle.client_events.specs.world_law.Asking.{AsksFit}
+use Rattle.client_ends.specs.declared.ends.config.ClientConfig.{ClientConfig}
+use Rattle.spec_crypto.specs.declared.sessions.material.Keys.{Keys}
+use Rattle.spec_world.specs.Settings.{WorldSettings}
+use Rattle.spec_world.specs.World.{Wires}
+use Rattle.world_ends.specs.Channels.{AreUp, ChannelSeen, ShowsChannel, ShowsChannels, seen_of}
+use Rattle.world_ends.specs.Places.{ChannelShowsPlaces, marks_at, no_marks}
 use Rattle.world_ends.specs.Shown.{ShowsOwn}
 use Rattle.world_ends.specs.declared.sides.Channel.{Channel}
 use Rattle.world_ends.specs.declared.sides.Up.{Up}
@@ -39,12 +39,14 @@ more_up t u m (p ∷ us) [] [] h = absurd h
 more_up t u m (p ∷ us) [] (x ∷ xs) h = absurd h
 more_up t u m (p ∷ us) (b ∷ bs) [] h = absurd h
 
-more_in_one : (k : ℕ) (s : ClientConfig) (guid : List ℕ) (keys : Keys) (t u : ℕ) (c : Seen) (i : Link) (w : Wires) (x : Channel) → t ≤ u
+more_in_one : (k : ℕ) (s : ClientConfig) (guid : List ℕ) (keys : Keys) (t u : ℕ) (c : ChannelSeen) (i : Link)
+    (w : Wires) (x : Channel) → t ≤ u
     → ShowsChannel k s guid keys t c i w x → ShowsChannel k s guid keys u c i w x
 more_in_one k s guid keys t u c i w x m h =
     record { client = h.client; server = h.server; up = more_up t u m x.up.items w.up i.up h.up; down = h.down }
 
-pub more : (s : ClientConfig) (guid : List ℕ) (keys : Keys) (t u : ℕ) (c : Seen) (conns : ℕ → Link) (wires : ℕ → Wires) (xs : List Channel)
+pub more : (s : ClientConfig) (guid : List ℕ) (keys : Keys) (t u : ℕ) (c : ChannelSeen) (conns : ℕ → Link)
+    (wires : ℕ → Wires) (xs : List Channel)
     → t ≤ u → ShowsChannels s guid keys t c conns wires xs → ShowsChannels s guid keys u c conns wires xs
 more s guid keys t u c conns wires xs m h = record {
   counted = h.counted;
@@ -80,9 +82,10 @@ if_true false p q e = absurd (cc)
 
 -- one operation more, whose marks tell nothing
 one_more : (p q : Places) (taken g : ℕ) (by : ℕ → Option ℕ) (places : ℕ) (who : ℕ → ℕ) (first : ℕ → Option ℕ) (birth : ℕ → ℕ)
-    → g ≡ taken + 1 → Marked p g q → ShowsPlaces p taken by places who first birth → ShowsPlaces q g by places who first birth
+    → g ≡ taken + 1 → Marked p g q → ChannelShowsPlaces p taken by places who first birth → ChannelShowsPlaces q g by places who first birth
 one_more p q taken g by places who first birth e m h =
-    let marks : q.marks.items ≡ p.marks.items ++ no_marks ∷ [] = m.marks ∙ if_false _ _ _ (not_below g (length p.marks.items) (h.counted ∙ sym e)) in
+    let marks : q.marks.items ≡ p.marks.items ++ no_marks ∷ [] = m.marks
+    ∙ if_false _ _ _ (not_below g (length p.marks.items) (h.counted ∙ sym e)) in
     let same : (n : ℕ) → marks_at p.marks.items n ≡ marks_at q.marks.items n =
     (λ n. sym (ap (λ (v : List Marks). marks_at v n) marks ∙ marks_stay p.marks.items n)) in
     let long : length q.marks.items ≡ g + 1 =
@@ -98,7 +101,7 @@ one_more p q taken g by places who first birth e m h =
 
 -- none more
 no_more : (p q : Places) (taken : ℕ) (by : ℕ → Option ℕ) (places : ℕ) (who : ℕ → ℕ) (first : ℕ → Option ℕ) (birth : ℕ → ℕ)
-    → Marked p taken q → ShowsPlaces p taken by places who first birth → ShowsPlaces q taken by places who first birth
+    → Marked p taken q → ChannelShowsPlaces p taken by places who first birth → ChannelShowsPlaces q taken by places who first birth
 no_more p q taken by places who first birth m h =
     let marks : q.marks.items ≡ p.marks.items = m.marks ∙ if_true _ _ _ (is_below taken (length p.marks.items) h.counted) in
     record {
@@ -113,7 +116,7 @@ no_more p q taken by places who first birth m h =
 -- ---- an operation is taken, or isn't
 
 pub own_taken : (b : Bool) (z : WorldSettings) (x : Core) (a : ℕ) (m : Option ℕ) (c : Client) (g : ℕ) (op : Op) (y : Core)
-    → ShowsClient y (if b then take_op c g op else c) → Kept (if b then take_op c g op else c)
+    → ShowsClient y (if b then take_op c g op else c) → TableKept (if b then take_op c g op else c)
     → AsksFit (if b then take_op c g op else c) → ShowsOwn z x a m c → ShowsOwn z y a m (if b then take_op c g op else c)
 own_taken true z x a m c g op y s k f h =
     record { client = s; kept = k; asks = f; who = h.who; accepted_is = h.accepted_is; making_is = h.making_is; apart = h.apart }
@@ -122,8 +125,8 @@ own_taken false z x a m c g op y s k f h =
 
 pub places_taken : (b : Bool) (c : Client) (g : ℕ) (op : Op) (p q : Places) (places : ℕ) (who : ℕ → ℕ) (first : ℕ → Option ℕ)
     (birth : ℕ → ℕ) → (b ≡ true → g ≡ c.taken + 1) → Marked p (if b then take_op c g op else c).taken q
-    → ShowsPlaces p c.taken c.settled_by places who first birth
-    → ShowsPlaces q (if b then take_op c g op else c).taken (if b then take_op c g op else c).settled_by places who first birth
+    → ChannelShowsPlaces p c.taken c.settled_by places who first birth
+    → ChannelShowsPlaces q (if b then take_op c g op else c).taken (if b then take_op c g op else c).settled_by places who first birth
 places_taken true c g op p q places who first birth n m h = one_more p q c.taken g c.settled_by places who first birth (n refl) m h
 places_taken false c g op p q places who first birth n m h = no_more p q c.taken c.settled_by places who first birth m h
 

@@ -3,13 +3,13 @@ use Rattle.std.proofs.Common.{◌≡◌, ℕ, ◌==◌, Bool, true, false, if◌
 use Rattle.std.proofs.Common.{List, [], slice_get, Option, Some, None, is_some}
 use Rattle.std.proofs.lemmas.Bool.Decides.{nat_tests}
 use Rattle.conn_ends.specs.declared.conn.Conn.{Conn}
-use Rattle.exchange_defs.specs.Table.{put}
-use Rattle.exchange_defs.specs.Network.{Conn as Link, client_off, server_off}
-use Rattle.line_ends.specs.declared.config.ClientConfig.{ClientConfig}
-use Rattle.session_defs.specs.declared.material.Keys.{Keys}
-use Rattle.world_defs.specs.Ends.{ClientEnd, ServerEnd}
-use Rattle.world_defs.specs.World.{Wires, client_end_off, server_end_off}
-use Rattle.world_ends.specs.Channels.{AreDown, AreUp, Seen, ShowsChannel, ShowsChannels, ShowsClientSide, ShowsServerSide}
+use Rattle.spec_exchange.specs.Table.{put}
+use Rattle.spec_exchange.specs.Network.{Conn as Link, client_off, server_off}
+use Rattle.client_ends.specs.declared.ends.config.ClientConfig.{ClientConfig}
+use Rattle.spec_crypto.specs.declared.sessions.material.Keys.{Keys}
+use Rattle.spec_world.specs.Ends.{ClientEnd, ServerEnd}
+use Rattle.spec_world.specs.World.{Wires, client_end_off, server_end_off}
+use Rattle.world_ends.specs.Channels.{AreDown, AreUp, ChannelSeen, ShowsChannel, ShowsChannels, ShowsClientSide, ShowsServerSide}
 use Rattle.world_ends.specs.Tests.{is_open, is_ready, opened_in, readied_in, served_in}
 use Rattle.world_ends.specs.declared.sides.Channel.{Channel}
 use Rattle.world_ends.specs.declared.sides.ClientSide.{ClientSide}
@@ -20,7 +20,8 @@ use Rattle.world_steps.specs.Lists.{ChangedAll, ChangedAt, ClosesClient, ClosesS
 
 -- ---- one connection
 
-pub server_closed : (k : ℕ) (s : ClientConfig) (guid : List ℕ) (keys : Keys) (t : ℕ) (c : Seen) (i : Link) (u : Wires) (x y : Channel)
+pub server_closed : (k : ℕ) (s : ClientConfig) (guid : List ℕ) (keys : Keys) (t : ℕ) (c : ChannelSeen) (i : Link)
+    (u : Wires) (x y : Channel)
     → ClosesServer x y → ShowsChannel k s guid keys t c i u x → ShowsChannel k s guid keys t c (server_off i) (server_end_off u) y
 server_closed k s guid keys t c i u x y r h = record {
   client = subst (λ (v : ClientSide). ShowsClientSide k s keys c i.client_open u.client_end v) (sym r.client) h.client;
@@ -30,7 +31,8 @@ server_closed k s guid keys t c i u x y r h = record {
 }
 
 -- whatever the client behind it, of which this channel isn't ready
-pub client_closed : (k : ℕ) (s : ClientConfig) (guid : List ℕ) (keys : Keys) (t : ℕ) (c d : Seen) (i : Link) (u : Wires) (x y : Channel)
+pub client_closed : (k : ℕ) (s : ClientConfig) (guid : List ℕ) (keys : Keys) (t : ℕ) (c d : ChannelSeen) (i : Link)
+    (u : Wires) (x y : Channel)
     → ClosesClient x y → d.ready k ≡ false → ShowsChannel k s guid keys t c i u x
     → ShowsChannel k s guid keys t d (client_off i) (client_end_off u) y
 client_closed k s guid keys t c d i u x y r ready h = record {
@@ -54,8 +56,9 @@ some_same x y e = cc
 some_none : {X : Type 0} (x : X) → Some x ≡ None → ⊥
 some_none x e = absurd (cc)
 
-module _ (s : ClientConfig) (guid : List ℕ) (keys : Keys) (t : ℕ) (c d : Seen) where
-  here_at : (b : Bool) (j k : ℕ) (i' i : Link) (u' u : Wires) (y : Channel) → (b ≡ true → j ≡ k) → (b ≡ true → ShowsChannel k s guid keys t d i' u' y)
+module _ (s : ClientConfig) (guid : List ℕ) (keys : Keys) (t : ℕ) (c d : ChannelSeen) where
+  here_at : (b : Bool) (j k : ℕ) (i' i : Link) (u' u : Wires) (y : Channel) → (b ≡ true → j ≡ k)
+      → (b ≡ true → ShowsChannel k s guid keys t d i' u' y)
       → (b ≡ false → ShowsChannel j s guid keys t d i u y) → ShowsChannel j s guid keys t d (if b then i' else i) (if b then u' else u) y
   here_at true j k i' i u' u y n p q = subst (λ (v : ℕ). ShowsChannel v s guid keys t d i' u' y) (sym (n refl)) (p refl)
   here_at false j k i' i u' u y n p q = q refl
@@ -78,7 +81,8 @@ module _ (s : ClientConfig) (guid : List ℕ) (keys : Keys) (t : ℕ) (c d : See
   one_changed R k xs ys conns wires i u x r e to others unready h =
       let new = r.here x e in
       let own : (y : Channel) → slice_get ys k ≡ Some y → ShowsChannel k s guid keys t d i u y =
-      (λ y f. subst (λ (v : Channel). ShowsChannel k s guid keys t d i u v) (some_same new.0 y (sym new.1 ∙ f)) (to new.0 new.2 (h.each k x e))) in
+      (λ y f. subst (λ (v : Channel). ShowsChannel k s guid keys t d i u v) (some_same new.0 y (sym new.1 ∙ f))
+      (to new.0 new.2 (h.each k x e))) in
       record {
         counted = r.counted ∙ h.counted;
         each = λ j y f. here_at (j == k) j k i (conns j) u (wires j) y (same_number j k)
@@ -105,23 +109,25 @@ module _ (s : ClientConfig) (guid : List ℕ) (keys : Keys) (t : ℕ) (c d : See
 
 -- ---- what is open in code is in the definitions
 
-served_side : (k : ℕ) (guid : List ℕ) (there : Bool) (f : ServerEnd) (o : Option Conn) → ShowsServerSide k guid there f o → there ≡ is_some o
+served_side : (k : ℕ) (guid : List ℕ) (there : Bool) (f : ServerEnd) (o : Option Conn) → ShowsServerSide k guid there f
+    o → there ≡ is_some o
 served_side k guid there f None h = h
 served_side k guid there f (Some x) h = h.0
 
-opened_side : (k : ℕ) (s : ClientConfig) (keys : Keys) (c : Seen) (there : Bool) (n : ClientEnd) (v : ClientSide)
+opened_side : (k : ℕ) (s : ClientConfig) (keys : Keys) (c : ChannelSeen) (there : Bool) (n : ClientEnd) (v : ClientSide)
     → ShowsClientSide k s keys c there n v → there ≡ is_open v
 opened_side k s keys c there n Closed h = h.0
 opened_side k s keys c there n (Talks d) h = h.0
 opened_side k s keys c there n (Ready l) h = h.0
 
-ready_side : (k : ℕ) (s : ClientConfig) (keys : Keys) (c : Seen) (there : Bool) (n : ClientEnd) (v : ClientSide)
+ready_side : (k : ℕ) (s : ClientConfig) (keys : Keys) (c : ChannelSeen) (there : Bool) (n : ClientEnd) (v : ClientSide)
     → ShowsClientSide k s keys c there n v → c.ready k ≡ is_ready v
 ready_side k s keys c there n Closed h = h.1
 ready_side k s keys c there n (Talks d) h = h.1.unready
 ready_side k s keys c there n (Ready l) h = h.1.ready
 
-module _ (s : ClientConfig) (guid : List ℕ) (keys : Keys) (t : ℕ) (c : Seen) (conns : ℕ → Link) (wires : ℕ → Wires) (xs : List Channel)
+module _ (s : ClientConfig) (guid : List ℕ) (keys : Keys) (t : ℕ) (c : ChannelSeen) (conns : ℕ → Link)
+    (wires : ℕ → Wires) (xs : List Channel)
     (h : ShowsChannels s guid keys t c conns wires xs) where
   served_by : (k : ℕ) (o : Option Channel) → slice_get xs k ≡ o → (conns k).server_open ≡ served_in o
   served_by k None e = (h.beyond k e).1

@@ -2,34 +2,34 @@
 use Rattle.std.proofs.Common.{◌≡◌, ℕ, ◌+◌, ◌==◌, ◌&&◌, Bool, true, false, if◌then◌else◌, refl, sym, ap, subst, ◌∙◌, arith}
 use Rattle.std.proofs.Common.{slice_get, Option, Some, None, is_some}
 use Rattle.std.proofs.lemmas.Bool.Decides.{nat_tests}
-use Rattle.world_ends.specs.ClientCore.Shown.{ShowsClient}
-use Rattle.world_ends.specs.ClientCore.declared.client.Client.{Client as Core}
-use Rattle.world_ends.specs.ClientEvent.Events.{act_of}
-use Rattle.world_ends.specs.ClientEvent.declared.steps.Event.TheVariants as happens
-use Rattle.client_law.proofs.Events.{keeps}
-use Rattle.client_law.specs.Kept.{Kept}
-use Rattle.client_world_law.specs.Asking.{AsksFit}
-use Rattle.client_world_law.proofs.Columns.{left as kept_left}
-use Rattle.client_world_law.proofs.Events.{asks_alike, asks_on}
-use Rattle.exchange_defs.specs.Client.{Client, Apart, cut_channel, end_session, ends_at_cut, leave_dialog, unmade}
-use Rattle.exchange_defs.specs.ClientStep.{CloseChannels, IsCut, Nothing, client_after}
-use Rattle.exchange_defs.specs.Network as network
-use Rattle.exchange_defs.specs.Network.{Cut, client_off, cut_by, one_cut, with_client}
-use Rattle.exchange_defs.specs.State.{no_later}
-use Rattle.exchange_defs.specs.Table.{put}
-use Rattle.free_columns_law.proofs.Columns.{left as shown_left}
-use Rattle.world_defs.specs.Events.{Plain, bytes_happen, bytes_later}
-use Rattle.world_defs.specs.Notes as notes
-use Rattle.world_defs.specs.Notes.{step_error, unless_open}
-use Rattle.world_defs.specs.Settings.{WorldSettings}
-use Rattle.world_defs.specs.World as bytes
-use Rattle.world_defs.specs.World.{client_end_off, cut_wires, off_by, one_off, with_values}
-use Rattle.world_ends.specs.Channels.{Seen, seen_of}
+use Rattle.client_steps.specs.whole_client.Shown.{ShowsClient}
+use Rattle.client_steps.specs.declared.whole_client.client.Client.{Client as Core}
+use Rattle.client_events.specs.event_calls.Events.{act_of}
+use Rattle.client_events.specs.declared.event_calls.steps.Event.TheVariants as happens
+use Rattle.law_client.proofs.table.Events.{keeps}
+use Rattle.law_client.specs.table.Kept.{TableKept}
+use Rattle.client_events.specs.world_law.Asking.{AsksFit}
+use Rattle.client_events.proofs.world_law.Columns.{left as kept_left}
+use Rattle.client_events.proofs.world_law.Events.{asks_alike, asks_on}
+use Rattle.spec_exchange.specs.Client.{Client, Apart, cut_channel, end_session, ends_at_cut, leave_dialog, unmade}
+use Rattle.spec_exchange.specs.ClientStep.{CloseChannels, IsCut, Nothing, client_after}
+use Rattle.spec_exchange.specs.Network as network
+use Rattle.spec_exchange.specs.Network.{Cut, client_off, cut_by, one_cut, with_client}
+use Rattle.spec_exchange.specs.State.{no_later}
+use Rattle.spec_exchange.specs.Table.{put}
+use Rattle.client_steps.proofs.free_columns.Columns.{left as shown_left}
+use Rattle.spec_world.specs.Events.{Plain, bytes_happen, bytes_later}
+use Rattle.spec_world.specs.Notes as notes
+use Rattle.spec_world.specs.Notes.{step_error, unless_open}
+use Rattle.spec_world.specs.Settings.{WorldSettings}
+use Rattle.spec_world.specs.World as bytes
+use Rattle.spec_world.specs.World.{client_end_off, cut_wires, off_by, one_off, with_values}
+use Rattle.world_ends.specs.Channels.{ChannelSeen, seen_of}
 use Rattle.world_ends.specs.Shown.{ShowsOwn, ShowsWorld}
 use Rattle.world_ends.specs.Tests.{opened_in, readied_in}
 use Rattle.world_ends.specs.declared.world.World.{World}
 use Rattle.world_steps.specs.Lists.{ChangedAll, ChangedAt, ClosesClient}
-use Rattle.world_steps.specs.Parts.{ClosedBy, Cuts, CutsBy, CutsLine, Leaves, all_close}
+use Rattle.world_steps.specs.Parts.{ClosedBy, Cuts, CutsBy, CutsLine, WorldLeaves, all_close}
 use Rattle.world_steps.proofs.Alike.{Alike, seen_alike}
 use Rattle.world_steps.proofs.Closing.{all_changed, client_closed, is_opened, is_readied, one_changed, opened_one}
 use Rattle.world_steps.proofs.Onward.{later_shown}
@@ -48,10 +48,10 @@ put_other f k v j other = ap (λ (b : Bool). if b then v else f j) (other_number
 
 -- ---- the cut of a channel whose session goes on
 
-abbrev without_one : Seen → ℕ → Seen
+abbrev without_one : ChannelSeen → ℕ → ChannelSeen
 without_one c k = record c { ready = put c.ready k false }
 
-cut_alike : (c : Seen) (k j : ℕ) → (j ≡ k → ⊥) → Alike j c (without_one c k)
+cut_alike : (c : ChannelSeen) (k j : ℕ) → (j ≡ k → ⊥) → Alike j c (without_one c k)
 cut_alike c k j other = record {
   ready = put_other c.ready k false j other;
   stage = refl;
@@ -65,14 +65,14 @@ cut_alike c k j other = record {
 
 -- ---- a dialog that is left
 
-abbrev behind_leave : Seen → ℕ → Seen
+abbrev behind_leave : ChannelSeen → ℕ → ChannelSeen
 behind_leave c k = record c { stage = put c.stage k Apart; making = unmade k c.making }
 
 still_made : (k j : ℕ) (m : Option ℕ) → (j ≡ k → ⊥) → m ≡ Some j → unmade k m ≡ Some j
 still_made k j m other e =
     ap (unmade k) e ∙ ap (λ (b : Bool). if b then None else Some j) (other_number j k other)
 
-leave_alike : (c : Seen) (k j : ℕ) → (j ≡ k → ⊥) → Alike j c (behind_leave c k)
+leave_alike : (c : ChannelSeen) (k j : ℕ) → (j ≡ k → ⊥) → Alike j c (behind_leave c k)
 leave_alike c k j other = record {
   ready = refl;
   stage = put_other c.stage k Apart j other;
@@ -92,7 +92,8 @@ some_made k (Some j) e = refl
 
 left_built : (z : WorldSettings) (x y : World) (w : bytes.World) (k : ℕ) → ChangedAt ClosesClient k x.channels.items y.channels.items
     → opened_in (slice_get x.channels.items k) ≡ true → w.values.client.ready k ≡ false → ShowsWorld z x w
-    → ShowsWorld z (record x { making = unmade k x.making; channels = y.channels }) (with_values (one_off w k) (one_cut (with_client w.values (leave_dialog w.values.client k)) k))
+    → ShowsWorld z (record x { making = unmade k x.making; channels = y.channels })
+    (with_values (one_off w k) (one_cut (with_client w.values (leave_dialog w.values.client k)) k))
 left_built z x y w k r there unready h =
     let c = w.values.client in
     let s = seen_of c in
@@ -190,7 +191,7 @@ with_making z x y w m e h =
 by_ends : (b : Bool) (z : WorldSettings) (x y : World) (w : bytes.World) (k : ℕ)
     → ClosedBy x.making x.channels.items k b y.making y.channels.items → opened_in (slice_get x.channels.items k) ≡ true
     → ShowsClient y.client (if b then end_session w.values.client else cut_channel w.values.client k)
-    → Kept (if b then end_session w.values.client else cut_channel w.values.client k)
+    → TableKept (if b then end_session w.values.client else cut_channel w.values.client k)
     → AsksFit (if b then end_session w.values.client else cut_channel w.values.client k) → ShowsWorld z x w
     → ShowsWorld z (Behind x y) (cut_as b w k)
 by_ends true z x y w k r there shown kept asks h =
@@ -242,11 +243,11 @@ line_cut z x y w k r there ready h =
     by_ends (ends_at_cut c) z x y w k
     (subst (λ (b : Bool). ClosedBy x.making x.channels.items k b y.making y.channels.items) told r.closed) there
     (subst (λ (b : Bool). ShowsClient y.client (behind_cut b c k)) ready shown)
-    (subst (λ (b : Bool). Kept (behind_cut b c k)) ready (keeps c (IsCut k) h.own.kept tt))
+    (subst (λ (b : Bool). TableKept (behind_cut b c k)) ready (keeps c (IsCut k) h.own.kept tt))
     (subst (λ (b : Bool). AsksFit (behind_cut b c k)) ready (asks_on c (IsCut k) h.own.asks)) h
 
 dialog_cut : (z : WorldSettings) (x y : World) (w : bytes.World) (k : ℕ)
-    → Leaves x.client x.making x.channels.items k y.client y.making y.channels.items → opened_in (slice_get x.channels.items k) ≡ true
+    → WorldLeaves x.client x.making x.channels.items k y.client y.making y.channels.items → opened_in (slice_get x.channels.items k) ≡ true
     → w.values.client.ready k ≡ false → ShowsWorld z x w → ShowsWorld z (Behind x y) (cut_with false w k)
 dialog_cut z x y w k r there unready h =
     let left = left_built z x y w k r.channels there unready h in
@@ -291,6 +292,7 @@ cut_off_at z x y v w k r there late time h =
           (later_shown z (Behind x y) v (cut_wires w k) 1 late time (cuts z x y w k r there h)),
     )
 
-pub not_open : (z : WorldSettings) (x : World) (w : bytes.World) (k : ℕ) → opened_in (slice_get x.channels.items k) ≡ false → ShowsWorld z x w
+pub not_open : (z : WorldSettings) (x : World) (w : bytes.World) (k : ℕ) → opened_in (slice_get x.channels.items k)
+    ≡ false → ShowsWorld z x w
     → (step_error w (Plain (Cut k)) ≡ Some (notes.NoChannel k)) × ShowsWorld z x w
 not_open z x w k e h = (ap (λ (b : Bool). unless_open b k) (open_there z x w k h ∙ e), h)

@@ -1,20 +1,20 @@
 -- The client gives up.
 use Rattle.std.proofs.Common.{◌≡◌, ◌+◌, Bool, true, false, not, if◌then◌else◌, refl, sym, subst}
-use Rattle.world_ends.specs.ClientEvent.declared.steps.Event.TheVariants as happens
-use Rattle.client_law.proofs.Events.{keeps}
-use Rattle.client_outcomes.specs.Meaning.{refusal_of}
-use Rattle.client_outcomes.specs.declared.outcome.Why.TheVariants as causes
-use Rattle.world_ends.specs.ClientPlayed.Holding.{Steps as Happens}
-use Rattle.client_world_law.proofs.Events.{asks_on}
-use Rattle.exchange_defs.specs.ClientStep.{Finishes}
-use Rattle.exchange_defs.specs.Network.{Finish, changed}
-use Rattle.exchange_defs.specs.Operations.{NoSession}
-use Rattle.exchange_defs.specs.State.{no_later}
-use Rattle.msg_session.specs.declared.refusal.Refusal.{Refusal}
-use Rattle.world_defs.specs.Events.{Plain, bytes_happen, bytes_later}
-use Rattle.world_defs.specs.Settings.{WorldSettings}
-use Rattle.world_defs.specs.World as bytes
-use Rattle.world_defs.specs.World.{with_values}
+use Rattle.client_events.specs.declared.event_calls.steps.Event.TheVariants as happens
+use Rattle.law_client.proofs.table.Events.{keeps}
+use Rattle.client_values.specs.outcomes.Meaning.{refusal_of}
+use Rattle.client_values.specs.declared.outcomes.outcome.Why.TheVariants as causes
+use Rattle.client_events.specs.played_client.Holding.{PlayedSteps as Happens}
+use Rattle.client_events.proofs.world_law.Events.{asks_on}
+use Rattle.spec_exchange.specs.ClientStep.{Finishes}
+use Rattle.spec_exchange.specs.Network.{Finish, changed}
+use Rattle.spec_exchange.specs.Operations.{NoSession}
+use Rattle.spec_exchange.specs.State.{no_later}
+use Rattle.wire_messages.specs.declared.session_messages.refusal.Refusal.{Refusal}
+use Rattle.spec_world.specs.Events.{Plain, bytes_happen, bytes_later}
+use Rattle.spec_world.specs.Settings.{WorldSettings}
+use Rattle.spec_world.specs.World as bytes
+use Rattle.spec_world.specs.World.{with_values}
 use Rattle.world_ends.specs.Shown.{ShowsWorld}
 use Rattle.world_ends.specs.declared.world.World.{World}
 use Rattle.world_steps.proofs.Onward.{later_shown}

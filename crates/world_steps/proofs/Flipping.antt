@@ -1,7 +1,7 @@
 -- Bytes that are changed from a place on, one after the other.
 use Rattle.std.proofs.Common.{◌≡◌, ℕ, zero, suc, ◌+◌, ◌<◌, ◌≤◌, List, [], ◌∷◌, length, drop, set, get_or, refl, sym, ap, subst, ◌∙◌, arith}
 use Rattle.std.specs.Prelude.{bit_xor}
-use Rattle.world_defs.specs.Events.{flipped, masked}
+use Rattle.spec_world.specs.Events.{flipped, masked}
 
 -- a mask that has ended changes nothing
 pub mask_over : (at : ℕ) (bs : List ℕ) → flipped at [] bs ≡ bs

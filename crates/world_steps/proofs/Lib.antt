@@ -11,4 +11,3 @@ pub mod Setting
 pub mod Finished
 pub mod Flipping
 pub mod Tampered
-pub use Rattle.free_columns_law.proofs as FreeColumnsLaw

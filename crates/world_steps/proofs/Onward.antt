@@ -1,9 +1,9 @@
 -- Time goes on.
 use Rattle.std.proofs.Common.{◌≡◌, ℕ, ◌+◌, ◌*◌, ◌-◌, ◌^◌, min, sym, ap, subst, ◌∙◌, arith}
-use Rattle.exchange_defs.specs.State.{no_later}
-use Rattle.world_defs.specs.Settings.{WorldSettings}
-use Rattle.world_defs.specs.Events.{bytes_later}
-use Rattle.world_defs.specs.World as bytes
+use Rattle.spec_exchange.specs.State.{no_later}
+use Rattle.spec_world.specs.Settings.{WorldSettings}
+use Rattle.spec_world.specs.Events.{bytes_later}
+use Rattle.spec_world.specs.World as bytes
 use Rattle.world_ends.specs.Shown.{ShowsWorld}
 use Rattle.world_ends.specs.declared.world.World.{World}
 

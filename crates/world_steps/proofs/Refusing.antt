@@ -1,20 +1,20 @@
 -- Want of memory refuses any event, and leaves what was told of a result.
 use Rattle.std.proofs.Common.{◌≡◌, ℕ, Bool, true, false, sym, ap, subst, ◌∙◌, List, slice_get, Option, Result, Ok, Err, MatchResult}
-use Rattle.world_defs.specs.Notes as notes
-use Rattle.world_defs.specs.Settings.{WorldSettings}
-use Rattle.world_defs.specs.World as bytes
+use Rattle.spec_world.specs.Notes as notes
+use Rattle.spec_world.specs.Settings.{WorldSettings}
+use Rattle.spec_world.specs.World as bytes
 use Rattle.world_ends.specs.declared.events.WorldError.{WorldError}
 use Rattle.world_ends.specs.declared.sides.Channel.{Channel}
 use Rattle.world_ends.specs.declared.world.World.{World}
-use Rattle.world_steps.specs.Parts.{IsMemory}
-use Rattle.world_steps.specs.Steps.{Refuses}
+use Rattle.world_steps.specs.Parts.{IsWorldMemory}
+use Rattle.world_steps.specs.Steps.{WorldRefuses}
 
-pub memory : (z : WorldSettings) (x : World) (w : bytes.World) (due : Option notes.WorldError) (e : WorldError) → IsMemory e
-    → Refuses z x w due e
-memory z x w due e m = subst (λ (v : WorldError). Refuses z x w due v) (sym m) tt
+pub memory : (z : WorldSettings) (x : World) (w : bytes.World) (due : Option notes.WorldError) (e : WorldError) → IsWorldMemory e
+    → WorldRefuses z x w due e
+memory z x w due e m = subst (λ (v : WorldError). WorldRefuses z x w due v) (sym m) tt
 
-pub result_with : {T : Type 0} {P Q : T → Type 0} (r : Result T WorldError) → ((x : T) → P x → Q x) → MatchResult r P (λ e. IsMemory e)
-    → MatchResult r Q (λ e. IsMemory e)
+pub result_with : {T : Type 0} {P Q : T → Type 0} (r : Result T WorldError) → ((x : T) → P x → Q x) → MatchResult r P (λ e. IsWorldMemory e)
+    → MatchResult r Q (λ e. IsWorldMemory e)
 result_with (Ok x) f h = f x h
 result_with (Err e) f h = h
 

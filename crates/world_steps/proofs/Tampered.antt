@@ -1,28 +1,29 @@
 -- The front of what goes up, or comes down, becomes another one.
-use Rattle.std.proofs.Common.{◌≡◌, ℕ, suc, ◌+◌, ◌<◌, ◌^◌, ◌==◌, ◌&&◌, nat_lt, Bool, true, false, not, if◌then◌else◌, refl, sym, ap, subst, ◌∙◌}
+use Rattle.std.proofs.Common.{◌≡◌, ℕ, suc, ◌+◌, ◌<◌, ◌^◌, ◌==◌, ◌&&◌, nat_lt, Bool, true, false, not, if◌then◌else◌}
+use Rattle.std.proofs.Common.{refl, sym, ap, subst, ◌∙◌}
 use Rattle.std.proofs.Common.{List, [], ◌∷◌, length, slice_get, Option, Some, None, arith}
 use Rattle.std.proofs.lemmas.Bool.Decides.{nat_tests}
 use Rattle.conn_ends.specs.declared.conn.Conn.{Conn}
-use Rattle.exchange_defs.specs.Network.{Conn as Link, Received, Sent}
-use Rattle.exchange_defs.specs.State.{no_later}
-use Rattle.exchange_defs.specs.Table.{is_filled, put}
-use Rattle.line_ends.specs.Shown.{token_of}
-use Rattle.line_ends.specs.declared.config.ClientConfig.{ClientConfig}
-use Rattle.session_defs.specs.declared.material.Keys.{Keys}
-use Rattle.world_defs.specs.Events.{Tamper, bytes_happen, bytes_later, tampered, with_front}
-use Rattle.world_defs.specs.Notes as notes
-use Rattle.world_defs.specs.Notes.{step_error}
-use Rattle.world_defs.specs.Settings.{WorldSettings}
-use Rattle.world_defs.specs.World as bytes
-use Rattle.world_defs.specs.World.{Wires}
-use Rattle.world_ends.specs.Channels.{AreDown, AreUp, Seen, ShowsChannel, ShowsChannels, ShowsClientSide, ShowsServerSide, seen_of}
+use Rattle.spec_exchange.specs.Network.{Conn as Link, Received, Sent}
+use Rattle.spec_exchange.specs.State.{no_later}
+use Rattle.spec_exchange.specs.Table.{is_filled, put}
+use Rattle.client_ends.specs.ends.Shown.{token_of}
+use Rattle.client_ends.specs.declared.ends.config.ClientConfig.{ClientConfig}
+use Rattle.spec_crypto.specs.declared.sessions.material.Keys.{Keys}
+use Rattle.spec_world.specs.Events.{Tamper, bytes_happen, bytes_later, tampered, with_front}
+use Rattle.spec_world.specs.Notes as notes
+use Rattle.spec_world.specs.Notes.{step_error}
+use Rattle.spec_world.specs.Settings.{WorldSettings}
+use Rattle.spec_world.specs.World as bytes
+use Rattle.spec_world.specs.World.{Wires}
+use Rattle.world_ends.specs.Channels.{AreDown, AreUp, ChannelSeen, ShowsChannel, ShowsChannels, ShowsClientSide, ShowsServerSide, seen_of}
 use Rattle.world_ends.specs.Shown.{ShowsWorld}
 use Rattle.world_ends.specs.declared.sides.Channel.{Channel}
 use Rattle.world_ends.specs.declared.sides.ClientSide.{ClientSide}
 use Rattle.world_ends.specs.declared.sides.Down.{Down}
 use Rattle.world_ends.specs.declared.sides.Up.{Up}
 use Rattle.world_ends.specs.declared.world.World.{World}
-use Rattle.world_steps.specs.Changes.{ChangesDown, ChangesFront, ChangesUp, PutDown, PutUp, coming_in, coming_to, heard_in}
+use Rattle.world_steps.specs.Changes.{ChangesDown, ChangesFront, ChangesUp, PutDown, PutUp, coming_in, coming_to, has_open_end}
 use Rattle.world_steps.specs.Lists.{ChangedAt}
 use Rattle.world_steps.proofs.Closing.{is_opened, is_served, one_changed, opened_one, same_number, served_one}
 use Rattle.world_steps.proofs.Onward.{later_shown}
@@ -36,7 +37,7 @@ put_same f k j false e = refl
 pub kept_put : {X : Type 0} (f : ℕ → X) (k j : ℕ) → put f k (f k) j ≡ f j
 kept_put f k j = put_same f k j (j == k) (same_number j k)
 
-pub values_stay : (s : ClientConfig) (guid : List ℕ) (keys : Keys) (t : ℕ) (c : Seen) (k : ℕ) (conns : ℕ → Link) (wires : ℕ → Wires)
+pub values_stay : (s : ClientConfig) (guid : List ℕ) (keys : Keys) (t : ℕ) (c : ChannelSeen) (k : ℕ) (conns : ℕ → Link) (wires : ℕ → Wires)
     (xs : List Channel) → ShowsChannels s guid keys t c (put conns k (conns k)) wires xs → ShowsChannels s guid keys t c conns wires xs
 values_stay s guid keys t c k conns wires xs h = record {
   counted = h.counted;
@@ -135,7 +136,8 @@ changed_down f (p ∷ ps) vs (b ∷ bs) (y ∷ ys) r h =
 abbrev front_changed : Bool → (List ℕ → List ℕ) → Wires → Wires
 front_changed up f u = if up then record u { up = with_front f u.up } else record u { down = with_front f u.down }
 
-module _ (k : ℕ) (s : ClientConfig) (guid : List ℕ) (keys : Keys) (t : ℕ) (c : Seen) (i : Link) (u : Wires) (f : List ℕ → List ℕ) (x y : Channel)
+module _ (k : ℕ) (s : ClientConfig) (guid : List ℕ) (keys : Keys) (t : ℕ) (c : ChannelSeen) (i : Link) (u : Wires)
+    (f : List ℕ → List ℕ) (x y : Channel)
     (h : ShowsChannel k s guid keys t c i u x) where
   one_tampered : (up : Bool) → ChangesFront up f x y → ShowsChannel k s guid keys t c i (front_changed up f u) y
   one_tampered true r = record {
@@ -153,12 +155,12 @@ module _ (k : ℕ) (s : ClientConfig) (guid : List ℕ) (keys : Keys) (t : ℕ) 
 
 -- ---- the whole
 
-heard_one : (xs : List Channel) (k : ℕ) (up : Bool) → heard_in up (slice_get xs k) ≡ true → (x : Channel) × (slice_get xs k ≡ Some x)
+heard_one : (xs : List Channel) (k : ℕ) (up : Bool) → has_open_end up (slice_get xs k) ≡ true → (x : Channel) × (slice_get xs k ≡ Some x)
 heard_one xs k true e = served_one xs k e
 heard_one xs k false e = opened_one xs k e
 
 tampered_built : (z : WorldSettings) (x y : World) (w : bytes.World) (k : ℕ) (up : Bool) (f : List ℕ → List ℕ)
-    → ChangedAt (ChangesFront up f) k x.channels.items y.channels.items → heard_in up (slice_get x.channels.items k) ≡ true
+    → ChangedAt (ChangesFront up f) k x.channels.items y.channels.items → has_open_end up (slice_get x.channels.items k) ≡ true
     → ShowsWorld z x w → ShowsWorld z (record x { channels = y.channels }) (tampered w k up f)
 tampered_built z x y w k up f r there h =
     let t = w.values.client.taken in
@@ -210,11 +212,13 @@ abbrev pub is_there : Bool → Wires → Bool
 is_there up u = if up then is_filled u.up else is_filled u.down
 
 module _ (z : WorldSettings) (x : World) (w : bytes.World) (k : ℕ) (h : ShowsWorld z x w) where
-  pub heard_is : (up : Bool) → is_heard up (w.values.conns k) ≡ heard_in up (slice_get x.channels.items k)
+  pub heard_is : (up : Bool) → is_heard up (w.values.conns k) ≡ has_open_end up (slice_get x.channels.items k)
   heard_is true =
-      is_served x.settings x.guid x.keys w.values.client.taken (seen_of w.values.client) w.values.conns w.wires x.channels.items h.channels k
+      is_served x.settings x.guid x.keys w.values.client.taken (seen_of w.values.client) w.values.conns w.wires
+      x.channels.items h.channels k
   heard_is false =
-      is_opened x.settings x.guid x.keys w.values.client.taken (seen_of w.values.client) w.values.conns w.wires x.channels.items h.channels k
+      is_opened x.settings x.guid x.keys w.values.client.taken (seen_of w.values.client) w.values.conns w.wires
+      x.channels.items h.channels k
 
   coming_one : (up : Bool) (o : Channel) → slice_get x.channels.items k ≡ Some o → is_there up (w.wires k) ≡ coming_to up o
   coming_one true o e = (let s = h.channels.each k o e in
@@ -222,7 +226,7 @@ module _ (z : WorldSettings) (x : World) (w : bytes.World) (k : ℕ) (h : ShowsW
   coming_one false o e = (let s = h.channels.each k o e in filled_down o.down.items (w.wires k).down (w.values.conns k).down s.down)
 
   -- of a connection whose end is open
-  pub coming_is : (up : Bool) → heard_in up (slice_get x.channels.items k) ≡ true
+  pub coming_is : (up : Bool) → has_open_end up (slice_get x.channels.items k) ≡ true
       → is_there up (w.wires k) ≡ coming_in up (slice_get x.channels.items k)
   coming_is up there =
       let one = heard_one x.channels.items k up there in
@@ -253,7 +257,7 @@ error_is w k up f a b d e =
     told w k up f ∙ (ap (λ (v : Bool). error_if v (is_there up (w.wires k)) k) d ∙ ap (λ (v : Bool). error_if a v k) e)
 
 pub tampers : (z : WorldSettings) (x y v : World) (w : bytes.World) (k : ℕ) (up : Bool) (f : List ℕ → List ℕ)
-    → ChangedAt (ChangesFront up f) k x.channels.items y.channels.items → heard_in up (slice_get x.channels.items k) ≡ true
+    → ChangedAt (ChangesFront up f) k x.channels.items y.channels.items → has_open_end up (slice_get x.channels.items k) ≡ true
     → coming_in up (slice_get x.channels.items k) ≡ true → v ≡ record (record x { channels = y.channels }) { moment = v.moment }
     → v.moment ≡ no_later (x.moment + 1) → ShowsWorld z x w
     → (step_error w (Tamper k up f) ≡ None) × ShowsWorld z v (bytes_happen z w (Tamper k up f))
@@ -269,12 +273,12 @@ tampers z x y v w k up f r heard coming late time h =
     )
 
 pub not_heard : (z : WorldSettings) (x : World) (w : bytes.World) (k : ℕ) (up : Bool) (f : List ℕ → List ℕ)
-    → heard_in up (slice_get x.channels.items k) ≡ false → ShowsWorld z x w
+    → has_open_end up (slice_get x.channels.items k) ≡ false → ShowsWorld z x w
     → (step_error w (Tamper k up f) ≡ Some (notes.NoChannel k)) × ShowsWorld z x w
 not_heard z x w k up f e h = (error_is w k up f false (is_there up (w.wires k)) (heard_is z x w k h up ∙ e) refl, h)
 
 pub nothing_there : (z : WorldSettings) (x : World) (w : bytes.World) (k : ℕ) (up : Bool) (f : List ℕ → List ℕ)
-    → heard_in up (slice_get x.channels.items k) ≡ true → coming_in up (slice_get x.channels.items k) ≡ false → ShowsWorld z x w
+    → has_open_end up (slice_get x.channels.items k) ≡ true → coming_in up (slice_get x.channels.items k) ≡ false → ShowsWorld z x w
     → (step_error w (Tamper k up f) ≡ Some (notes.NothingThere k)) × ShowsWorld z x w
 nothing_there z x w k up f heard e h =
     (error_is w k up f true false (heard_is z x w k h up ∙ heard) (coming_is z x w k h up heard ∙ e), h)

@@ -1,7 +1,7 @@
 -- The front of what goes up, or comes down, becomes another one.
 use Rattle.std.specs.Prelude.{◌≡◌, ℕ, ◌<◌, ◌^◌, Bool, true, false, List, [], ◌∷◌, length, Option, Some, None}
-use Rattle.exchange_defs.specs.Table.{is_filled}
-use Rattle.world_defs.specs.Events.{flipped}
+use Rattle.spec_exchange.specs.Table.{is_filled}
+use Rattle.spec_world.specs.Events.{flipped}
 use Rattle.world_ends.specs.Tests.{opened_in, served_in}
 use Rattle.world_ends.specs.declared.sides.Channel.{Channel}
 use Rattle.world_ends.specs.declared.sides.Down.{Down}
@@ -40,9 +40,9 @@ ChangesFront false f old new = (new.client ≡ old.client) × (new.server ≡ ol
 
 -- ---- whether the end that is to hear it is open, and whether something is on its way
 
-abbrev pub heard_in : Bool → Option Channel → Bool
-heard_in true o = served_in o
-heard_in false o = opened_in o
+abbrev pub has_open_end : Bool → Option Channel → Bool
+has_open_end true o = served_in o
+has_open_end false o = opened_in o
 
 abbrev pub coming_to : Bool → Channel → Bool
 coming_to true x = is_filled x.up.items

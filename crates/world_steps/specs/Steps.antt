@@ -1,14 +1,14 @@
 -- What a step of a world in code is in the exchange over bytes.
 use Rattle.std.specs.Prelude.{◌≡◌, ℕ, Option, Some, None, Result, Ok, Err, MatchResult, Bool, ⊤}
-use Rattle.exchange_defs.specs.Network as network
-use Rattle.client_outcomes.specs.Meaning.{refusal_of}
-use Rattle.msg_session.specs.declared.refusal.Refusal.{Refusal}
-use Rattle.operation_values.specs.Meaning.{op_of}
-use Rattle.world_defs.specs.Courses.{push_lowest}
-use Rattle.world_defs.specs.Events.{ByteEvent, Plain, Tamper, bytes_happen, flip, forge}
-use Rattle.world_defs.specs.Notes as notes
-use Rattle.world_defs.specs.Settings.{WorldSettings}
-use Rattle.world_defs.specs.World as bytes
+use Rattle.spec_exchange.specs.Network as network
+use Rattle.client_values.specs.outcomes.Meaning.{refusal_of}
+use Rattle.wire_messages.specs.declared.session_messages.refusal.Refusal.{Refusal}
+use Rattle.client_values.specs.operations.Meaning.{op_of}
+use Rattle.spec_world.specs.Courses.{push_lowest}
+use Rattle.spec_world.specs.Events.{ByteEvent, Plain, Tamper, bytes_happen, flip, forge}
+use Rattle.spec_world.specs.Notes as notes
+use Rattle.spec_world.specs.Settings.{WorldSettings}
+use Rattle.spec_world.specs.World as bytes
 use Rattle.world_ends.specs.Shown.{ShowsWorld}
 use Rattle.world_ends.specs.declared.events.WorldError.{WorldError}
 use Rattle.world_ends.specs.declared.events.WorldError.TheVariants as errors
@@ -16,7 +16,7 @@ use Rattle.world_ends.specs.declared.events.WorldEvent.{WorldEvent}
 use Rattle.world_ends.specs.declared.events.WorldEvent.TheVariants as events
 use Rattle.world_ends.specs.declared.world.World.{World}
 use Rattle.world_steps.specs.Changes.{change_of}
-use Rattle.world_steps.specs.Parts.{IsMemory}
+use Rattle.world_steps.specs.Parts.{IsWorldMemory}
 use Rattle.world_steps.specs.declared.tampering.Change.{Change}
 
 -- a push is the program's own
@@ -35,19 +35,19 @@ meant w (events.Forge k up bytes) = forge k up bytes
 meant w (events.Flip k up at mask) = flip k up at mask
 
 -- it refuses for the reason that is due, and the world is as before; or memory ran out
-abbrev pub Refuses : WorldSettings → World → bytes.World → Option notes.WorldError → WorldError → Type 0
-Refuses z new w due errors.Memory = ⊤
-Refuses z new w due (errors.NoChannel k) = (due ≡ Some (notes.NoChannel k)) × ShowsWorld z new w
-Refuses z new w due (errors.NothingThere k) = (due ≡ Some (notes.NothingThere k)) × ShowsWorld z new w
-Refuses z new w due (errors.InUse k) = (due ≡ Some (notes.InUse k)) × ShowsWorld z new w
+abbrev pub WorldRefuses : WorldSettings → World → bytes.World → Option notes.WorldError → WorldError → Type 0
+WorldRefuses z new w due errors.Memory = ⊤
+WorldRefuses z new w due (errors.NoChannel k) = (due ≡ Some (notes.NoChannel k)) × ShowsWorld z new w
+WorldRefuses z new w due (errors.NothingThere k) = (due ≡ Some (notes.NothingThere k)) × ShowsWorld z new w
+WorldRefuses z new w due (errors.InUse k) = (due ≡ Some (notes.InUse k)) × ShowsWorld z new w
 
 -- it is the event that the definitions have, which the world meets, or it refuses as they do
 abbrev pub StepsAs : WorldSettings → bytes.World → ByteEvent → World → Result Unit WorldError → Type 0
 StepsAs z w e new (Ok u) = (notes.step_error w e ≡ None) × ShowsWorld z new (bytes_happen z w e)
-StepsAs z w e new (Err why) = Refuses z new w (notes.step_error w e) why
+StepsAs z w e new (Err why) = WorldRefuses z new w (notes.step_error w e) why
 
-abbrev pub Steps : World → WorldEvent → World → Result Unit WorldError → Type 0
-Steps old e new result = (z : WorldSettings) (w : bytes.World) → ShowsWorld z old w → StepsAs z w (meant w e) new result
+abbrev pub WorldSteps : World → WorldEvent → World → Result Unit WorldError → Type 0
+WorldSteps old e new result = (z : WorldSettings) (w : bytes.World) → ShowsWorld z old w → StepsAs z w (meant w e) new result
 
 -- the front of what goes up, or comes down, becomes another one
 abbrev pub Tampers : World → ℕ → Bool → Change → World → Result Unit WorldError → Type 0
@@ -55,6 +55,6 @@ Tampers old k up change new result = (z : WorldSettings) (w : bytes.World) → S
     → StepsAs z w (Tamper k up (change_of change)) new result
 
 -- the client gives up, where no session is live; else nothing happens
-abbrev pub Finishes : World → Refusal → World → Result Unit WorldError → Type 0
-Finishes old refusal new result = (z : WorldSettings) (w : bytes.World) → ShowsWorld z old w
-    → MatchResult result (λ u. ShowsWorld z new (bytes_happen z w (Plain (network.Finish (refusal_of refusal))))) (λ e. IsMemory e)
+abbrev pub WorldFinishes : World → Refusal → World → Result Unit WorldError → Type 0
+WorldFinishes old refusal new result = (z : WorldSettings) (w : bytes.World) → ShowsWorld z old w
+    → MatchResult result (λ u. ShowsWorld z new (bytes_happen z w (Plain (network.Finish (refusal_of refusal))))) (λ e. IsWorldMemory e)

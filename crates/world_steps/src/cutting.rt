@@ -1,12 +1,12 @@
 // The client closes its end of a connection.
 ghost use Rattle.std.specs.Prelude.{◌≡◌, IfSome, MatchResult, slice_get};
-ghost use Rattle.world_ends.specs.ClientEvent.Events.{act_of};
-ghost use Rattle.exchange_defs.specs.Client.{unmade};
+ghost use Rattle.client_events.specs.event_calls.Events.{act_of};
+ghost use Rattle.spec_exchange.specs.Client.{unmade};
 ghost use Rattle.world_ends.specs.Tests.{opened_in, readied_in};
 ghost use Rattle.world_ends.specs.declared.events.WorldEvent.TheVariants as events;
 ghost use Rattle.world_steps.specs.Lists.{ChangedAll, ChangedAt, ClosesClient};
-ghost use Rattle.world_steps.specs.Parts.{ClosedBy, Cuts, CutsLine, IsMemory, all_close};
-ghost use Rattle.world_steps.specs.Steps.{Steps};
+ghost use Rattle.world_steps.specs.Parts.{ClosedBy, Cuts, CutsLine, IsWorldMemory, all_close};
+ghost use Rattle.world_steps.specs.Steps.{WorldSteps};
 
 use crate::happening::happen;
 use crate::moments::later;
@@ -108,7 +108,7 @@ fn cut_line(
     channel: u8,
 ) -> Result<(), WorldError>
     ensures { MatchResult result
-        (λ _. CutsLine client.old making.old channels.old.items k channel client.new making.new channels.new.items) (λ e. IsMemory e) }
+        (λ _. CutsLine client.old making.old channels.old.items k channel client.new making.new channels.new.items) (λ e. IsWorldMemory e) }
 {
     match happen(client, alloc, Event::Cut { channel }) {
         Ok(act) => {
@@ -135,7 +135,7 @@ fn cut_ready(
     k: u32,
 ) -> Result<(), WorldError>
     ensures { MatchResult result
-        (λ _. CutsLine client.old making.old channels.old.items k k client.new making.new channels.new.items) (λ e. IsMemory e) }
+        (λ _. CutsLine client.old making.old channels.old.items k k client.new making.new channels.new.items) (λ e. IsWorldMemory e) }
 {
     match number_of(k) {
         Some(channel) => cut_line(client, making, channels, alloc, k, channel),
@@ -152,7 +152,7 @@ pub fn cut_end(
     k: u32,
 ) -> Result<(), WorldError>
     ensures { MatchResult result
-        (λ _. Cuts client.old making.old channels.old.items k client.new making.new channels.new.items) (λ e. IsMemory e) }
+        (λ _. Cuts client.old making.old channels.old.items k client.new making.new channels.new.items) (λ e. IsWorldMemory e) }
 {
     if is_ready(channels.as_slice(), k) {
         return cut_ready(client, making, channels, alloc, k);
@@ -163,7 +163,7 @@ pub fn cut_end(
 
 /// The client closes its end of a connection.
 pub fn cut(world: &mut World, k: u32) -> Result<(), WorldError>
-    ensures { Steps world.old (events.Cut k) world.new result }
+    ensures { WorldSteps world.old (events.Cut k) world.new result }
 {
     if !is_open(&world.channels, k) {
         return Err(WorldError::NoChannel(k));

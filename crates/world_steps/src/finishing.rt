@@ -1,13 +1,13 @@
 // The client gives up.
 ghost use Rattle.std.specs.Prelude.{◌≡◌};
-ghost use Rattle.world_ends.specs.ClientCore.Shown.{ShowsClient};
-ghost use Rattle.exchange_defs.specs.Client.{Client};
-ghost use Rattle.world_steps.specs.Steps.{Finishes};
+ghost use Rattle.client_steps.specs.whole_client.Shown.{ShowsClient};
+ghost use Rattle.spec_exchange.specs.Client.{Client};
+ghost use Rattle.world_steps.specs.Steps.{WorldFinishes};
 
 use crate::happening::happen;
 use crate::moments::later;
-use client_outcomes::Why;
-use msg_session::Refusal;
+use client_values::Why;
+use wire_messages::Refusal;
 use world_ends::{Event, Played, World, WorldError};
 
 /// Whether a session is live.
@@ -20,7 +20,7 @@ pub fn is_live(client: &Played) -> bool
 /// No session can be had, since the dialog of a new one was refused so: what isn't settled is given up. Where a session is live nothing
 /// happens.
 pub fn finish(world: &mut World, refusal: Refusal) -> Result<(), WorldError>
-    ensures { Finishes world.old refusal world.new result }
+    ensures { WorldFinishes world.old refusal world.new result }
 {
     if is_live(&world.client) {
         return Ok(());

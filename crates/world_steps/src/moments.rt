@@ -1,8 +1,8 @@
 // Time goes on.
 ghost use Rattle.std.specs.Prelude.{◌≡◌, ◌+◌, Ok};
-ghost use Rattle.exchange_defs.specs.State.{no_later};
+ghost use Rattle.spec_exchange.specs.State.{no_later};
 ghost use Rattle.world_ends.specs.declared.events.WorldEvent.TheVariants as events;
-ghost use Rattle.world_steps.specs.Steps.{Steps};
+ghost use Rattle.world_steps.specs.Steps.{WorldSteps};
 
 use world_ends::World;
 
@@ -16,7 +16,7 @@ pub fn later(world: &mut World, moments: u64)
 
 /// Milliseconds pass, of 10,000 moments each.
 pub fn wait(world: &mut World, milliseconds: u64)
-    ensures { Steps world.old (events.Wait milliseconds) world.new (Ok tt) }
+    ensures { WorldSteps world.old (events.Wait milliseconds) world.new (Ok tt) }
 {
     later(world, milliseconds.saturating_mul(10_000));
 }

@@ -1,7 +1,7 @@
 // What is noted of the messages that the server took.
 ghost use Rattle.std.specs.Prelude.{◌≡◌, MatchResult};
 ghost use Rattle.world_ends.specs.Places.{no_marks as unmarked};
-ghost use Rattle.world_steps.specs.Parts.{IsMemory, Marked};
+ghost use Rattle.world_steps.specs.Parts.{IsWorldMemory, Marked};
 
 use world_ends::{Marks, Places, WorldError};
 
@@ -17,7 +17,7 @@ fn no_marks() -> Marks
 
 /// Each of so many operations has marks; there is one at most that has none.
 pub fn mark(places: &mut Places, taken: usize) -> Result<(), WorldError>
-    ensures { MatchResult result (λ _. Marked places.old taken places.new) (λ e. IsMemory e) }
+    ensures { MatchResult result (λ _. Marked places.old taken places.new) (λ e. IsWorldMemory e) }
 {
     if taken < places.marks.len() {
         return Ok(());

@@ -1,18 +1,18 @@
 // The server's end of a connection closes.
 ghost use Rattle.std.specs.Prelude.{◌≡◌, IfOk, List, MatchResult, slice_get};
-ghost use Rattle.exchange_defs.specs.State as model;
-ghost use Rattle.exchange_defs.specs.Step.{step};
-ghost use Rattle.token_defs.specs.Acceptor.{User};
-ghost use Rattle.world_ends.specs.WorldBook.Held.{HoldsBook};
-ghost use Rattle.world_defs.specs.Ends.{Logons};
+ghost use Rattle.spec_exchange.specs.State as model;
+ghost use Rattle.spec_exchange.specs.Step.{step};
+ghost use Rattle.spec_crypto.specs.tokens.Acceptor.{User};
+ghost use Rattle.world_ends.specs.memory_server.Held.{HoldsBook};
+ghost use Rattle.spec_world.specs.Ends.{Logons};
 ghost use Rattle.world_ends.specs.Tests.{served_in};
 ghost use Rattle.world_ends.specs.declared.events.WorldEvent.TheVariants as events;
 ghost use Rattle.world_steps.specs.Lists.{ChangedAt, ClosesServer};
-ghost use Rattle.world_steps.specs.Parts.{BookTold, Drops, IsMemory};
-ghost use Rattle.world_steps.specs.Steps.{Steps};
+ghost use Rattle.world_steps.specs.Parts.{BookTold, Drops, IsWorldMemory};
+ghost use Rattle.world_steps.specs.Steps.{WorldSteps};
 
 use crate::moments::later;
-use smb_io::MemDisk;
+use base_outside::MemDisk;
 use std::alloc::AllocError;
 use world_ends::{Book, Channel, World, WorldError, end};
 
@@ -55,7 +55,7 @@ pub fn drop_end(
     moment: u64,
     k: u32,
 ) -> Result<(), WorldError>
-    ensures { MatchResult result (λ _. Drops book.old channels.old.items moment k book.new channels.new.items) (λ e. IsMemory e) }
+    ensures { MatchResult result (λ _. Drops book.old channels.old.items moment k book.new channels.new.items) (λ e. IsWorldMemory e) }
 {
     match tell_end(book, moment, k) {
         Ok(_) => {
@@ -68,7 +68,7 @@ pub fn drop_end(
 
 /// The server ends a connection by itself.
 pub fn drop_server(world: &mut World, k: u32) -> Result<(), WorldError>
-    ensures { Steps world.old (events.Drop k) world.new result }
+    ensures { WorldSteps world.old (events.Drop k) world.new result }
 {
     if !is_served(&world.channels, k) {
         return Err(WorldError::NoChannel(k));

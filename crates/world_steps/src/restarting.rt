@@ -1,17 +1,17 @@
 // The server starts anew on its disk.
 ghost use Rattle.std.specs.Prelude.{◌++◌, List, MatchResult, OnOk};
-ghost use Rattle.exchange_defs.specs.Fold.{recovered_from, recovery_records};
-ghost use Rattle.exchange_defs.specs.State as model;
-ghost use Rattle.token_defs.specs.Acceptor.{User};
-ghost use Rattle.world_ends.specs.WorldBook.Held.{Holds, HoldsBook};
-ghost use Rattle.world_defs.specs.Ends.{Logons};
+ghost use Rattle.spec_exchange.specs.Fold.{recovered_from, recovery_records};
+ghost use Rattle.spec_exchange.specs.State as model;
+ghost use Rattle.spec_crypto.specs.tokens.Acceptor.{User};
+ghost use Rattle.world_ends.specs.memory_server.Held.{WorldHolds, HoldsBook};
+ghost use Rattle.spec_world.specs.Ends.{Logons};
 ghost use Rattle.world_ends.specs.declared.events.WorldEvent.TheVariants as events;
 ghost use Rattle.world_steps.specs.Lists.{ChangedAll, ClosesServer};
-ghost use Rattle.world_steps.specs.Parts.{IsMemory, Restarts};
-ghost use Rattle.world_steps.specs.Steps.{Steps};
+ghost use Rattle.world_steps.specs.Parts.{IsWorldMemory, WorldRestarts};
+ghost use Rattle.world_steps.specs.Steps.{WorldSteps};
 
 use crate::moments::later;
-use smb_io::MemDisk;
+use base_outside::MemDisk;
 use std::alloc::AllocError;
 use world_ends::{Book, Channel, World, WorldError, restart as begin_anew};
 
@@ -26,7 +26,8 @@ fn close_servers(channels: &mut Vec<Channel>)
 
 /// The server of a disk begins anew on it.
 fn renew(place: &mut Option<Book<MemDisk>>, book: Book<MemDisk>) -> Result<(), AllocError>
-    ensures { OnOk result ((users : List User) (s : model.Server) (L : Logons) (records : List model.Record) → Holds book users s L records
+    ensures { OnOk result ((users : List User) (s : model.Server) (L : Logons) (records : List model.Record)
+        → WorldHolds book users s L records
         → HoldsBook place.new users (recovered_from s records) L (records ++ recovery_records records)) }
 {
     match begin_anew(book) {
@@ -55,7 +56,7 @@ pub fn restart_server(
     book: &mut Option<Book<MemDisk>>,
     channels: &mut Vec<Channel>,
 ) -> Result<(), WorldError>
-    ensures { MatchResult result (λ _. Restarts book.old channels.old.items book.new channels.new.items) (λ e. IsMemory e) }
+    ensures { MatchResult result (λ _. WorldRestarts book.old channels.old.items book.new channels.new.items) (λ e. IsWorldMemory e) }
 {
     match restart_book(book) {
         Ok(()) => {
@@ -68,7 +69,7 @@ pub fn restart_server(
 
 /// The server starts anew.
 pub fn restart(world: &mut World) -> Result<(), WorldError>
-    ensures { Steps world.old events.Restart world.new result }
+    ensures { WorldSteps world.old events.Restart world.new result }
 {
     match restart_server(&mut world.book, &mut world.channels) {
         Ok(()) => {

@@ -1,13 +1,13 @@
 // An operation comes.
 ghost use Rattle.std.specs.Prelude.{MatchResult};
 ghost use Rattle.world_ends.specs.declared.events.WorldEvent.TheVariants as events;
-ghost use Rattle.world_steps.specs.Parts.{IsMemory, Takes};
-ghost use Rattle.world_steps.specs.Steps.{Steps};
+ghost use Rattle.world_steps.specs.Parts.{IsWorldMemory, WorldTakes};
+ghost use Rattle.world_steps.specs.Steps.{WorldSteps};
 
 use crate::happening::{happen, taken_by};
 use crate::moments::later;
 use crate::noting::mark;
-use operation_values::OpKind;
+use client_values::OpKind;
 use std::alloc::Global;
 use world_ends::{Event, Places, Played, World, WorldError};
 
@@ -19,7 +19,7 @@ fn take_in(
     number: u32,
     kind: OpKind,
 ) -> Result<(), WorldError>
-    ensures { MatchResult result (λ _. Takes client.old places.old number kind client.new places.new) (λ e. IsMemory e) }
+    ensures { MatchResult result (λ _. WorldTakes client.old places.old number kind client.new places.new) (λ e. IsWorldMemory e) }
 {
     match happen(client, alloc, Event::Submit { number, kind }) {
         Ok(_) => {
@@ -32,7 +32,7 @@ fn take_in(
 
 /// An operation is submitted under a number. One that may not be taken changes nothing but the moment.
 pub fn submit(world: &mut World, number: u32, kind: OpKind) -> Result<(), WorldError>
-    ensures { Steps world.old (events.Submit number kind) world.new result }
+    ensures { WorldSteps world.old (events.Submit number kind) world.new result }
 {
     match take_in(
         &mut world.client,

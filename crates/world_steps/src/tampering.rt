@@ -1,17 +1,18 @@
 // What is on its way is changed.
 ghost use Rattle.std.specs.Prelude.{◌≡◌, ℕ, ◌^◌, ◌∷◌, nat_lt, List, length, MatchResult, slice_get};
-ghost use Rattle.exchange_defs.specs.Table.{is_filled};
-ghost use Rattle.world_defs.specs.Events.{flipped};
-ghost use Rattle.world_steps.specs.Changes.{ChangesDown, ChangesFront, ChangesUp, PutDown, PutUp, change_of, coming_in, coming_to, heard_in};
+ghost use Rattle.spec_exchange.specs.Table.{is_filled};
+ghost use Rattle.spec_world.specs.Events.{flipped};
+ghost use Rattle.world_steps.specs.Changes.{ChangesDown, ChangesFront, ChangesUp, PutDown, PutUp, change_of, coming_in};
+ghost use Rattle.world_steps.specs.Changes.{coming_to, has_open_end};
 ghost use Rattle.world_steps.specs.Lists.{ChangedAt};
-ghost use Rattle.world_steps.specs.Parts.{IsMemory};
+ghost use Rattle.world_steps.specs.Parts.{IsWorldMemory};
 ghost use Rattle.world_steps.specs.Steps.{Tampers};
 
 use crate::cutting::is_open;
 use crate::moments::later;
 use crate::parting::is_served;
-use smb_bytes::Bytes;
 use std::collections::VecDeque;
+use wire_bytes::Bytes;
 use world_ends::{Channel, Down, Up, World, WorldError};
 
 /// Frames on their way are below it.
@@ -69,7 +70,7 @@ fn is_short(bytes: &[u8]) -> bool
 
 /// A frame that is too long counts as memory that ran out.
 fn put_up(up: &mut VecDeque<Up>, token: u64, bytes: Vec<u8>) -> Result<(), WorldError>
-    ensures { MatchResult result (λ _. PutUp up.old.items token bytes.items up.new.items) (λ e. IsMemory e) }
+    ensures { MatchResult result (λ _. PutUp up.old.items token bytes.items up.new.items) (λ e. IsWorldMemory e) }
 {
     if !is_short(&bytes) {
         return Err(WorldError::Memory);
@@ -83,7 +84,7 @@ fn put_up(up: &mut VecDeque<Up>, token: u64, bytes: Vec<u8>) -> Result<(), World
 }
 
 fn put_down(down: &mut VecDeque<Down>, place: u64, bytes: Vec<u8>) -> Result<(), WorldError>
-    ensures { MatchResult result (λ _. PutDown down.old.items place bytes.items down.new.items) (λ e. IsMemory e) }
+    ensures { MatchResult result (λ _. PutDown down.old.items place bytes.items down.new.items) (λ e. IsWorldMemory e) }
 {
     if !is_short(&bytes) {
         return Err(WorldError::Memory);
@@ -98,7 +99,7 @@ fn put_down(down: &mut VecDeque<Down>, place: u64, bytes: Vec<u8>) -> Result<(),
 
 /// The front of what goes up.
 fn change_up(up: &mut VecDeque<Up>, change: Change) -> Result<(), WorldError>
-    ensures { MatchResult result (λ _. ChangesUp (change_of change) up.old.items up.new.items) (λ e. IsMemory e) }
+    ensures { MatchResult result (λ _. ChangesUp (change_of change) up.old.items up.new.items) (λ e. IsWorldMemory e) }
 {
     match up.pop_front() {
         Some(front) => {
@@ -111,7 +112,7 @@ fn change_up(up: &mut VecDeque<Up>, change: Change) -> Result<(), WorldError>
 
 /// The front of what comes down.
 fn change_down(down: &mut VecDeque<Down>, change: Change) -> Result<(), WorldError>
-    ensures { MatchResult result (λ _. ChangesDown (change_of change) down.old.items down.new.items) (λ e. IsMemory e) }
+    ensures { MatchResult result (λ _. ChangesDown (change_of change) down.old.items down.new.items) (λ e. IsWorldMemory e) }
 {
     match down.pop_front() {
         Some(front) => {
@@ -123,7 +124,7 @@ fn change_down(down: &mut VecDeque<Down>, change: Change) -> Result<(), WorldErr
 }
 
 fn change_front(channel: &mut Channel, up: bool, change: Change) -> Result<(), WorldError>
-    ensures { MatchResult result (λ _. ChangesFront up (change_of change) channel.old channel.new) (λ e. IsMemory e) }
+    ensures { MatchResult result (λ _. ChangesFront up (change_of change) channel.old channel.new) (λ e. IsWorldMemory e) }
 {
     if up {
         change_up(&mut channel.up, change)
@@ -139,7 +140,7 @@ fn change_at(
     change: Change,
 ) -> Result<(), WorldError>
     ensures { MatchResult result
-        (λ _. ChangedAt (ChangesFront up (change_of change)) k channels.old.items channels.new.items) (λ e. IsMemory e) }
+        (λ _. ChangedAt (ChangesFront up (change_of change)) k channels.old.items channels.new.items) (λ e. IsWorldMemory e) }
 {
     let at = k as usize;
     let within = at < channels.len();
@@ -152,7 +153,7 @@ fn change_at(
 
 /// Whether the end that is to hear what goes up, or comes down, is open.
 fn is_hearing(channels: &[Channel], k: u32, up: bool) -> bool
-    ensures { result ≡ heard_in up (slice_get channels.now k) }
+    ensures { result ≡ has_open_end up (slice_get channels.now k) }
 {
     if up {
         is_served(channels, k)

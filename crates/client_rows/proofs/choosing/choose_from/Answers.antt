@@ -1,4 +1,4 @@
-use Rattle.operation_rows.specs.Rows.{costs}
+use Rattle.client_rows.specs.operation_rows.Rows.{costs}
 use Rattle.client_rows.specs.Shown.{fills_by, waits_by}
 use Rattle.client_rows.proofs.Showing.{alike_shown, behind_is, goes_is, none_is, some_is}
 use Rattle.client_rows.proofs.choosing.choose_from.Goals as goal

@@ -1,7 +1,7 @@
 use Rattle.std.proofs.Common.{refl, None}
-use Rattle.exchange_defs.specs.Table.{put}
-use Rattle.operation_rows.specs.declared.row.Row.{Row}
-use Rattle.operation_rows.specs.Rows.{row_at}
+use Rattle.spec_exchange.specs.Table.{put}
+use Rattle.client_rows.specs.declared.operation_rows.row.Row.{Row}
+use Rattle.client_rows.specs.operation_rows.Rows.{row_at}
 use Rattle.client_rows.proofs.Moving.{put_col, same_col}
 use Rattle.client_rows.proofs.steps.answer.Goals as goal
 

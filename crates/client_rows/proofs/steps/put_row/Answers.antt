@@ -1,6 +1,6 @@
 use Rattle.std.proofs.Common.{List, sym, subst}
-use Rattle.operation_rows.specs.declared.row.Row.{Row}
-use Rattle.operation_rows.specs.Moves.{StandsRows}
+use Rattle.client_rows.specs.declared.operation_rows.row.Row.{Row}
+use Rattle.client_rows.specs.operation_rows.Moves.{StandsRows}
 use Rattle.client_rows.specs.Shown.{KeepsRow, ShowsRows, fills_by, waits_by}
 use Rattle.client_rows.proofs.Keeping.{keeps_one}
 use Rattle.client_rows.proofs.Moving.{shown_moved}

@@ -1,7 +1,7 @@
 use Rattle.std.proofs.Common.{List, sym, subst}
-use Rattle.exchange_defs.specs.Table.{put}
-use Rattle.operation_rows.specs.declared.row.Row.{Row}
-use Rattle.operation_rows.specs.Moves.{StandsRows}
+use Rattle.spec_exchange.specs.Table.{put}
+use Rattle.client_rows.specs.declared.operation_rows.row.Row.{Row}
+use Rattle.client_rows.specs.operation_rows.Moves.{StandsRows}
 use Rattle.client_rows.specs.Shown.{ShowsRows, fills_by, waits_by}
 use Rattle.client_rows.proofs.Moving.{is_first, shown_settled}
 use Rattle.client_rows.proofs.steps.settle_one.Goals as goal

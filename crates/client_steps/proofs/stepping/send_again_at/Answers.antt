@@ -1,16 +1,16 @@
 use Rattle.std.proofs.Common.{◌≡◌, ℕ, ◌<◌, List, length, vec_capacity, refl, sym, ap, ◌∙◌, subst, arith}
 use Rattle.std.proofs.lemmas.Grind.{common_steps}
-use Rattle.exchange_defs.specs.Operations.{is_lock}
-use Rattle.exchange_defs.specs.Client.{begun, outstanding}
-use Rattle.number_set.specs.Members.{has}
-use Rattle.operation_rows.specs.declared.row.Row.{Row}
-use Rattle.operation_rows.specs.Rows.{is_out}
-use Rattle.operation_rows.specs.Holding.{IsSafe}
-use Rattle.operation_rows.specs.Choosing.{Counts}
+use Rattle.spec_exchange.specs.Operations.{is_lock}
+use Rattle.spec_exchange.specs.Client.{begun, outstanding}
+use Rattle.base_lists.specs.number_set.Members.{has}
+use Rattle.client_rows.specs.declared.operation_rows.row.Row.{Row}
+use Rattle.client_rows.specs.operation_rows.Rows.{is_out}
+use Rattle.client_rows.specs.operation_rows.Holding.{IsSafe}
+use Rattle.client_rows.specs.operation_rows.Choosing.{RowCounts}
 use Rattle.client_rows.specs.Shown.{KeepsRow, ShowsRows}
-use Rattle.client_losses.specs.Shown.{HoldsOut}
-use Rattle.client_table.specs.Shown.{FitsParts, ShowsParts}
-use Rattle.client_table.proofs.Losing.{whole}
+use Rattle.client_tables.specs.outstanding.Shown.{HoldsOut}
+use Rattle.client_tables.specs.whole_table.Shown.{FitsParts, ShowsParts}
+use Rattle.client_tables.proofs.whole_table.Losing.{whole}
 use Rattle.client_steps.proofs.Rest.{begun_rest, no_slot_is_taken}
 use Rattle.client_steps.proofs.Stepped.{others_so, stepped_fits, stepped_shown}
 use Rattle.client_steps.proofs.stepping.send_again_at.Goals as goal
@@ -23,7 +23,7 @@ send_again-requires c =
     let o = c.deref_mut.ensures.value in
     record {
       within = subst (λ (xs : List Row). c.args.index < length xs) (sym o) c.requires.within;
-      counts = subst (λ (xs : List Row). Counts xs t.prices t.watchers) (sym o) c.requires.fits.counts;
+      counts = subst (λ (xs : List Row). RowCounts xs t.prices t.watchers) (sym o) c.requires.fits.counts;
     }
 
 pub refresh-requires : goal.refresh-requires

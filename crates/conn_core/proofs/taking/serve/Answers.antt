@@ -1,5 +1,5 @@
-use Rattle.conn_frames.proofs.Places.{each_has}
-use Rattle.conn_served.specs.Serving.{Onward}
+use Rattle.conn_ends.proofs.frame_messages.Places.{each_has}
+use Rattle.conn_core.specs.served.Serving.{Onward}
 use Rattle.conn_core.proofs.Composed.{served, stop_as, stopped_on}
 use Rattle.conn_core.proofs.taking.serve.Goals as goal
 
@@ -14,8 +14,10 @@ returns-in-Ok g c = λ z s L records f F state shows frame seals moment greets a
     served (Onward (g.S.Serve.shows c.carry_out.new.server z.users) (g.S.Serve.stopped c.args.server.now) (g.S.Serve.stopped
     c.carry_out.new.server)) z c.args.moment.now.time c.args.moment.now.fresh s L records f F c.args.asked.now
     c.carry_out.new.asked c.carry_out.new.dealt c.args.conn.now c.finish.new.conn c.finish.result
-    (c.in-Ok.ensures.deals z s L records F.server_end F state shows frame alone) shows frame.sealed c.carry_out.ensures.same moment seals greets
-    asked bound (λ u l cs ss w end answers. c.finish.ensures z u l F.server_end cs ss w end answers) (g.S.Serve.stopped c.carry_out.new.server)
+    (c.in-Ok.ensures.deals z s L records F.server_end F state shows frame alone) shows frame.sealed
+    c.carry_out.ensures.same moment seals greets
+    asked bound (λ u l cs ss w end answers. c.finish.ensures z u l F.server_end cs ss w end answers)
+    (g.S.Serve.stopped c.carry_out.new.server)
 
 pub returns-in-Err : goal.returns-in-Err
 returns-in-Err g c = λ z s L records f F state shows frame seals moment greets alone asked bound. (

@@ -1,7 +1,7 @@
 use Rattle.std.proofs.Common.{arith, refl}
-use Rattle.world_defs.specs.Hearing.{check_frame, text_of}
+use Rattle.spec_world.specs.Hearing.{check_frame, text_of}
 use Rattle.conn_ends.specs.declared.end.ConnEnd.TheVariants.{Memory}
-use Rattle.conn_served.specs.Serving.{Onward}
+use Rattle.conn_core.specs.served.Serving.{Onward}
 use Rattle.conn_core.proofs.Composed.{ended_once, fails_checked, lacks_all, memory_halts, once_halts, takes}
 use Rattle.conn_core.proofs.taking.take_frame.Goals as goal
 
@@ -19,7 +19,8 @@ returns-in-Err-clause-takes g c = λ z s L records f state shows bound.
     let k = c.args.conn.now.id in
     let stopped = g.S.Serve.stopped c.args.server.now in
     let shown = Onward (g.S.Serve.shows c.args.server.now z.users) stopped stopped in
-    ended_once shown z k c.args.now c.args.fresh s L records f (check_frame f c.args.frame.now) c.check.new.conn c.in-Err.why c.at_once.result
+    ended_once shown z k c.args.now c.args.fresh s L records f (check_frame f c.args.frame.now) c.check.new.conn
+    c.in-Err.why c.at_once.result
     c.at_once.ensures
     (fails_checked shown z k c.args.now c.args.fresh s L records f (check_frame f c.args.frame.now) c.check.new.conn c.in-Err.why
     (state, refl) (c.in-Err.ensures.checks k z.guid f shows))
@@ -34,7 +35,8 @@ returns-in-Err-dealt_for-clause-takes g c = λ z s L records f state shows bound
     let k = c.args.conn.now.id in
     let stopped = g.S.Serve.stopped c.args.server.now in
     let shown = Onward (g.S.Serve.shows c.args.server.now z.users) stopped stopped in
-    ended_once shown z k c.args.now c.args.fresh s L records f (check_frame f c.args.frame.now) c.check.new.conn Memory c.at_once-in-Err-dealt_for.result
+    ended_once shown z k c.args.now c.args.fresh s L records f (check_frame f c.args.frame.now) c.check.new.conn Memory
+    c.at_once-in-Err-dealt_for.result
     c.at_once-in-Err-dealt_for.ensures
     (lacks_all shown z k c.args.now c.args.fresh s L records f (check_frame f c.args.frame.now) c.check.new.conn (state, refl))
 
@@ -47,7 +49,8 @@ returns-clause-takes g c = λ z s L records f state shows bound.
     let mid = c.check.new.conn in
     (takes (Onward (g.S.Serve.shows c.serve.new.server z.users) (g.S.Serve.stopped c.args.server.now) (g.S.Serve.stopped
     c.serve.new.server)) z c.args.conn.now.id c.args.now c.args.fresh s L records f
-    (text_of f.keys c.args.frame.now) mid c.serve.new.conn c.in-Ok.asked (g.S.Serve.stopped c.serve.new.server) c.serve.result shows.heard bound
+    (text_of f.keys c.args.frame.now) mid c.serve.new.conn c.in-Ok.asked (g.S.Serve.stopped c.serve.new.server)
+    c.serve.result shows.heard bound
     (c.in-Ok.ensures.checks c.args.conn.now.id z.guid f shows)
     (λ F end frame seals time greets alone asked few.
     c.serve.ensures z s L records f F state end frame seals time greets alone asked few)).0
@@ -57,7 +60,8 @@ returns-clause-halted g c = λ z s L records f state shows bound.
     let mid = c.check.new.conn in
     (takes (Onward (g.S.Serve.shows c.serve.new.server z.users) (g.S.Serve.stopped c.args.server.now) (g.S.Serve.stopped
     c.serve.new.server)) z c.args.conn.now.id c.args.now c.args.fresh s L records f
-    (text_of f.keys c.args.frame.now) mid c.serve.new.conn c.in-Ok.asked (g.S.Serve.stopped c.serve.new.server) c.serve.result shows.heard bound
+    (text_of f.keys c.args.frame.now) mid c.serve.new.conn c.in-Ok.asked (g.S.Serve.stopped c.serve.new.server)
+    c.serve.result shows.heard bound
     (c.in-Ok.ensures.checks c.args.conn.now.id z.guid f shows)
     (λ F end frame seals time greets alone asked few.
     c.serve.ensures z s L records f F state end frame seals time greets alone asked few)).1

@@ -1,5 +1,5 @@
 use Rattle.std.proofs.Common.{◌∙◌, Bool, Some, if◌then◌else◌, refl, ap}
-use Rattle.exchange_defs.specs.Status.{no_memory}
+use Rattle.spec_exchange.specs.Status.{no_memory}
 use Rattle.conn_core.proofs.taking.taken_of.Goals as goal
 
 pub returns : goal.returns

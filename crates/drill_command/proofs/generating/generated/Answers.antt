@@ -1,5 +1,5 @@
-use Rattle.gen_law.specs.ReadsBack.{script_text}
-use Rattle.script_gen.specs.Making.{made_lines}
+use Rattle.law_scripts.specs.generated.ReadsBack.{script_text}
+use Rattle.script_words.specs.generator.Making.{made_lines}
 use Rattle.drill_command.proofs.Written.{no_front}
 use Rattle.drill_command.proofs.generating.generated.Goals as goal
 

@@ -1,5 +1,5 @@
-use Rattle.script_gen.specs.Making.{lines_left}
-use Rattle.drill_defs.specs.Scripts.{drill_settings}
+use Rattle.script_words.specs.generator.Making.{lines_left}
+use Rattle.law_scripts.specs.script_setup.Scripts.{drill_settings}
 use Rattle.drill_command.specs.TopCall.{plain, run_left}
 use Rattle.drill_command.proofs.Summed.{ran_left}
 use Rattle.drill_command.proofs.generating.ran_made.Goals as goal

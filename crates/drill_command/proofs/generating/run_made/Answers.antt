@@ -1,7 +1,7 @@
 use Rattle.std.proofs.Common.{refl, ◌∙◌}
 use Rattle.std.proofs.lemmas.Result.{err_from_is_err_and}
-use Rattle.script_gen.specs.Making.{lines_left}
-use Rattle.script_runs.proofs.Schedules.{all_done, fails_there, goes_on}
+use Rattle.script_words.specs.generator.Making.{lines_left}
+use Rattle.law_scripts.proofs.script_runs.Schedules.{all_done, fails_there, goes_on}
 use Rattle.drill_command.proofs.Summed.{first_numbered, less_left, none_numbered, said_line}
 use Rattle.drill_command.proofs.generating.run_made.Goals as goal
 
@@ -16,7 +16,8 @@ loop-made-preserved c = λ z d h.
     c.in-Some.made c.in_ok-statement.statement c.in-Some.ensures c.in_ok-number.ensures c.in_ok-statement.ensures in (
       acts.0,
       so_far.1
-          ∙ goes_on z c.loop-made.count c.in_ok-behind.behind (said_line c.in_ok-number.number c.in_ok-statement.statement) _ _ so_far.0 acts.0
+          ∙ goes_on z c.loop-made.count c.in_ok-behind.behind
+          (said_line c.in_ok-number.number c.in_ok-statement.statement) _ _ so_far.0 acts.0
           split acts.1 c.in_ok-behind.ensures.count,
       acts.2,
     )

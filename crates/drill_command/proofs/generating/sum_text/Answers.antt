@@ -1,8 +1,8 @@
 use Rattle.std.proofs.Common.{List, subst, sym}
 use Rattle.std.specs.String.{string_bytes}
-use Rattle.file_store.specs.Stored.{AreFiles}
-use Rattle.file_store.specs.declared.files.StoredFile.{StoredFile}
-use Rattle.drill_text.proofs.Added.{ok_with}
+use Rattle.store_files.specs.file_tree.Stored.{AreFiles}
+use Rattle.store_files.specs.declared.file_tree.files.StoredFile.{StoredFile}
+use Rattle.drill_command.proofs.drill_text.Added.{ok_with}
 use Rattle.drill_command.proofs.Summed.{is_sum}
 use Rattle.drill_command.proofs.generating.sum_text.Goals as goal
 

@@ -1,7 +1,7 @@
 use Rattle.std.proofs.Common.{subst}
 use Rattle.std.specs.String.{string_bytes}
-use Rattle.gen_law.specs.ReadsBack.{made_script}
-use Rattle.script_lines.specs.declared.line.Refusal.{Refusal}
+use Rattle.law_scripts.specs.generated.ReadsBack.{made_script}
+use Rattle.script_words.specs.declared.text_lines.line.Refusal.{Refusal}
 use Rattle.script_words.specs.Outcome.{Fails}
 use Rattle.script_words.specs.declared.values.Fault.{Fault}
 use Rattle.drill_command.specs.Playing.{run_of}

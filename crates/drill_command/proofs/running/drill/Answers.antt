@@ -1,6 +1,6 @@
 use Rattle.std.proofs.lemmas.Result.{err_from_is_err_and}
 use Rattle.std.specs.String.{string_bytes}
-use Rattle.script_lines.specs.Views.{read_of}
+use Rattle.script_words.specs.text_lines.Views.{read_of}
 use Rattle.drill_command.proofs.Played.{drilled_by, failed_text}
 use Rattle.drill_command.proofs.running.drill.Goals as goal
 

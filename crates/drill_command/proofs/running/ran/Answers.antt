@@ -1,5 +1,5 @@
-use Rattle.drill_defs.specs.Scripts.{settings_in}
-use Rattle.script_lines.specs.Views.{read_of}
+use Rattle.law_scripts.specs.script_setup.Scripts.{settings_in}
+use Rattle.script_words.specs.text_lines.Views.{read_of}
 use Rattle.drill_command.specs.Playing.{run_of}
 use Rattle.drill_command.proofs.Played.{ran_by}
 use Rattle.drill_command.proofs.running.ran.Goals as goal

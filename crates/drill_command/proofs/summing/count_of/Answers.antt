@@ -7,7 +7,8 @@ loop-place-preserved c =
     let v = c.loop-place.invariant in
     record {
       few = (let a = v.few in let b = c.one_of-count.ensures.bound in omega arith);
-      counted = count_more c.args.kind c.args.settled.now c.loop-place.place c.outcome_at-outcome.result.now c.loop-place.count c.one_of-count.result _
+      counted = count_more c.args.kind c.args.settled.now c.loop-place.place c.outcome_at-outcome.result.now
+          c.loop-place.count c.one_of-count.result _
           c.outcome_at-outcome.ensures c.one_of-count.ensures.value v.counted;
     }
 

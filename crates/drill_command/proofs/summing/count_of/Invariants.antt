@@ -1,5 +1,5 @@
 use Rattle.std.proofs.Common.{◌≡◌, ◌+◌, ◌-◌, ◌≤◌, length, drop, map}
-use Rattle.client_outcomes.specs.Meaning.{outcome_of}
+use Rattle.client_values.specs.outcomes.Meaning.{outcome_of}
 use Rattle.drill_command.specs.Summing.{count_of}
 use Rattle.drill_command.proofs.summing.count_of.Given as goal
 

@@ -1,6 +1,6 @@
 use Rattle.std.proofs.Common.{◌+◌, ◌∷◌, drop, sym, ap, ◌∙◌}
 use Rattle.std.proofs.lemmas.List.{drop_more}
-use Rattle.file_store.specs.declared.files.StoredFile.{StoredFile as Item}
+use Rattle.store_files.specs.declared.file_tree.files.StoredFile.{StoredFile as Item}
 use Rattle.drill_command.proofs.summing.file_at.Goals as goal
 
 pub returns : goal.returns

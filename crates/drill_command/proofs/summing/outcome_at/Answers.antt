@@ -1,6 +1,6 @@
 use Rattle.std.proofs.Common.{◌+◌, ◌∷◌, drop, sym, ap, ◌∙◌}
 use Rattle.std.proofs.lemmas.List.{drop_more}
-use Rattle.client_outcomes.specs.declared.outcome.Outcome.{Outcome as Item}
+use Rattle.client_values.specs.declared.outcomes.outcome.Outcome.{Outcome as Item}
 use Rattle.drill_command.proofs.summing.outcome_at.Goals as goal
 
 pub returns : goal.returns

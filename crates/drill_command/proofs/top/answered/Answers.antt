@@ -1,6 +1,6 @@
 use Rattle.std.proofs.Common.{subst}
 use Rattle.std.specs.String.{string_bytes}
-use Rattle.script_lines.specs.declared.line.Refusal.{Refusal}
+use Rattle.script_words.specs.declared.text_lines.line.Refusal.{Refusal}
 use Rattle.script_words.specs.Outcome.{Fails}
 use Rattle.script_words.specs.declared.values.Fault.{Fault}
 use Rattle.drill_command.specs.Playing.{played}

@@ -6,9 +6,11 @@ use Rattle.drill_command.proofs.words.asked_by_three.Goals as goal
 
 pub returns-in-Some : goal.returns-in-Some
 returns-in-Some c =
-    behind_more string_bytes (λ l. asked_behind c.args.word.now (c.args.seed.now ∷ c.args.operations.now ∷ l)) c.args.more.now _ _ None refl c.in-Some.ensures.cases.0
+    behind_more string_bytes (λ l. asked_behind c.args.word.now (c.args.seed.now ∷ c.args.operations.now ∷ l))
+    c.args.more.now _ _ None refl c.in-Some.ensures.cases.0
 
 pub returns-in-None : goal.returns-in-None
 returns-in-None c =
     c.gen_named.ensures
-    ∙ behind_none string_bytes (λ l. asked_behind c.args.word.now (c.args.seed.now ∷ c.args.operations.now ∷ l)) c.args.more.now c.in-None.ensures.cases
+    ∙ behind_none string_bytes (λ l. asked_behind c.args.word.now (c.args.seed.now ∷ c.args.operations.now ∷ l))
+    c.args.more.now c.in-None.ensures.cases

@@ -1,6 +1,6 @@
 use Rattle.std.proofs.Common.{refl, ◌∙◌}
 use Rattle.std.specs.String.{string_bytes}
-use Rattle.script_gen.specs.Making.{lines_left}
+use Rattle.script_words.specs.generator.Making.{lines_left}
 use Rattle.drill_command.proofs.Summed.{less_left}
 use Rattle.drill_command.proofs.Written.{begun, cut_last, cut_piece, last_of, on_err, one_more, stood}
 use Rattle.drill_command.proofs.writing.write_script.Goals as goal

@@ -1,7 +1,7 @@
 use Rattle.std.proofs.Common.{◌≡◌, length}
 use Rattle.std.specs.String.{string_bytes}
-use Rattle.gen_law.specs.ReadsBack.{script_text}
-use Rattle.script_gen.specs.Making.{lines_left}
+use Rattle.law_scripts.specs.generated.ReadsBack.{script_text}
+use Rattle.script_words.specs.generator.Making.{lines_left}
 use Rattle.drill_command.proofs.Written.{Written}
 use Rattle.drill_command.proofs.writing.write_script.Given as goal
 

@@ -1,6 +1,6 @@
 use Rattle.std.proofs.Common.{ap}
 use Rattle.std.specs.Prelude.{Some}
-use Rattle.shared_book.specs.Words.{view_of}
+use Rattle.serve_turns.specs.shared_book.Words.{view_of}
 use Rattle.serve_command.proofs.Counted.{counted}
 use Rattle.serve_command.proofs.Rises.{rises}
 use Rattle.serve_command.proofs.Still.{behind_of, still_opens}

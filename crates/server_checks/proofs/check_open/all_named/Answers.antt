@@ -2,8 +2,8 @@ use Rattle.std.proofs.Common.{rules}
 use Rattle.std.proofs.lemmas.Iterator.{YieldsList-from_map_by}
 use Rattle.std.proofs.lemmas.Iterator.Adapters.{YieldsList-from_vec}
 use Rattle.std.proofs.lemmas.Iterator.Consumers.{map_from_collect}
-use Rattle.command_values.specs.Meaning.{named_of}
-use Rattle.file_store.specs.Listed.{model_named}
+use Rattle.wire_commands.specs.values.Meaning.{named_of}
+use Rattle.store_files.specs.file_tree.Listed.{model_named}
 use Rattle.server_checks.proofs.check_open.all_named.Goals as goal
 
 pub returns : goal.returns

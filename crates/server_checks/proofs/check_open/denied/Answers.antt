@@ -1,7 +1,7 @@
 use Rattle.std.proofs.Common.{ap, sym, ◌∙◌}
-use Rattle.exchange_defs.specs.CheckOpen.{range_check}
+use Rattle.spec_exchange.specs.CheckOpen.{range_check}
 use Rattle.server_checks.proofs.Locks.{denied}
-use Rattle.server_verdicts.specs.Views.{elements_in}
+use Rattle.server_checks.specs.verdicts.Views.{elements_in}
 use Rattle.server_checks.proofs.check_open.denied.Goals as goal
 
 pub returns-in-Some : goal.returns-in-Some

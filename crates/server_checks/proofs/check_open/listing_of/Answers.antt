@@ -1,6 +1,6 @@
 use Rattle.std.proofs.Common.{map, ap, sym, ◌∙◌}
-use Rattle.exchange_defs.specs.Verdict.{TurnDown}
-use Rattle.file_store.specs.Listed.{model_named}
+use Rattle.spec_exchange.specs.Verdict.{TurnDown}
+use Rattle.store_files.specs.file_tree.Listed.{model_named}
 use Rattle.server_checks.proofs.Listings.{none_listed}
 use Rattle.server_checks.proofs.check_open.listing_of.Goals as goal
 

@@ -1,7 +1,7 @@
 use Rattle.std.proofs.Common.{List, Some, map, ap, ◌∙◌}
-use Rattle.exchange_defs.specs.State.{Listing, Named}
-use Rattle.exchange_defs.specs.Verdict.{Show}
-use Rattle.file_store.specs.Listed.{model_named}
+use Rattle.spec_exchange.specs.State.{Listing, Named}
+use Rattle.spec_exchange.specs.Verdict.{Show}
+use Rattle.store_files.specs.file_tree.Listed.{model_named}
 use Rattle.server_checks.proofs.Listings.{none_fits, some_fit}
 use Rattle.server_checks.proofs.check_open.show.Goals as goal
 

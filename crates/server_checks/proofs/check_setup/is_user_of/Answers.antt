@@ -1,5 +1,5 @@
 use Rattle.std.proofs.Common.{ap, sym, ◌∙◌}
-use Rattle.exchange_defs.specs.Texts.{same_name}
+use Rattle.spec_exchange.specs.Texts.{same_name}
 use Rattle.server_checks.proofs.check_setup.is_user_of.Goals as goal
 
 pub returns : goal.returns

@@ -1,10 +1,10 @@
 use Rattle.std.proofs.Common.{◌≡◌, ℕ, true, subst, sym, ◌∙◌}
-use Rattle.command_values.specs.Meaning.{command_of, message_of}
-use Rattle.exchange_defs.specs.CheckOpen.{file_of}
-use Rattle.exchange_defs.specs.Effects.{change_file}
-use Rattle.exchange_defs.specs.Files.{exists}
-use Rattle.exchange_defs.specs.State.{Server}
-use Rattle.file_store.specs.Shown.{ShowsFiles}
+use Rattle.wire_commands.specs.values.Meaning.{command_of, message_of}
+use Rattle.spec_exchange.specs.CheckOpen.{file_of}
+use Rattle.spec_exchange.specs.Effects.{change_file}
+use Rattle.spec_exchange.specs.Files.{exists}
+use Rattle.spec_exchange.specs.State.{Server}
+use Rattle.store_files.specs.file_tree.Shown.{ShowsFiles}
 use Rattle.server_checks.specs.Shown.{TablesShown}
 use Rattle.server_checks.specs.declared.tables.Tables.{Tables}
 use Rattle.server_effects.proofs.Changed.{changed_standing, changed_tables, reach_changed}

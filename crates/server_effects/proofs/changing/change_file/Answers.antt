@@ -1,4 +1,4 @@
-use Rattle.command_values.specs.Meaning.{command_of}
+use Rattle.wire_commands.specs.values.Meaning.{command_of}
 use Rattle.server_effects.proofs.Changed.{basic_put, bytes_put, end_put, nothing_put, path_put, pending_put}
 use Rattle.server_effects.proofs.changing.change_file.Goals as goal
 

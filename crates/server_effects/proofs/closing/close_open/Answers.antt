@@ -1,11 +1,11 @@
 use Rattle.std.proofs.Common.{true, ◌∙◌}
-use Rattle.exchange_defs.specs.Commands.{deletes_on_close}
-use Rattle.exchange_defs.specs.Effects.{keep_closed}
-use Rattle.exchange_defs.specs.Files.{set_delete_pending}
-use Rattle.exchange_defs.specs.Opens.{drop_open, without_gone}
+use Rattle.spec_exchange.specs.Commands.{deletes_on_close}
+use Rattle.spec_exchange.specs.Effects.{keep_closed}
+use Rattle.spec_exchange.specs.Files.{set_delete_pending}
+use Rattle.spec_exchange.specs.Opens.{drop_open, without_gone}
 use Rattle.server_checks.specs.Shown.{TablesShown}
-use Rattle.server_law.proofs.FileEffects.{set_delete_pending_keeps}
-use Rattle.server_law.proofs.Logic.{either}
+use Rattle.law_server.proofs.tables.FileEffects.{set_delete_pending_keeps}
+use Rattle.law_server.proofs.tables.Logic.{either}
 use Rattle.server_effects.proofs.Closes.{closing, exists_marked}
 use Rattle.server_effects.proofs.Steps.{config_kept, logons_kept, tree_config_kept, tree_logons_kept}
 use Rattle.server_effects.proofs.closing.close_open.Goals as goal

@@ -1,6 +1,6 @@
 use Rattle.std.proofs.Common.{ap, sym, ◌∙◌}
-use Rattle.exchange_defs.specs.Commands.{deletes_on_close}
-use Rattle.exchange_defs.specs.State as model
+use Rattle.spec_exchange.specs.Commands.{deletes_on_close}
+use Rattle.spec_exchange.specs.State as model
 use Rattle.server_effects.proofs.closing.is_deleting.Goals as goal
 
 pub returns-in-Some : goal.returns-in-Some

@@ -1,6 +1,6 @@
 use Rattle.std.proofs.Common.{ℕ, true, subst, sym}
-use Rattle.exchange_defs.specs.Files.{set_delete_pending}
-use Rattle.file_store.specs.Shown.{ShowsFiles}
+use Rattle.spec_exchange.specs.Files.{set_delete_pending}
+use Rattle.store_files.specs.file_tree.Shown.{ShowsFiles}
 use Rattle.server_effects.proofs.Closes.{never_pending, pending_tables}
 use Rattle.server_effects.proofs.closing.mark_behind.Goals as goal
 

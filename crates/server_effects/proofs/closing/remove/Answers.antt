@@ -1,4 +1,4 @@
-use Rattle.exchange_defs.specs.Files.{remove_file}
+use Rattle.spec_exchange.specs.Files.{remove_file}
 use Rattle.server_effects.proofs.Closes.{never_refused}
 use Rattle.server_effects.proofs.Steps.{file_pieces}
 use Rattle.server_effects.proofs.closing.remove.Goals as goal

@@ -1,6 +1,6 @@
 use Rattle.std.proofs.Common.{ℕ, Option, subst}
-use Rattle.open_table.specs.Changes.{closed_in}
-use Rattle.open_table.specs.Shown.{ShowsOpens}
+use Rattle.store_opens.specs.open_table.Changes.{closed_in}
+use Rattle.store_opens.specs.open_table.Shown.{ShowsOpens}
 use Rattle.server_effects.proofs.Closes.{closed_tables}
 use Rattle.server_effects.proofs.closing.shut.Goals as goal
 

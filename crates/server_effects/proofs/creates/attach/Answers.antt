@@ -1,9 +1,9 @@
 use Rattle.std.proofs.Common.{ap, ◌∙◌}
-use Rattle.command_values.specs.Meaning.{command_of, message_of}
-use Rattle.exchange_defs.specs.Status.{success}
+use Rattle.wire_commands.specs.values.Meaning.{command_of, message_of}
+use Rattle.spec_exchange.specs.Status.{success}
 use Rattle.server_effects.proofs.Steps.{config_kept, logons_kept}
 use Rattle.server_effects.proofs.Told.{said}
-use Rattle.server_verdicts.specs.Views.{create_in}
+use Rattle.server_checks.specs.verdicts.Views.{create_in}
 use Rattle.server_effects.proofs.creates.attach.Goals as goal
 
 pub returns-clause-shows : goal.returns-clause-shows

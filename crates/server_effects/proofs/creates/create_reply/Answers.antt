@@ -1,5 +1,5 @@
 use Rattle.std.proofs.Common.{◌≡◌, ℕ, true, ap, subst, sym, Some, None, ◌&&◌, if◌then◌else◌, ◌∙◌}
-use Rattle.exchange_defs.specs.Files.{exists, info_of}
+use Rattle.spec_exchange.specs.Files.{exists, info_of}
 use Rattle.server_effects.proofs.Told.{created_same}
 use Rattle.server_effects.specs.declared.creates.Asks.{Asks}
 use Rattle.server_effects.proofs.creates.create_reply.Goals as goal

@@ -1,4 +1,4 @@
-use Rattle.exchange_defs.specs.Effects.{keep_refusal}
+use Rattle.spec_exchange.specs.Effects.{keep_refusal}
 use Rattle.server_effects.proofs.Steps.{pieces}
 use Rattle.server_effects.proofs.creates.keep_refusal.Goals as goal
 

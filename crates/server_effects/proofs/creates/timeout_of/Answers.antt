@@ -1,5 +1,5 @@
 use Rattle.std.proofs.Common.{ap, sym, Some, None, ◌&&◌, if◌then◌else◌, ◌∙◌}
-use Rattle.exchange_defs.specs.State as model
+use Rattle.spec_exchange.specs.State as model
 use Rattle.server_effects.proofs.creates.timeout_of.Goals as goal
 
 pub returns-in-Some : goal.returns-in-Some

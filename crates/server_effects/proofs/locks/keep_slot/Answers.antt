@@ -1,7 +1,7 @@
 use Rattle.std.proofs.Common.{◌∙◌}
-use Rattle.command_values.specs.Meaning.{message_of}
-use Rattle.exchange_defs.specs.Effects.{keep_slot}
-use Rattle.exchange_defs.specs.Table.{put}
+use Rattle.wire_commands.specs.values.Meaning.{message_of}
+use Rattle.spec_exchange.specs.Effects.{keep_slot}
+use Rattle.spec_exchange.specs.Table.{put}
 use Rattle.server_checks.specs.Shown.{TablesShown}
 use Rattle.server_effects.proofs.Steps.{config_kept, logons_kept, reached}
 use Rattle.server_effects.proofs.locks.keep_slot.Goals as goal

@@ -1,6 +1,6 @@
 use Rattle.std.proofs.Common.{map}
-use Rattle.exchange_defs.specs.Effects.{set_ranges}
-use Rattle.share_modes.specs.Locking.{range_of}
+use Rattle.spec_exchange.specs.Effects.{set_ranges}
+use Rattle.store_opens.specs.share_modes.Locking.{range_of}
 use Rattle.server_effects.proofs.Steps.{pieces}
 use Rattle.server_effects.proofs.locks.put_in_file.Goals as goal
 

@@ -1,12 +1,12 @@
 use Rattle.std.proofs.Common.{◌≡◌, ℕ, true, map, subst, sym, ◌∙◌}
-use Rattle.command_values.specs.Meaning.{message_of}
-use Rattle.exchange_defs.specs.CheckOpen.{file_of}
-use Rattle.exchange_defs.specs.Effects.{keep_slot, set_ranges}
-use Rattle.exchange_defs.specs.Opens.{file_has_open}
-use Rattle.exchange_defs.specs.Status.{success}
-use Rattle.exchange_defs.specs.Table.{put}
-use Rattle.open_table.proofs.Back.{file_opened}
-use Rattle.share_modes.specs.Locking.{range_of}
+use Rattle.wire_commands.specs.values.Meaning.{message_of}
+use Rattle.spec_exchange.specs.CheckOpen.{file_of}
+use Rattle.spec_exchange.specs.Effects.{keep_slot, set_ranges}
+use Rattle.spec_exchange.specs.Opens.{file_has_open}
+use Rattle.spec_exchange.specs.Status.{success}
+use Rattle.spec_exchange.specs.Table.{put}
+use Rattle.store_opens.proofs.open_table.Back.{file_opened}
+use Rattle.store_opens.specs.share_modes.Locking.{range_of}
 use Rattle.server_checks.specs.Shown.{TablesShown}
 use Rattle.server_effects.proofs.Steps.{config_kept, logons_kept, open_still, reached}
 use Rattle.server_effects.proofs.locks.put_ranges.Goals as goal

@@ -1,5 +1,5 @@
 use Rattle.std.proofs.Common.{arith}
-use Rattle.command_values.specs.Meaning.{message_of}
+use Rattle.wire_commands.specs.values.Meaning.{message_of}
 use Rattle.server_effects.proofs.Begun.{begun_tables}
 use Rattle.server_effects.proofs.logons.begin.Goals as goal
 

@@ -1,5 +1,5 @@
 use Rattle.std.proofs.Common.{ap, ◌∙◌}
-use Rattle.session_bind.specs.Changes.{challenged}
+use Rattle.server_checks.specs.session_table.Changes.{challenged}
 use Rattle.server_effects.proofs.Steps.{session_pieces}
 use Rattle.server_effects.proofs.Told.{going_on}
 use Rattle.server_effects.proofs.logons.challenge.Goals as goal

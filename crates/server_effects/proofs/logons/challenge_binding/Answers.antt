@@ -1,4 +1,4 @@
-use Rattle.session_bind.specs.Changes.{challenged_binding}
+use Rattle.server_checks.specs.session_table.Changes.{challenged_binding}
 use Rattle.server_effects.proofs.Steps.{session_pieces}
 use Rattle.server_effects.proofs.logons.challenge_binding.Goals as goal
 

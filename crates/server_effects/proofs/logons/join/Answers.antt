@@ -1,6 +1,6 @@
 use Rattle.std.proofs.Common.{ℕ, Bool, Some, ap, sym, subst, ◌∙◌, ◌<◌}
-use Rattle.command_values.specs.Meaning.{message_of}
-use Rattle.session_bind.specs.Changes.{session_joined}
+use Rattle.wire_commands.specs.values.Meaning.{message_of}
+use Rattle.server_checks.specs.session_table.Changes.{session_joined}
 use Rattle.server_effects.proofs.Steps.{session_pieces}
 use Rattle.server_effects.proofs.Told.{few_numbers, set_up_in}
 use Rattle.server_effects.proofs.logons.join.Goals as goal

@@ -1,20 +1,21 @@
 use Rattle.std.proofs.Common.{◌<◌, ℕ, ap, subst, sym, ◌∙◌}
-use Rattle.command_values.specs.Meaning.{command_of, message_of}
-use Rattle.exchange_defs.specs.Effects.{create_reply, make_open}
-use Rattle.exchange_defs.specs.State as model
-use Rattle.exchange_defs.specs.Status.{success}
-use Rattle.open_table.specs.Rows.{parts_of}
-use Rattle.open_table.specs.Shown.{HasRoom, HasRoomIn, ShowsOpens, next_of}
+use Rattle.wire_commands.specs.values.Meaning.{command_of, message_of}
+use Rattle.spec_exchange.specs.Effects.{create_reply, make_open}
+use Rattle.spec_exchange.specs.State as model
+use Rattle.spec_exchange.specs.Status.{success}
+use Rattle.store_opens.specs.open_table.Rows.{parts_of}
+use Rattle.store_opens.specs.open_table.Shown.{HasOpensRoom, HasRoomIn, ShowsOpens, next_of}
 use Rattle.server_checks.specs.Shown.{TablesShown}
 use Rattle.server_checks.specs.declared.tables.Tables.{Tables}
 use Rattle.server_effects.proofs.Made.{found_is_file, made_standing, made_tables, made_there}
 use Rattle.server_effects.proofs.Steps.{tree_config_kept, tree_logons_kept}
 use Rattle.server_effects.proofs.Told.{said}
-use Rattle.server_verdicts.specs.Views.{create_in}
+use Rattle.server_checks.specs.verdicts.Views.{create_in}
 use Rattle.server_effects.proofs.making.make.Goals as goal
 
 pub add-id-requires : goal.add-id-requires
-add-id-requires c = subst (λ (t : Tables). HasRoom t.opens × HasRoomIn t.opens c.args.row.session (next_of t.opens) c.args.row.persistent
+add-id-requires c = subst (λ (t : Tables). HasOpensRoom t.opens × HasRoomIn t.opens c.args.row.session (next_of t.opens)
+    c.args.row.persistent
     × (t.opens.given < 0xffff_ffff)) (sym c.put_file.ensures.kept) c.requires.row
 
 pub returns-clause-shows : goal.returns-clause-shows

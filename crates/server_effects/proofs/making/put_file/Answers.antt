@@ -1,4 +1,4 @@
-use Rattle.exchange_defs.specs.Commands.{asks_directory}
+use Rattle.spec_exchange.specs.Commands.{asks_directory}
 use Rattle.server_effects.proofs.Made.{file_emptied, file_left, file_new, file_there}
 use Rattle.server_effects.proofs.making.put_file.Goals as goal
 

@@ -1,4 +1,4 @@
-use Rattle.open_table.specs.Changes.{located_at}
+use Rattle.store_opens.specs.open_table.Changes.{located_at}
 use Rattle.server_effects.proofs.Steps.{pieces}
 use Rattle.server_effects.proofs.reached.locate.Goals as goal
 

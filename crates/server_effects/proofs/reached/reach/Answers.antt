@@ -1,4 +1,4 @@
-use Rattle.command_values.specs.Meaning.{message_of}
+use Rattle.wire_commands.specs.values.Meaning.{message_of}
 use Rattle.server_effects.proofs.Steps.{reached_tables}
 use Rattle.server_effects.proofs.reached.reach.Goals as goal
 

@@ -1,6 +1,6 @@
 use Rattle.std.proofs.Common.{◌∙◌}
-use Rattle.command_values.specs.Meaning.{message_of}
-use Rattle.exchange_defs.specs.Table.{put}
+use Rattle.wire_commands.specs.values.Meaning.{message_of}
+use Rattle.spec_exchange.specs.Table.{put}
 use Rattle.server_checks.specs.Shown.{TablesShown}
 use Rattle.server_effects.proofs.Steps.{config_kept, logons_kept, reached}
 use Rattle.server_effects.proofs.reached.show.Goals as goal

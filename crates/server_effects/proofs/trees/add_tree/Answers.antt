@@ -1,7 +1,7 @@
 use Rattle.std.proofs.Common.{length, nat_le, nat_lt, ap, ◌∙◌}
-use Rattle.exchange_defs.specs.CheckSetup.{last_tree, max_trees}
-use Rattle.exchange_defs.specs.Effects.{add_tree}
-use Rattle.server_law.proofs.Logic.{back_off}
+use Rattle.spec_exchange.specs.CheckSetup.{last_tree, max_trees}
+use Rattle.spec_exchange.specs.Effects.{add_tree}
+use Rattle.law_server.proofs.tables.Logic.{back_off}
 use Rattle.server_effects.proofs.Steps.{session_pieces}
 use Rattle.server_effects.proofs.Told.{connected_in}
 use Rattle.server_effects.proofs.trees.add_tree.Goals as goal

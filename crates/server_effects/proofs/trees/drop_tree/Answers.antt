@@ -1,4 +1,4 @@
-use Rattle.session_bind.specs.Changes.{tree_dropped}
+use Rattle.server_checks.specs.session_table.Changes.{tree_dropped}
 use Rattle.server_effects.proofs.Steps.{session_pieces}
 use Rattle.server_effects.proofs.trees.drop_tree.Goals as goal
 

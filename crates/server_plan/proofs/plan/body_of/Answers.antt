@@ -1,9 +1,9 @@
 use Rattle.std.proofs.Common.{◌∙◌}
-use Rattle.server_asked.specs.Heard.{event_of}
+use Rattle.server_checks.specs.event_heard.Heard.{event_of}
 use Rattle.server_plan.proofs.Lesser.{none_owed}
 use Rattle.server_plan.proofs.Planned.{if_ok_by, none_of}
 use Rattle.server_plan.proofs.plan.body_of.Goals as goal
-use Rattle.server_rulings.specs.Rulings.{ruling_of}
+use Rattle.server_plan.specs.rulings.Rulings.{ruling_of}
 
 pub returns-in-Ok-clause-told : goal.returns-in-Ok-clause-told
 returns-in-Ok-clause-told c = λ s f h w. if_ok_by c.body_with.result c.body_with.ensures.told

@@ -1,10 +1,10 @@
 use Rattle.std.proofs.Common.{ℕ, List, ap, length, subst, sym, ◌∙◌}
-use Rattle.exchange_defs.specs.Step as steps
-use Rattle.exchange_defs.specs.Step.{carried_out, ruling}
-use Rattle.server_asked.specs.Heard.{event_of}
-use Rattle.server_body.specs.Body.{IsBodyOf, fits_by}
+use Rattle.spec_exchange.specs.Step as steps
+use Rattle.spec_exchange.specs.Step.{carried_out, ruling}
+use Rattle.server_checks.specs.event_heard.Heard.{event_of}
+use Rattle.server_records.specs.record_bodies.Body.{IsBodyOf, fits_by}
 use Rattle.server_plan.proofs.Planned.{fitting, lesser}
-use Rattle.server_rulings.specs.Rulings.{ruling_of}
+use Rattle.server_plan.specs.rulings.Rulings.{ruling_of}
 use Rattle.server_plan.proofs.plan.fitting.Goals as goal
 
 pub returns-then-fits-clause-plan : goal.returns-then-fits-clause-plan
@@ -21,7 +21,8 @@ returns-then-fits-clause-fits c =
 pub returns-clause-plan : goal.returns-clause-plan
 returns-clause-plan c = λ s now h e b.
     let k = subst (λ (r : steps.Ruling). IsBodyOf c.args.body (carried_out s now r).records) e b in
-    lesser s now (event_of c.args.asked.now) (ruling_of (event_of c.args.asked.now) c.args.ruling) _ e c.without_records.ensures c.new.ensures
+    lesser s now (event_of c.args.asked.now) (ruling_of (event_of c.args.asked.now) c.args.ruling) _ e
+    c.without_records.ensures c.new.ensures
     (c.body_law.ensures.fits s c.args.body _ k ∙ (ap (λ (j : ℕ). fits_by j (length c.args.body)) h.journal_is
     ∙ (ap (λ (n : ℕ). fits_by c.args.t.now.journal n) (sym c.len.ensures) ∙ (sym c.fits.ensures ∙ c.if-fits.false))))
 

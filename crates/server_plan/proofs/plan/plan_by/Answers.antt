@@ -1,5 +1,5 @@
 use Rattle.std.proofs.Common.{ap, ◌∙◌}
-use Rattle.server_asked.specs.Heard.{event_of}
+use Rattle.server_checks.specs.event_heard.Heard.{event_of}
 use Rattle.server_plan.proofs.Early.{not_ok}
 use Rattle.server_plan.proofs.Planned.{bare, owing_of}
 use Rattle.server_plan.proofs.plan.plan_by.Goals as goal

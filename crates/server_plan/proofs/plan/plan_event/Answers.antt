@@ -1,4 +1,4 @@
-use Rattle.server_asked.specs.Heard.{event_of}
+use Rattle.server_checks.specs.event_heard.Heard.{event_of}
 use Rattle.server_plan.proofs.Early.{early_by, early_owes, not_ok}
 use Rattle.server_plan.proofs.plan.plan_event.Goals as goal
 

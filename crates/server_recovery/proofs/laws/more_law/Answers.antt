@@ -1,4 +1,4 @@
-use Rattle.exchange_defs.specs.Fold.{nothing_yet}
+use Rattle.spec_exchange.specs.Fold.{nothing_yet}
 use Rattle.server_recovery.proofs.Bodies.{spell_more}
 use Rattle.server_recovery.proofs.laws.more_law.Goals as goal
 

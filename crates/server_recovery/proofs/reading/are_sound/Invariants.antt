@@ -1,6 +1,6 @@
 use Rattle.std.proofs.Common.{◌≡◌, drop}
-use Rattle.journal_records.specs.Meaning.{records_of}
-use Rattle.server_law.specs.Fits.{all_sound}
+use Rattle.journal.specs.record_bytes.Meaning.{records_of}
+use Rattle.law_server.specs.tables.Fits.{all_sound}
 use Rattle.server_recovery.proofs.reading.are_sound.Given as goal
 
 abbrev pub invariant-loop-record : goal.invariant-loop-record

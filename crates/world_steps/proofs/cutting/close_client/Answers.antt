@@ -6,7 +6,8 @@ use Rattle.world_steps.proofs.cutting.close_client.Goals as goal
 pub returns-then-within : goal.returns-then-within
 returns-then-within c =
     let e = c.close_client.ensures in
-    one_lent ClosesClient c.args.k c.args.channels.now.items c.close_client.new.self c.index_mut.result.now c.index_mut.ensures.value (record {
+    one_lent ClosesClient c.args.k c.args.channels.now.items c.close_client.new.self c.index_mut.result.now
+    c.index_mut.ensures.value (record {
       client = e.ends.0;
       server = e.ends.1;
       up = e.lists.1;

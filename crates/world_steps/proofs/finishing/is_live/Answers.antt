@@ -1,6 +1,6 @@
 use Rattle.std.proofs.Common.{subst, sym}
-use Rattle.world_ends.specs.ClientCore.Shown.{ShowsClient}
-use Rattle.world_ends.specs.ClientCore.declared.client.Client.{Client as Core}
+use Rattle.client_steps.specs.whole_client.Shown.{ShowsClient}
+use Rattle.client_steps.specs.declared.whole_client.client.Client.{Client as Core}
 use Rattle.world_steps.proofs.finishing.is_live.Goals as goal
 
 pub returns : goal.returns

@@ -1,5 +1,5 @@
 use Rattle.std.proofs.Common.{ℕ, ◌*◌, ◌+◌, ap, refl, ◌∙◌}
-use Rattle.exchange_defs.specs.State.{no_later}
+use Rattle.spec_exchange.specs.State.{no_later}
 use Rattle.world_steps.proofs.Onward.{capped_more, later_shown}
 use Rattle.world_steps.proofs.moments.wait.Goals as goal
 

@@ -6,7 +6,8 @@ use Rattle.world_steps.proofs.parting.close_server.Goals as goal
 pub returns-then-within : goal.returns-then-within
 returns-then-within c =
     let e = c.close_server.ensures in
-    one_lent ClosesServer c.args.k c.args.channels.now.items c.close_server.new.self c.index_mut.result.now c.index_mut.ensures.value (record {
+    one_lent ClosesServer c.args.k c.args.channels.now.items c.close_server.new.self c.index_mut.result.now
+    c.index_mut.ensures.value (record {
       client = e.ends.1;
       server = e.ends.0;
       up = e.lists.0;

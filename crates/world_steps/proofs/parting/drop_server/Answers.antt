@@ -7,7 +7,8 @@ pub returns-then-not-is_served : goal.returns-then-not-is_served
 returns-then-not-is_served c = λ z w h.
     let x = c.args.world.now in
     not_there z x w c.args.k
-    (refused_by served_in c.is_served.result _ x.channels.items c.args.k c.is_served.ensures c.deref.ensures.value c.if-not-is_served.true) h
+    (refused_by served_in c.is_served.result _ x.channels.items c.args.k c.is_served.ensures c.deref.ensures.value
+    c.if-not-is_served.true) h
 
 pub returns-in-Ok : goal.returns-in-Ok
 returns-in-Ok c = λ z w h.

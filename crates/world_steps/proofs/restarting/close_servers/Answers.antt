@@ -12,7 +12,8 @@ pub loop-channel-preserved : goal.loop-channel-preserved
 loop-channel-preserved c =
     let e = c.close_server.ensures in
     let within : c.loop-channel.channel-index < length c.loop-channel.channel-items = (let t = c.loop-channel-test.true in omega arith) in
-    one_more ClosesServer c.loop-channel.channel-index c.deref_mut-channel-items.result.now c.loop-channel.channel-items c.close_server.new.self
+    one_more ClosesServer c.loop-channel.channel-index c.deref_mut-channel-items.result.now c.loop-channel.channel-items
+    c.close_server.new.self
     c.channel-item.result c.loop-channel.invariant within
     (record { client = e.ends.1; server = e.ends.0; up = e.lists.0; down = e.lists.1 })
 
@@ -24,7 +25,8 @@ returns c =
     let v = c.loop-channel.invariant in
     let same = c.deref_mut-channel-items.ensures.value in
     let over : length ys ≤ c.loop-channel.channel-index = (let t = c.loop-channel-test.false in omega arith) in
-    let fits : length ys ≤ vec_len c.args.channels.now = (let n = v.counted in let m = c.deref_mut-channel-items.ensures.len in omega arith) in
+    let fits : length ys ≤ vec_len c.args.channels.now =
+    (let n = v.counted in let m = c.deref_mut-channel-items.ensures.len in omega arith) in
     subst (λ (w : List Channel). ChangedAll ClosesServer xs w)
     (sym (written (vec_len c.args.channels.now) xs ys (v.counted ∙ ap (λ (w : List Channel). length w) same) fits))
     (all_done ClosesServer xs us ys c.loop-channel.channel-index same v over)

@@ -1,11 +1,11 @@
 use Rattle.std.proofs.Common.{◌++◌, sym, subst, ◌∙◌, List, Option, OnOk}
-use Rattle.exchange_defs.specs.Fold.{recovered_from, recovery_records}
-use Rattle.exchange_defs.specs.State as model
-use Rattle.world_ends.specs.ServerBook.declared.book.Book.{Book}
-use Rattle.smb_io.specs.declared.mem_disk.MemDisk.{MemDisk}
-use Rattle.token_defs.specs.Acceptor.{User}
-use Rattle.world_ends.specs.WorldBook.Held.{HoldsBook}
-use Rattle.world_defs.specs.Ends.{Logons}
+use Rattle.spec_exchange.specs.Fold.{recovered_from, recovery_records}
+use Rattle.spec_exchange.specs.State as model
+use Rattle.server_core.specs.declared.disk_server.book.Book.{Book}
+use Rattle.base_outside.specs.declared.streams.mem_disk.MemDisk.{MemDisk}
+use Rattle.spec_crypto.specs.tokens.Acceptor.{User}
+use Rattle.world_ends.specs.memory_server.Held.{HoldsBook}
+use Rattle.spec_world.specs.Ends.{Logons}
 use Rattle.world_steps.proofs.restarting.restart_book.Goals as goal
 
 pub returns-in-Some : goal.returns-in-Some

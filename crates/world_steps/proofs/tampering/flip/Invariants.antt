@@ -1,5 +1,5 @@
 use Rattle.std.proofs.Common.{◌≡◌, drop}
-use Rattle.world_defs.specs.Events.{flipped}
+use Rattle.spec_world.specs.Events.{flipped}
 use Rattle.world_steps.proofs.tampering.flip.Given as goal
 
 abbrev pub invariant-loop-m : goal.invariant-loop-m

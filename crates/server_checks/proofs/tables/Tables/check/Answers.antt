@@ -1,8 +1,8 @@
 use Rattle.std.proofs.Common.{◌∙◌, sym}
-use Rattle.command_values.specs.Meaning.{command_of, message_of}
-use Rattle.exchange_defs.specs.Check.{has_session}
-use Rattle.exchange_defs.specs.Commands.{is_setup}
-use Rattle.server_verdicts.specs.Views.{verdict_of}
+use Rattle.wire_commands.specs.values.Meaning.{command_of, message_of}
+use Rattle.spec_exchange.specs.Check.{has_session}
+use Rattle.spec_exchange.specs.Commands.{is_setup}
+use Rattle.server_checks.specs.verdicts.Views.{verdict_of}
 use Rattle.server_checks.proofs.Passed.{back_on, front_on, passed}
 use Rattle.server_checks.proofs.Sessions.{lives, set_up, owed_by_setup, owed_by_session, refused_without}
 use Rattle.server_checks.proofs.tables.Tables.check.Goals as goal

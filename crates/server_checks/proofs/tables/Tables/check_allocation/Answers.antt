@@ -1,9 +1,9 @@
 use Rattle.std.proofs.Common.{ℕ, ◌==◌, length, ap, sym, ◌∙◌}
-use Rattle.command_values.specs.Meaning.{message_of}
-use Rattle.exchange_defs.specs.CheckOpen.{changes_nothing, file_of, size_change}
-use Rattle.exchange_defs.specs.Files.{allocated}
+use Rattle.wire_commands.specs.values.Meaning.{message_of}
+use Rattle.spec_exchange.specs.CheckOpen.{changes_nothing, file_of, size_change}
+use Rattle.spec_exchange.specs.Files.{allocated}
 use Rattle.server_checks.proofs.Sizes.{allocation_nothing}
-use Rattle.server_verdicts.specs.Views.{change_of}
+use Rattle.server_checks.specs.verdicts.Views.{change_of}
 use Rattle.server_checks.proofs.tables.Tables.check_allocation.Goals as goal
 
 pub returns : goal.returns

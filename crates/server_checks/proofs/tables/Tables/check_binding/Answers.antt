@@ -1,5 +1,5 @@
 use Rattle.std.proofs.Common.{◌∙◌}
-use Rattle.command_values.specs.Meaning.{message_of, setup_of}
+use Rattle.wire_commands.specs.values.Meaning.{message_of, setup_of}
 use Rattle.server_checks.proofs.Sessions.{live_is}
 use Rattle.server_checks.proofs.tables.Tables.check_binding.Goals as goal
 

@@ -1,12 +1,12 @@
 use Rattle.std.proofs.Common.{◌≡◌, ap, subst, sym, ◌∙◌}
-use Rattle.command_values.specs.Meaning.{command_of, message_of}
-use Rattle.command_values.specs.declared.command.Command.{Command}
-use Rattle.exchange_defs.specs.Check.{command_check}
-use Rattle.exchange_defs.specs.CheckSetup.{tree_check}
-use Rattle.exchange_defs.specs.Commands.{is_setup}
+use Rattle.wire_commands.specs.values.Meaning.{command_of, message_of}
+use Rattle.wire_commands.specs.declared.values.command.Command.{Command}
+use Rattle.spec_exchange.specs.Check.{command_check}
+use Rattle.spec_exchange.specs.CheckSetup.{tree_check}
+use Rattle.spec_exchange.specs.Commands.{is_setup}
 use Rattle.server_checks.proofs.Dispatch.{IsOnTree, no_setup, on_tree}
 use Rattle.server_checks.proofs.Passed.{passed}
-use Rattle.server_verdicts.specs.Views.{verdict_of}
+use Rattle.server_checks.specs.verdicts.Views.{verdict_of}
 use Rattle.server_checks.proofs.tables.Tables.check_command.Goals as goal
 
 pub returns-in-Setup : goal.returns-in-Setup

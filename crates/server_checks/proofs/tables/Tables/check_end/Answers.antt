@@ -1,4 +1,4 @@
-use Rattle.exchange_defs.specs.CheckOpen.{file_of}
+use Rattle.spec_exchange.specs.CheckOpen.{file_of}
 use Rattle.server_checks.proofs.Sizes.{ended_same}
 use Rattle.server_checks.proofs.tables.Tables.check_end.Goals as goal
 

@@ -1,6 +1,6 @@
 use Rattle.std.proofs.Common.{sym, ap, ◌∙◌}
-use Rattle.command_values.specs.Meaning.{create_of, durable_of, message_of}
-use Rattle.exchange_defs.specs.CheckCreate.{guid_check}
+use Rattle.wire_commands.specs.values.Meaning.{create_of, durable_of, message_of}
+use Rattle.spec_exchange.specs.CheckCreate.{guid_check}
 use Rattle.server_checks.proofs.tables.Tables.check_guid.Goals as goal
 
 pub returns-in-Some : goal.returns-in-Some

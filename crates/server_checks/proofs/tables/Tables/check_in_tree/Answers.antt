@@ -1,9 +1,9 @@
 use Rattle.std.proofs.Common.{◌≡◌, ap, subst, sym}
-use Rattle.command_values.specs.Meaning.{command_of, message_of}
-use Rattle.command_values.specs.declared.command.Command.{Command}
-use Rattle.exchange_defs.specs.Check.{tree_command}
+use Rattle.wire_commands.specs.values.Meaning.{command_of, message_of}
+use Rattle.wire_commands.specs.declared.values.command.Command.{Command}
+use Rattle.spec_exchange.specs.Check.{tree_command}
 use Rattle.server_checks.proofs.Dispatch.{IsNamed, is_on_open}
-use Rattle.server_verdicts.specs.Views.{verdict_of}
+use Rattle.server_checks.specs.verdicts.Views.{verdict_of}
 use Rattle.server_checks.proofs.tables.Tables.check_in_tree.Goals as goal
 
 pub returns-in-Create : goal.returns-in-Create

@@ -1,6 +1,6 @@
 use Rattle.std.proofs.Common.{ap, sym, subst, ◌∙◌}
-use Rattle.command_values.specs.Meaning.{command_of, message_of}
-use Rattle.exchange_defs.specs.Check.{tree_command}
+use Rattle.wire_commands.specs.values.Meaning.{command_of, message_of}
+use Rattle.spec_exchange.specs.Check.{tree_command}
 use Rattle.server_checks.proofs.Dispatch.{free_is}
 use Rattle.server_checks.specs.Looks.{IsOnOpen}
 use Rattle.server_checks.proofs.tables.Tables.check_ioctl_in_tree.Goals as goal

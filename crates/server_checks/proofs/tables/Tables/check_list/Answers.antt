@@ -1,7 +1,7 @@
 use Rattle.std.proofs.Common.{sym}
 use Rattle.server_checks.proofs.Passed.{passed}
 use Rattle.server_checks.proofs.ReadAnswers.{list_is}
-use Rattle.server_verdicts.specs.Views.{verdict_of}
+use Rattle.server_checks.specs.verdicts.Views.{verdict_of}
 use Rattle.server_checks.proofs.tables.Tables.check_list.Goals as goal
 
 pub returns : goal.returns

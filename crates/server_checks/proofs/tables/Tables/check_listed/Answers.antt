@@ -1,9 +1,9 @@
 use Rattle.std.proofs.Common.{List, ℕ, Bor, ap, is_some, ◌∙◌}
-use Rattle.exchange_defs.specs.CheckOpen.{begins_at}
-use Rattle.exchange_defs.specs.Listing.{all_named, wanted}
+use Rattle.spec_exchange.specs.CheckOpen.{begins_at}
+use Rattle.spec_exchange.specs.Listing.{all_named, wanted}
 use Rattle.server_checks.proofs.Listings.{listed_is, some_mapped}
 use Rattle.server_checks.proofs.Passed.{passed}
-use Rattle.server_verdicts.specs.Views.{verdict_of}
+use Rattle.server_checks.specs.verdicts.Views.{verdict_of}
 use Rattle.server_checks.proofs.tables.Tables.check_listed.Goals as goal
 
 pub returns : goal.returns

@@ -1,5 +1,5 @@
 use Rattle.std.proofs.Common.{◌∙◌}
-use Rattle.command_values.specs.Meaning.{create_of, message_of}
+use Rattle.wire_commands.specs.values.Meaning.{create_of, message_of}
 use Rattle.server_checks.proofs.Creates.{live_by_row}
 use Rattle.server_checks.proofs.tables.Tables.check_live.Goals as goal
 

@@ -1,7 +1,7 @@
 use Rattle.std.proofs.Common.{ap}
-use Rattle.exchange_defs.specs.CheckOpen.{slot_check}
+use Rattle.spec_exchange.specs.CheckOpen.{slot_check}
 use Rattle.server_checks.proofs.Passed.{passed}
-use Rattle.server_verdicts.specs.Views.{verdict_of}
+use Rattle.server_checks.specs.verdicts.Views.{verdict_of}
 use Rattle.server_checks.proofs.tables.Tables.check_lock.Goals as goal
 
 pub returns-in-None : goal.returns-in-None

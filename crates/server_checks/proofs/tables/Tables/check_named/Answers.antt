@@ -1,8 +1,8 @@
 use Rattle.std.proofs.Common.{sym, ◌∙◌}
-use Rattle.command_values.specs.Meaning.{command_of, message_of}
+use Rattle.wire_commands.specs.values.Meaning.{command_of, message_of}
 use Rattle.server_checks.proofs.Commands.{named_is, unnamed_is}
 use Rattle.server_checks.proofs.Passed.{passed}
-use Rattle.server_verdicts.specs.Views.{verdict_of}
+use Rattle.server_checks.specs.verdicts.Views.{verdict_of}
 use Rattle.server_checks.proofs.tables.Tables.check_named.Goals as goal
 
 pub returns-in-Some : goal.returns-in-Some

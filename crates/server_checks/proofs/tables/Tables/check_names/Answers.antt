@@ -1,7 +1,7 @@
 use Rattle.std.proofs.Common.{ap, ◌∙◌}
-use Rattle.command_values.specs.Meaning.{create_of}
-use Rattle.exchange_defs.specs.CheckCreate.{after_names}
-use Rattle.exchange_defs.specs.Commands.{Create}
+use Rattle.wire_commands.specs.values.Meaning.{create_of}
+use Rattle.spec_exchange.specs.CheckCreate.{after_names}
+use Rattle.spec_exchange.specs.Commands.{Create}
 use Rattle.server_checks.proofs.tables.Tables.check_names.Goals as goal
 
 pub returns-in-Some : goal.returns-in-Some

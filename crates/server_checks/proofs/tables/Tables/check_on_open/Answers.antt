@@ -1,14 +1,14 @@
 use Rattle.std.proofs.Common.{ℕ, List, ap, sym, ◌∙◌}
-use Rattle.command_values.specs.Meaning.{command_of, message_of}
-use Rattle.command_values.specs.declared.command.Command.{Command}
-use Rattle.exchange_defs.specs.CheckOpen.{list_check, lock_check}
-use Rattle.exchange_defs.specs.Commands.{form}
-use Rattle.exchange_defs.specs.Table.{is_filled}
+use Rattle.wire_commands.specs.values.Meaning.{command_of, message_of}
+use Rattle.wire_commands.specs.declared.values.command.Command.{Command}
+use Rattle.spec_exchange.specs.CheckOpen.{list_check, lock_check}
+use Rattle.spec_exchange.specs.Commands.{form}
+use Rattle.spec_exchange.specs.Table.{is_filled}
 use Rattle.server_checks.proofs.Commands.{filled_lock}
 use Rattle.server_checks.proofs.Dispatch.{short_of}
 use Rattle.server_checks.proofs.Passed.{passed}
 use Rattle.server_checks.specs.Looks.{open_command}
-use Rattle.server_verdicts.specs.Views.{bytes_in, elements_in, path_in, verdict_of}
+use Rattle.server_checks.specs.verdicts.Views.{bytes_in, elements_in, path_in, verdict_of}
 use Rattle.server_checks.proofs.tables.Tables.check_on_open.Goals as goal
 
 pub returns-in-Close : goal.returns-in-Close

@@ -1,11 +1,11 @@
 use Rattle.std.proofs.Common.{sym, ◌∙◌}
-use Rattle.command_values.specs.Meaning.{command_of, message_of}
-use Rattle.exchange_defs.specs.Table.{is_at}
+use Rattle.wire_commands.specs.values.Meaning.{command_of, message_of}
+use Rattle.spec_exchange.specs.Table.{is_at}
 use Rattle.server_checks.proofs.Dispatch.{not_this, on_this}
 use Rattle.server_checks.proofs.Passed.{passed}
 use Rattle.server_checks.specs.Looks.{open_command}
-use Rattle.server_law.proofs.Logic.{front_of}
-use Rattle.server_verdicts.specs.Views.{verdict_of}
+use Rattle.law_server.proofs.tables.Logic.{front_of}
+use Rattle.server_checks.specs.verdicts.Views.{verdict_of}
 use Rattle.server_checks.proofs.tables.Tables.check_open_of.Goals as goal
 
 pub returns-then-is_of_session : goal.returns-then-is_of_session

@@ -1,9 +1,9 @@
 use Rattle.std.proofs.Common.{List, ap}
-use Rattle.exchange_defs.specs.CheckOpen.{file_of, range_check}
-use Rattle.exchange_defs.specs.Commands.{Element}
-use Rattle.exchange_defs.specs.Ranges.{change_ranges}
+use Rattle.spec_exchange.specs.CheckOpen.{file_of, range_check}
+use Rattle.spec_exchange.specs.Commands.{Element}
+use Rattle.spec_exchange.specs.Ranges.{change_ranges}
 use Rattle.server_checks.proofs.Passed.{passed}
-use Rattle.server_verdicts.specs.Views.{verdict_of}
+use Rattle.server_checks.specs.verdicts.Views.{verdict_of}
 use Rattle.server_checks.proofs.tables.Tables.check_ranges.Goals as goal
 
 pub returns-in-Err : goal.returns-in-Err

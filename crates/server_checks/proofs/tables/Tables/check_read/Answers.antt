@@ -1,9 +1,9 @@
 use Rattle.std.proofs.Common.{◌≡◌, ℕ, true, subst, sym}
-use Rattle.exchange_defs.specs.CheckOpen.{file_of}
-use Rattle.exchange_defs.specs.Ranges.{may_read}
+use Rattle.spec_exchange.specs.CheckOpen.{file_of}
+use Rattle.spec_exchange.specs.Ranges.{may_read}
 use Rattle.server_checks.proofs.Passed.{passed}
 use Rattle.server_checks.proofs.ReadAnswers.{read_is}
-use Rattle.server_verdicts.specs.Views.{verdict_of}
+use Rattle.server_checks.specs.verdicts.Views.{verdict_of}
 use Rattle.server_checks.proofs.tables.Tables.check_read.Goals as goal
 
 pub returns-in-Ok : goal.returns-in-Ok

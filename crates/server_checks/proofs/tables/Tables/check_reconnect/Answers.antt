@@ -1,6 +1,6 @@
 use Rattle.std.proofs.Common.{◌∙◌}
-use Rattle.command_values.specs.Meaning.{create_of, message_of, reconnect_of}
-use Rattle.exchange_defs.specs.Commands.{Create}
+use Rattle.wire_commands.specs.values.Meaning.{create_of, message_of, reconnect_of}
+use Rattle.spec_exchange.specs.Commands.{Create}
 use Rattle.server_checks.proofs.Creates.{attached_again, refused_reconnect}
 use Rattle.server_checks.proofs.tables.Tables.check_reconnect.Goals as goal
 

@@ -1,6 +1,6 @@
 use Rattle.std.proofs.Common.{refl, ap, ◌∙◌}
-use Rattle.command_values.specs.Meaning.{message_of}
-use Rattle.exchange_defs.specs.CheckSetup.{granted_binding}
+use Rattle.wire_commands.specs.values.Meaning.{message_of}
+use Rattle.spec_exchange.specs.CheckSetup.{granted_binding}
 use Rattle.server_checks.proofs.tables.Tables.check_second_binding.Goals as goal
 
 pub returns-in-Logon : goal.returns-in-Logon

@@ -1,7 +1,7 @@
 use Rattle.std.proofs.Common.{refl, ap, sym, ◌∙◌}
-use Rattle.command_values.specs.Meaning.{message_of, setup_of}
-use Rattle.exchange_defs.specs.CheckSetup.{granted_session}
-use Rattle.exchange_defs.specs.Commands as asks
+use Rattle.wire_commands.specs.values.Meaning.{message_of, setup_of}
+use Rattle.spec_exchange.specs.CheckSetup.{granted_session}
+use Rattle.spec_exchange.specs.Commands as asks
 use Rattle.server_checks.proofs.tables.Tables.check_second_token.Goals as goal
 
 pub returns-in-Logon : goal.returns-in-Logon

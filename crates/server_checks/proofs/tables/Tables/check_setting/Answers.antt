@@ -1,10 +1,10 @@
 use Rattle.std.proofs.Common.{ℕ, List, ap, sym, ◌∙◌}
-use Rattle.command_values.specs.Meaning.{command_of, message_of, setting_of}
-use Rattle.command_values.specs.declared.command.Setting.{Setting}
-use Rattle.exchange_defs.specs.CheckOpen.{setting_check}
-use Rattle.exchange_defs.specs.Commands.{Rename}
+use Rattle.wire_commands.specs.values.Meaning.{command_of, message_of, setting_of}
+use Rattle.wire_commands.specs.declared.values.command.Setting.{Setting}
+use Rattle.spec_exchange.specs.CheckOpen.{setting_check}
+use Rattle.spec_exchange.specs.Commands.{Rename}
 use Rattle.server_checks.proofs.Passed.{passed}
-use Rattle.server_verdicts.specs.Views.{path_in_setting, verdict_of}
+use Rattle.server_checks.specs.verdicts.Views.{path_in_setting, verdict_of}
 use Rattle.server_checks.proofs.tables.Tables.check_setting.Goals as goal
 
 pub returns-in-SetBasic : goal.returns-in-SetBasic

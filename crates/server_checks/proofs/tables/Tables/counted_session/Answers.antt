@@ -1,9 +1,9 @@
 use Rattle.std.proofs.Common.{nat_le, false, sym, ◌∙◌}
-use Rattle.command_values.specs.Meaning.{setup_of}
-use Rattle.exchange_defs.specs.CheckSetup.{max_sessions, previous_of}
-use Rattle.exchange_defs.specs.Commands.{Setup}
-use Rattle.exchange_defs.specs.Status.{insufficient_resources}
-use Rattle.exchange_defs.specs.Verdict.{Begin, Refuse}
+use Rattle.wire_commands.specs.values.Meaning.{setup_of}
+use Rattle.spec_exchange.specs.CheckSetup.{max_sessions, previous_of}
+use Rattle.spec_exchange.specs.Commands.{Setup}
+use Rattle.spec_exchange.specs.Status.{insufficient_resources}
+use Rattle.spec_exchange.specs.Verdict.{Begin, Refuse}
 use Rattle.server_checks.proofs.Passed.{else_is, then_is}
 use Rattle.server_checks.proofs.tables.Tables.counted_session.Goals as goal
 

@@ -1,8 +1,8 @@
 use Rattle.std.proofs.Common.{◌∙◌, nat_le, Bool, ap, if◌then◌else◌}
-use Rattle.exchange_defs.specs.Effects.{next_session}
-use Rattle.exchange_defs.specs.Opens.{max_ids}
-use Rattle.exchange_defs.specs.Status.{insufficient_resources}
-use Rattle.exchange_defs.specs.Verdict.{Challenge, Refuse}
+use Rattle.spec_exchange.specs.Effects.{next_session}
+use Rattle.spec_exchange.specs.Opens.{max_ids}
+use Rattle.spec_exchange.specs.Status.{insufficient_resources}
+use Rattle.spec_exchange.specs.Verdict.{Challenge, Refuse}
 use Rattle.server_checks.proofs.Creates.{left_ids, no_ids}
 use Rattle.server_checks.proofs.tables.Tables.first_challenge.Goals as goal
 

@@ -1,6 +1,6 @@
 use Rattle.std.proofs.Common.{sym, ◌∙◌}
-use Rattle.command_values.specs.Meaning.{message_of, setup_of}
-use Rattle.exchange_defs.specs.Commands.{Setup}
+use Rattle.wire_commands.specs.values.Meaning.{message_of, setup_of}
+use Rattle.spec_exchange.specs.Commands.{Setup}
 use Rattle.server_checks.proofs.Sessions.{ciphered, no_cipher}
 use Rattle.server_checks.proofs.tables.Tables.granted_session.Goals as goal
 

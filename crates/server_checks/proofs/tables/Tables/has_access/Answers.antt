@@ -1,6 +1,6 @@
 use Rattle.std.proofs.Common.{ap, sym, ◌∙◌}
-use Rattle.exchange_defs.specs.Commands.{has_bit}
-use Rattle.exchange_defs.specs.State as model
+use Rattle.spec_exchange.specs.Commands.{has_bit}
+use Rattle.spec_exchange.specs.State as model
 use Rattle.server_checks.proofs.tables.Tables.has_access.Goals as goal
 
 pub returns-in-Some : goal.returns-in-Some

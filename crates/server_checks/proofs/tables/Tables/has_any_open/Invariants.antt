@@ -1,5 +1,5 @@
 use Rattle.std.proofs.Common.{◌≡◌, drop}
-use Rattle.exchange_defs.specs.State.{Server}
+use Rattle.spec_exchange.specs.State.{Server}
 use Rattle.server_checks.specs.Looks.{any_open}
 use Rattle.server_checks.specs.Shown.{TablesShown}
 use Rattle.server_checks.proofs.tables.Tables.has_any_open.Given as goal

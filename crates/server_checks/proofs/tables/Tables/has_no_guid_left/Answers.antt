@@ -1,7 +1,7 @@
 use Rattle.std.proofs.Common.{nat_le, is_some, not, ap, ◌∙◌}
 use Rattle.std.specs.Prelude.{option_map}
-use Rattle.command_values.specs.Meaning.{durable_of}
-use Rattle.exchange_defs.specs.CheckCreate.{max_guids}
+use Rattle.wire_commands.specs.values.Meaning.{durable_of}
+use Rattle.spec_exchange.specs.CheckCreate.{max_guids}
 use Rattle.server_checks.proofs.Creates.{full_capped, some_durable}
 use Rattle.server_checks.proofs.Passed.{back_is, front_out}
 use Rattle.server_checks.proofs.tables.Tables.has_no_guid_left.Goals as goal

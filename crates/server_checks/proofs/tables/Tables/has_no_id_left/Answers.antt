@@ -1,6 +1,6 @@
 use Rattle.std.proofs.Common.{nat_le}
-use Rattle.exchange_defs.specs.Effects.{next_open}
-use Rattle.exchange_defs.specs.Opens.{max_ids}
+use Rattle.spec_exchange.specs.Effects.{next_open}
+use Rattle.spec_exchange.specs.Opens.{max_ids}
 use Rattle.server_checks.proofs.Creates.{left_ids, no_ids}
 use Rattle.server_checks.proofs.tables.Tables.has_no_id_left.Goals as goal
 

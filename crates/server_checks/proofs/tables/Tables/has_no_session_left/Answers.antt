@@ -1,5 +1,5 @@
 use Rattle.std.proofs.Common.{ap, nat_le}
-use Rattle.exchange_defs.specs.CheckSetup.{max_sessions}
+use Rattle.spec_exchange.specs.CheckSetup.{max_sessions}
 use Rattle.server_checks.proofs.tables.Tables.has_no_session_left.Goals as goal
 
 pub returns : goal.returns

@@ -1,7 +1,7 @@
 use Rattle.std.proofs.Common.{length, nat_le, nat_lt, sym, ◌∙◌}
-use Rattle.command_values.specs.Meaning.{create_of}
-use Rattle.exchange_defs.specs.CheckCreate.{is_counted_out, last_file, makes_file, max_files, max_opens}
-use Rattle.exchange_defs.specs.Opens.{max_ids}
+use Rattle.wire_commands.specs.values.Meaning.{create_of}
+use Rattle.spec_exchange.specs.CheckCreate.{is_counted_out, last_file, makes_file, max_files, max_opens}
+use Rattle.spec_exchange.specs.Opens.{max_ids}
 use Rattle.server_checks.proofs.Creates.{files_out, none_out, opens_out}
 use Rattle.server_checks.proofs.tables.Tables.is_counted_out.Goals as goal
 

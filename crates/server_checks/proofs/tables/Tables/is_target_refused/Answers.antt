@@ -1,6 +1,6 @@
 use Rattle.std.proofs.Common.{◌≡◌, Some, None, ap, sym, ◌∙◌}
-use Rattle.exchange_defs.specs.CheckOpen.{target_of, target_refused}
-use Rattle.exchange_defs.specs.Files.{find}
+use Rattle.spec_exchange.specs.CheckOpen.{target_of, target_refused}
+use Rattle.spec_exchange.specs.Files.{find}
 use Rattle.server_checks.proofs.Creates.{target_there}
 use Rattle.server_checks.proofs.tables.Tables.is_target_refused.Goals as goal
 

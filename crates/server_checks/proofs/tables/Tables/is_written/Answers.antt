@@ -1,7 +1,7 @@
 use Rattle.std.proofs.Common.{ℕ, ap, sym, ◌∙◌}
 use Rattle.std.proofs.lemmas.Result.{IfOk-weaker}
-use Rattle.command_values.specs.Meaning.{message_of}
-use Rattle.exchange_defs.specs.Content.{same_bytes, written}
+use Rattle.wire_commands.specs.values.Meaning.{message_of}
+use Rattle.spec_exchange.specs.Content.{same_bytes, written}
 use Rattle.server_checks.proofs.Writes.{bytes_repeated}
 use Rattle.server_checks.proofs.tables.Tables.is_written.Goals as goal
 

@@ -1,6 +1,6 @@
 use Rattle.std.proofs.Common.{sym, ◌∙◌}
-use Rattle.exchange_defs.specs.CheckCreate.{names, names_of_found}
-use Rattle.server_law.proofs.Checked.{found_exists}
+use Rattle.spec_exchange.specs.CheckCreate.{names, names_of_found}
+use Rattle.law_server.proofs.tables.Checked.{found_exists}
 use Rattle.server_checks.proofs.tables.Tables.names.Goals as goal
 
 pub returns-in-Some : goal.returns-in-Some

@@ -1,6 +1,6 @@
 use Rattle.std.proofs.Common.{map, sym, ◌∙◌}
-use Rattle.exchange_defs.specs.CheckOpen.{file_of}
-use Rattle.share_modes.specs.Locking.{range_of}
+use Rattle.spec_exchange.specs.CheckOpen.{file_of}
+use Rattle.store_opens.specs.share_modes.Locking.{range_of}
 use Rattle.server_checks.proofs.Locks.{locked, unlocked}
 use Rattle.server_checks.proofs.tables.Tables.ranges_behind.Goals as goal
 

@@ -1,7 +1,0 @@
-use Rattle.std.proofs.Common.{arith}
-use Rattle.aes_block.proofs.Rounds.{block_is}
-use Rattle.aes_block.proofs.columns.block_of.Goals as goal
-
-pub returns : goal.returns
-returns c = rw (c.to_le_bytes-left.ensures, c.to_le_bytes-right.ensures) (block_is c.args.s.a c.args.s.b c.args.s.c
-    c.args.s.d (omega arith) (omega arith))

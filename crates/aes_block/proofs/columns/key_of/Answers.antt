@@ -1,6 +1,0 @@
-use Rattle.aes_block.proofs.Rounds.{key_is}
-use Rattle.aes_block.proofs.columns.key_of.Goals as goal
-
-pub returns : goal.returns
-returns c = key_is c.args.words.now c.args.round _ _ _ _ c.key_column_of.ensures c.key_column_of-2.ensures
-    c.key_column_of-3.ensures c.key_column_of-4.ensures

@@ -1,6 +1,0 @@
-use Rattle.aes_block.proofs.Rounds.{last_is}
-use Rattle.aes_block.proofs.columns.last_round_of.Goals as goal
-
-pub returns : goal.returns
-returns c = last_is _ _ _ _ _ _ _ _ _ _ _ _ c.last_column_of.ensures c.last_column_of-2.ensures
-    c.last_column_of-3.ensures c.last_column_of-4.ensures

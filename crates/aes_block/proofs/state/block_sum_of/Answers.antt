@@ -1,6 +1,0 @@
-use Rattle.aes_block.proofs.Rounds.{same_sums}
-use Rattle.aes_block.proofs.state.block_sum_of.Goals as goal
-
-pub returns : goal.returns
-returns c = rw (c.block_of.ensures, c.sum_of.ensures, c.columns_of.ensures, c.columns_of-2.ensures) (same_sums
-    c.args.s.now c.args.t.now)

@@ -1,4 +1,0 @@
-use Rattle.aes_modes.proofs.blocks.front_at.Goals as goal
-
-pub returns-else-block-eq0 : goal.returns-else-block-eq0
-returns-else-block-eq0 c = c.requires c.if-block-eq0.false

@@ -1,8 +1,0 @@
-use Rattle.std.proofs.Common.{List, ℕ, ap, ◌∙◌}
-use Rattle.cipher_defs.specs.Aes.{block_sum}
-use Rattle.aes_modes.proofs.Bytewise.{number_bytes}
-use Rattle.aes_modes.proofs.ccm.counted.Goals as goal
-
-pub returns : goal.returns
-returns c = c.block_sum_of.ensures ∙ ap (λ (x : List ℕ). block_sum c.args.zero.now x) (number_bytes c.to_be_bytes-n.result
-    c.args.i c.to_be_bytes-n.ensures)

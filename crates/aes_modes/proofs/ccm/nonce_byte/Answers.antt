@@ -1,6 +1,0 @@
-use Rattle.std.proofs.Common.{arith}
-use Rattle.aes_modes.proofs.Bytewise.{nonce_number}
-use Rattle.aes_modes.proofs.ccm.nonce_byte.Goals as goal
-
-pub returns-else-k-nonce : goal.returns-else-k-nonce
-returns-else-k-nonce c = nonce_number c.args.n c.args.k c.args.first c.args.nonce.now c.requires.long (omega arith) c.requires.place

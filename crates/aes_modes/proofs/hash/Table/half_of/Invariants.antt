@@ -1,7 +1,0 @@
-use Rattle.std.proofs.Common.{◌≡◌, ◌+◌, ◌-◌, ◌*◌}
-use Rattle.cipher_defs.specs.Ghash.{bits_of, sum_at}
-use Rattle.aes_modes.specs.Sums.{raised}
-use Rattle.aes_modes.proofs.hash.Table.half_of.Given as goal
-
-abbrev pub invariant-loop-i : goal.invariant-loop-i
-invariant-loop-i l = l.z ≡ sum_at (bits_of (4 * l.i) l.half) (raised (4 * (l.last + 1 - l.i)) l.self.h)

@@ -1,6 +1,0 @@
-use Rattle.aes_modes.proofs.ByFour.{row_told}
-use Rattle.aes_modes.proofs.hash.row_of.Goals as goal
-
-pub returns : goal.returns
-returns c = row_told c.args.v c.shifted_of-four.result c.shifted_of-two.result c.shifted_of-one.result
-    c.shifted_of-four.ensures c.shifted_of-two.ensures c.shifted_of-one.ensures

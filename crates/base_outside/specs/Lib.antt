@@ -1,0 +1,3 @@
+pub mod streams
+pub mod network
+pub mod whole_texts

@@ -1,0 +1,31 @@
+//! The outside of the program: where its input comes from and where its output goes, as traits with
+//! memory fakes and adapters over the standard library's readers and writers.
+//!
+//! Each object counts its faults in a ghost member that code over the traits cannot raise, and tells
+//! its bytes where it knows them.
+
+mod address;
+mod disk;
+mod failed;
+mod mem_disk;
+mod mem_sink;
+mod mem_source;
+mod plan;
+mod sink;
+mod source;
+mod std_disk;
+mod std_sink;
+mod std_source;
+
+pub use address::Address;
+pub use disk::Disk;
+pub use failed::Failed;
+pub use mem_disk::MemDisk;
+pub use mem_sink::MemSink;
+pub use mem_source::MemSource;
+pub use plan::Plan;
+pub use sink::Sink;
+pub use source::Source;
+pub use std_disk::StdDisk;
+pub use std_sink::StdSink;
+pub use std_source::StdSource;

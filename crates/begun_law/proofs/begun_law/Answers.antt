@@ -1,8 +1,0 @@
-use Rattle.begun_law.proofs.Anew.{again, anew}
-use Rattle.begun_law.proofs.begun_law.Goals as goal
-
-pub returns : goal.returns
-returns g c = record {
-  again = again g.D.Disk.told g.D.Disk.seen g.D.Disk.may_leave g.D.Disk.faults c.one_meaning.ensures c.restart_law.ensures.same;
-  anew = anew g.D.Disk.told g.D.Disk.seen g.D.Disk.may_leave g.D.Disk.faults c.one_meaning.ensures;
-}

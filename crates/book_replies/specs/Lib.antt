@@ -1,2 +1,0 @@
-pub mod Told
-pub use Rattle.conn_served.specs as ConnServed

@@ -1,9 +1,0 @@
-//! The server's answer to an event, as its connections see it.
-#![tactic(auto)]
-
-mod progress;
-mod told;
-
-pub use conn_served::{Reply, Serve, ServeError};
-pub use progress::Logon;
-pub use told::reply_from;

@@ -1,5 +1,0 @@
-use Rattle.choice_credits_law.proofs.Enough.{cost_low, same_choice}
-use Rattle.choice_credits_law.proofs.choice_credits_law.Goals as goal
-
-pub returns : goal.returns
-returns c = record { costs = cost_low; same = λ d k m n from count slotless h a b. same_choice count d k m n from slotless a b h }

@@ -1,7 +1,0 @@
-//! A client's choice at a push, one operation at a time (MS-SMB2 3.2.4): the lowest that nothing holds up and that is paid for, with its
-//! lock slot.
-#![tactic(auto)]
-
-mod finding;
-
-pub use finding::{Attached, Found, find};

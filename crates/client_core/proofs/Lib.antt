@@ -1,7 +1,0 @@
-pub mod Around
-pub mod Begun
-pub mod FirstRow
-pub mod Higher
-pub mod StillAsked
-pub mod Taken
-pub use Rattle.client_replies.proofs as ClientReplies

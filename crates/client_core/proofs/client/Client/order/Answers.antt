@@ -1,5 +1,0 @@
-use Rattle.std.proofs.Common.{sym, ◌∙◌}
-use Rattle.client_core.proofs.client.Client.order.Goals as goal
-
-pub returns : goal.returns
-returns c = λ d s. s.table.order ∙ sym c.as_slice.ensures.value

@@ -1,5 +1,0 @@
-use Rattle.std.proofs.Common.{sym, ◌∙◌}
-use Rattle.client_core.proofs.client.Client.taken.Goals as goal
-
-pub returns : goal.returns
-returns c = λ d s. sym s.table.values.ops_counted ∙ sym c.count_of.ensures

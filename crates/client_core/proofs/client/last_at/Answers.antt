@@ -1,5 +1,0 @@
-use Rattle.std.proofs.Common.{refl}
-use Rattle.client_core.proofs.client.last_at.Goals as goal
-
-pub returns : goal.returns
-returns c = (c.index-marks-at.result, c.index-marks-at.is, refl)

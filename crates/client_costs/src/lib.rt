@@ -1,6 +1,0 @@
-//! What operations cost once their open is attached, or isn't any more.
-#![tactic(auto)]
-
-mod pricing;
-
-pub use pricing::{attach, price_one, price_open};

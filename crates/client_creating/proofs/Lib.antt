@@ -1,3 +1,0 @@
-pub mod Alone
-pub mod Owning
-pub use Rattle.client_submitting.proofs.ClientJoining

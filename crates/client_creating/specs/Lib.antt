@@ -1,2 +1,0 @@
-pub use Rattle.client_submitting.specs as ClientSubmitting
-pub use Rattle.client_submitting.specs.ClientTaking

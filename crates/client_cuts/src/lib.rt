@@ -1,6 +1,0 @@
-//! What a channel that is cut takes of what a client has outstanding, and what the end of a session does.
-#![tactic(auto)]
-
-mod cutting;
-
-pub use cutting::{lose_channel, lose_session};

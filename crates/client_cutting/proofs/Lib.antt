@@ -1,3 +1,0 @@
-pub mod Kept
-pub mod Told
-pub use Rattle.client_attached.proofs as ClientAttached

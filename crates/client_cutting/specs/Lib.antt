@@ -1,1 +1,0 @@
-pub use Rattle.client_attached.specs as ClientAttached

@@ -1,8 +1,0 @@
-use Rattle.std.proofs.Common.{ℕ, List, subst}
-use Rattle.client_dialog.specs.Ending.{IsConnecting}
-use Rattle.client_dialog.proofs.ending.tree_body.Goals as goal
-
-pub returns-in-Ok : goal.returns-in-Ok
-returns-in-Ok c =
-    let wrote = c.in-Ok.ensures in
-    subst (λ (s : List ℕ). IsConnecting s c.in-Ok.body) c.in_ok-share.ensures (wrote.1, wrote.0)

@@ -1,9 +1,0 @@
-use Rattle.std.proofs.Common.{Bool, subst}
-use Rattle.client_dialog.specs.Ending.{IsLacking}
-use Rattle.client_dialog.proofs.hearing.take_unopened.Goals as goal
-
-pub returns : goal.returns
-returns c = record {
-  refused = c.refuse.ensures;
-  lacking = subst (λ (b : Bool). IsLacking c.args.why b) c.if-lacks.false c.is_lacking-lacks.ensures;
-}

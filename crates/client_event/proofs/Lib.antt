@@ -1,2 +1,0 @@
-pub mod Going
-pub use Rattle.client_core.proofs as ClientCore

@@ -1,2 +1,0 @@
-pub mod Events
-pub use Rattle.client_core.specs as ClientCore

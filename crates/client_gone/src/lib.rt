@@ -1,8 +1,0 @@
-//! What never went out settles with the create, or the close, behind which its open is gone.
-#![tactic(auto)]
-
-mod giving;
-mod later;
-
-pub use giving::give_up_opened;
-pub use later::add_later;

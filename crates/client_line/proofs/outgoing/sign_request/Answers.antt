@@ -1,6 +1,0 @@
-use Rattle.std.proofs.Common.{ℕ, List, ap, ◌∙◌}
-use Rattle.session_defs.specs.Signing.{signed}
-use Rattle.client_line.proofs.outgoing.sign_request.Goals as goal
-
-pub returns : goal.returns
-returns c = c.sign_in_place.ensures ∙ ap (λ (m : List ℕ). signed c.args.signer.now m) c.put_header.ensures

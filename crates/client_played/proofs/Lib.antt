@@ -1,2 +1,0 @@
-mod Coming
-pub use Rattle.client_event.proofs.ClientCore

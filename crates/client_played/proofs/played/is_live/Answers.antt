@@ -1,4 +1,0 @@
-use Rattle.client_played.proofs.played.is_live.Goals as goal
-
-pub returns : goal.returns
-returns c = λ d s. c.is_live.ensures d s.table.session

@@ -1,2 +1,0 @@
-pub mod Told
-pub use Rattle.client_attached.proofs as ClientAttached

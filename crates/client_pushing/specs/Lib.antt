@@ -1,2 +1,0 @@
-pub mod Acts
-pub use Rattle.client_attached.specs as ClientAttached

@@ -1,8 +1,0 @@
-//! A push on one of a client's channels, over its table and its opens: the lowest operation that may go out and is paid for goes out, or a
-//! request to attach its open does (MS-SMB2 3.2.4.1.5, 3.2.4.4).
-#![tactic(auto)]
-
-mod pushing;
-
-pub use client_attached::Opened;
-pub use pushing::{Pushed, push};

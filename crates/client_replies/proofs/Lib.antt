@@ -1,2 +1,0 @@
-pub mod Heard
-pub use Rattle.client_hearing.proofs as ClientHearing

@@ -1,6 +1,0 @@
-//! A client's session and its channels, equal to the model's: which channels are ready, what they share, and what ends it.
-#![tactic(auto)]
-
-mod session;
-
-pub use session::{CHANNELS, Cut, Session};

@@ -1,0 +1,5 @@
+pub mod All
+pub mod Grown
+pub mod Listed
+pub mod Marks
+pub mod Results

@@ -1,0 +1,44 @@
+use Rattle.std.proofs.Common.{refl, sym, Some, false}
+use Rattle.spec_exchange.specs.Table.{put}
+use Rattle.client_rows.specs.declared.operation_rows.row.Row.{Row}
+use Rattle.client_rows.specs.operation_rows.Rows.{row_at}
+use Rattle.client_rows.proofs.Moving.{put_col, same_col}
+use Rattle.client_tables.proofs.pushes.Sent.{firm_same}
+use Rattle.client_tables.proofs.pushes.sending.put_again.Goals as goal
+
+pub returns-clause-firm : goal.returns-clause-firm
+returns-clause-firm c =
+    let old = c.args.rows.now in
+    let x = c.args.index in
+    let r : Row = record (row_at old x) {
+      asking = false;
+      outstanding_on = Some c.args.channel;
+      sequence = c.sequence-raised.result;
+    } in
+    firm_same old c.put_row.new.rows x r c.requires.within refl c.put_row.ensures.row
+
+pub returns-clause-shown : goal.returns-clause-shown
+returns-clause-shown c = λ d holders s session.
+    let old = c.args.rows.now in
+    let x = c.args.index in
+    let r : Row = record (row_at old x) {
+      asking = false;
+      outstanding_on = Some c.args.channel;
+      sequence = c.sequence-raised.result;
+    } in
+    let w = s.sends in
+    c.put_row.ensures.shown d holders d.sent (put d.outstanding_on x (Some c.args.channel)) (put d.asks_attach x false)
+    d.unanswered (put d.sequence_of x d.sequence) d.slot_of d.number_of s
+    (record {
+      sent_is = same_col (λ (z : Row). z.sent) old x r d.sent c.requires.within refl w.sent_is;
+      out_is = put_col (λ (z : Row). z.outstanding_on) old x r d.outstanding_on (Some c.args.channel) c.requires.within refl w.out_is;
+      asks_is = put_col (λ (z : Row). z.asking) old x r d.asks_attach false c.requires.within refl w.asks_is;
+      unanswered_is = same_col (λ (z : Row). z.unanswered) old x r d.unanswered c.requires.within refl w.unanswered_is;
+      sequence_is = put_col (λ (z : Row). z.sequence) old x r d.sequence_of d.sequence c.requires.within
+          (sym (c.sequence-raised.ensures d session)) w.sequence_is;
+      slot_is = same_col (λ (z : Row). z.slot) old x r d.slot_of c.requires.within refl w.slot_is;
+      number_is = same_col (λ (z : Row). z.slot_number) old x r d.number_of c.requires.within refl w.number_is;
+    })
+
+pub returns-clause-place : goal.returns-clause-place
+returns-clause-place c = c.put_row.ensures.place refl

@@ -1,0 +1,11 @@
+pub mod costs
+pub mod cuts
+pub mod pushes
+pub mod settling
+pub mod submits
+pub mod choice
+pub mod outstanding
+pub mod opens
+pub mod session_ends
+pub mod attached_opens
+pub mod whole_table

@@ -1,0 +1,3 @@
+pub mod operations
+pub mod outcomes
+pub mod commands

@@ -1,5 +1,0 @@
-use Rattle.client_world_law.proofs.Going.{asks_taken, sends_taken}
-use Rattle.client_world_law.proofs.goes_out_law.Goals as goal
-
-pub returns : goal.returns
-returns c = record { sends = sends_taken; asks = asks_taken }

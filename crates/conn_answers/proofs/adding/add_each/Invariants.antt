@@ -1,5 +1,0 @@
-use Rattle.conn_answers.proofs.Loops.{GoesOver}
-use Rattle.conn_answers.proofs.adding.add_each.Given as goal
-
-abbrev pub invariant-loop-at : goal.invariant-loop-at
-invariant-loop-at l = GoesOver l.fn.answers l.fn.conn l.fn.joining l.at l.conn l.joining l.walk

@@ -1,6 +1,0 @@
-//! What a connection goes on with behind a reply (MS-SMB2 3.3.5.4, 3.3.5.5).
-#![tactic(auto)]
-
-mod behind;
-
-pub use behind::Behind;

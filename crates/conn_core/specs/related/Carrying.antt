@@ -1,0 +1,69 @@
+-- What is handed on to a related message in code, and what becomes of that message.
+use Rattle.std.specs.Prelude.{◌≡◌, ◌≤◌, ◌==◌, if◌then◌else◌, ℕ, slice_get, length, Bool, true, false, List, Option, Some, None}
+use Rattle.std.specs.Prelude.{Result, Ok, Err, ◌⊎◌}
+use Rattle.spec_wire.specs.declared.messages.header.Span.{Span}
+use Rattle.spec_wire.specs.messages.Bare.{bare_fault}
+use Rattle.spec_exchange.specs.Status.{no_memory}
+use Rattle.spec_exchange.specs.State as model
+use Rattle.spec_commands.specs.CommandOf.{echo_status}
+use Rattle.spec_commands.specs.Ids.{file_id}
+use Rattle.spec_world.specs.Hearing as hearing
+use Rattle.spec_world.specs.Related as related
+use Rattle.conn_core.specs.declared.related.related.Carry.{Carry}
+use Rattle.conn_ends.specs.declared.frame_messages.checked.Checked.{Checked}
+use Rattle.conn_ends.specs.declared.frame_messages.checked.CheckedFrame.{CheckedFrame}
+use Rattle.conn_ends.specs.frame_messages.Checking.{message_in}
+use Rattle.conn_core.specs.served.Serving.{IsNamed}
+use Rattle.conn_core.specs.declared.served.serve.Reply.{Reply}
+use Rattle.conn_core.specs.declared.served.error.ServeError.{ServeError}
+
+abbrev pub carry_of : Carry → related.Carry
+carry_of y = record { status = y.status; session = y.session; tree = y.tree; file = y.file }
+
+-- a message of these bytes is the definitions', in what it hands on
+pub record IsCarried (m : Checked) (bytes : List ℕ) (c : hearing.Checked) : Type 0 where
+  pub header : c.header ≡ m.header
+  pub bytes_are : c.bytes ≡ bytes
+  pub fault : c.fault ≡ m.fault
+
+-- the FileId behind a message by the open that its answer tells
+abbrev pub file_told : hearing.Checked → Option ℕ → List ℕ
+file_told c (Some id) = file_id id
+file_told c None = related.handed_on (related.file_named c.header.command c.bytes)
+
+-- behind a message that has no event, behind one that was answered, and behind one that found no memory
+abbrev pub RelatedCarries : hearing.Checked → Option (Result Reply ServeError) → Carry → Type 0
+RelatedCarries c None y = carry_of y ≡ related.carried_past c (echo_status c.fault (bare_fault c.bytes))
+RelatedCarries c (Some (Ok r)) y = (due : model.Reply) → IsNamed r due → carry_of y ≡ related.carried_behind c due
+RelatedCarries c (Some (Err e)) y = carry_of y ≡ related.carried_past c no_memory
+
+-- ---- what becomes of a message: it goes its way with the ids that it takes over, or fails, and then tells those ids
+
+abbrev pub Inherits : related.Turn → Bool → hearing.Checked → Checked → List ℕ → Type 0
+Inherits (related.Goes c) true failed m bytes = IsCarried m bytes c × (m.fails ≡ None)
+Inherits (related.Fails status) false failed m bytes = IsCarried m bytes failed × (m.fails ≡ Some status)
+Inherits (related.Goes c) false failed m bytes = ⊥
+Inherits (related.Fails status) true failed m bytes = ⊥
+
+-- the ids are taken over, and the status with which the message before it failed
+pub record TakesOver (m : Checked) (y : Carry) (goes : Bool) (n : Checked) : Type 0 where
+  pub goes_is : goes ≡ (y.status == 0)
+  pub header : n.header ≡ record m.header { session = y.session; tree = y.tree }
+  pub fails : n.fails ≡ (if y.status == 0 then m.fails else Some y.status)
+  pub related : n.related ≡ m.related
+  pub fault : n.fault ≡ m.fault
+  pub span : n.span ≡ m.span
+
+-- two places that share no byte
+abbrev pub AreApart : Span → Span → Type 0
+AreApart s t = (s.end ≤ t.start) ⊎ (t.end ≤ s.start)
+
+-- every other message is as it was, and so are its bytes where its place is another one
+pub record SameOthers (at : ℕ) (old new : CheckedFrame) : Type 0 where
+  pub count : length new.messages.items ≡ length old.messages.items
+  pub size : length new.bytes.items ≡ length old.bytes.items
+  pub sealed : new.sealed ≡ old.sealed
+  pub moment : new.moment ≡ old.moment
+  pub messages : (i : ℕ) (m : Checked) → (i ≡ at → ⊥) → slice_get old.messages.items i ≡ Some m → slice_get new.messages.items i ≡ Some m
+  pub bytes : (m o : Checked) → slice_get old.messages.items at ≡ Some o → AreApart m.span o.span → m.span.start ≤ m.span.end
+      → message_in new.bytes.items m ≡ message_in old.bytes.items m

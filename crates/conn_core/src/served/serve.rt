@@ -1,0 +1,75 @@
+//! The server as its connections see it.
+use crate::served::error::ServeError;
+use conn_ends::{Checked, Progress};
+use server_checks::ServerEvent;
+use std::alloc::{AllocError, Global};
+use wire_bytes::Bytes;
+
+/// The error response (MS-SMB2 2.2.2).
+const ERROR: [u8; 9] = [9, 0, 0, 0, 0, 0, 0, 0, 0];
+
+/// The server's answer to a message: the ids and the status for the response's header, and what stands behind it.
+#[derive(Drop, Debug)]
+pub struct Reply {
+    pub status: u32,
+    pub session: u64,
+    pub tree: u32,
+    pub body: Bytes,
+    /// The open that a CREATE made, attached or told again.
+    pub file: Option<u64>,
+    pub progress: Progress,
+    /// Files, the set of opens or ranges changed.
+    pub acted: bool,
+}
+
+impl Reply {
+    ghost use Rattle.std.specs.Prelude.{◌≡◌, IfOk};
+    ghost use Rattle.conn_core.specs.served.Refusing.{IsMessageRefused};
+
+    /// The answer to a message that has no event, as a SESSION_SETUP for which no random bytes are left: a status that isn't
+    /// a success, and the message's own ids.
+    #[tactic(auto, unfolding(spec_wire::specs::messages::Places::le))]
+    pub fn refused(alloc: Global, checked: &Checked, status: u32) -> Result<Reply, AllocError>
+        ensures { IfOk result (λ r. IsMessageRefused checked.now status r) }
+    {
+        Ok(Reply {
+            status,
+            session: checked.header.session,
+            tree: checked.header.tree,
+            body: Bytes::from_slice(alloc, &ERROR)?,
+            file: None,
+            progress: Progress::Stays,
+            acted: false,
+        })
+    }
+}
+
+/// A server that takes one event at a time.
+pub trait Serve {
+    ghost use Rattle.std.specs.Prelude.{◌≡◌, ℕ, List, Option, Some, Err, IfOk};
+    ghost use Rattle.spec_crypto.specs.tokens.Acceptor.{User};
+    ghost use Rattle.spec_exchange.specs.State.{Record, Server};
+    ghost use Rattle.spec_world.specs.Ends.{Logons};
+    ghost use Rattle.conn_core.specs.served.Serving.{Halts, IsServerServed, IsServerShort, ServerServes};
+    ghost use Rattle.conn_core.specs.declared.served.error.ServeError.TheVariants as errors;
+
+    /// With these users it shows a state of the model, logons, and the records that were written.
+    ghost shows: { Self → List User → Server → Logons → List Record → Type 0 };
+
+    /// The count of the disk's faults at which it stopped.
+    ghost stopped: { Self → Option ℕ };
+
+    /// Answers a message, or a connection that is made or lost, at a moment in units of 100 nanoseconds since 1601. At
+    /// `Memory` nothing has changed but that one open may have expired; at `Unanswered` the event stands. A server stops
+    /// where its disk fails; from then on each event answers `Stopped` with that count, and of what it shows nothing is told.
+    fn event(&mut self, now: u64, event: ServerEvent<'_>) -> Result<Reply, ServeError>
+        ensures short { IfOk result (λ r. IsServerShort r) }
+        ensures serves { (users : List User) (s : Server) (L : Logons) (records : List Record)
+            → shows self.old users s L records → IsServerServed event.entry
+            → ServerServes (shows self.new users) users s L records now event.entry result }
+        ensures halts { (users : List User) (s : Server) (L : Logons) (records : List Record)
+            → shows self.old users s L records → Halts (stopped self.old) (stopped self.new) result }
+        ensures halted { (count : ℕ) → stopped self.old ≡ Some count
+            → (result ≡ Err (errors.Stopped count)) × (stopped self.new ≡ Some count) }
+        ensures stops { (count : ℕ) → result ≡ Err (errors.Stopped count) → stopped self.new ≡ Some count };
+}

@@ -1,5 +1,0 @@
-use Rattle.std.proofs.lemmas.Option.{slice_get_within}
-use Rattle.conn_dealt.proofs.dealing.deal.Goals as goal
-
-pub checked-requires : goal.checked-requires
-checked-requires g c = slice_get_within c.args.asked.now.messages.items c.args.at c.requires.message.0 c.requires.message.1

@@ -1,6 +1,0 @@
-//! The events of a frame's messages over a server (MS-SMB2 3.3.5.2).
-#![tactic(auto)]
-
-mod dealing;
-
-pub use dealing::{Dealt, Moment, carry_out};

@@ -1,6 +1,0 @@
-//! What answers a NEGOTIATE at the server (MS-SMB2 3.3.5.4).
-#![tactic(auto)]
-
-mod greeting;
-
-pub use greeting::{Greeter, Hello, hello_to};

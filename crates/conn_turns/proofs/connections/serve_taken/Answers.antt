@@ -1,7 +1,0 @@
-use Rattle.conn_turns.proofs.Served.{rest_added}
-use Rattle.conn_turns.proofs.connections.serve_taken.Goals as goal
-
-pub returns-clause-rest : goal.returns-clause-rest
-returns-clause-rest g c =
-    rest_added g.L.Link.told g.L.Link.given g.L.Link.written g.L.Link.faults g.L.Link.ended _ _ _ _ _ _ _ _ _ _
-    c.read_frames-conn.ensures.frames c.take_turn-last.ensures.turn c.ended.ensures

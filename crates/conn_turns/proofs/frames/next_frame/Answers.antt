@@ -1,5 +1,0 @@
-use Rattle.conn_turns.proofs.Calls.{refused}
-use Rattle.conn_turns.proofs.frames.next_frame.Goals as goal
-
-pub returns-in-Err : goal.returns-in-Err
-returns-in-Err c = refused _ _ c.in-Err.refusal c.from.result c.in-Err.ensures c.from.ensures

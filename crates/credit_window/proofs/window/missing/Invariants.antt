@@ -1,9 +1,0 @@
-use Rattle.std.proofs.Common.{◌≡◌, ◌+◌, take, drop}
-use Rattle.credit_defs.specs.Ids.{ids_from}
-use Rattle.credit_window.proofs.window.missing.Given as goal
-
-abbrev pub invariant-loop-k : goal.invariant-loop-k
-invariant-loop-k l = record {
-  wanted : l.wanted ≡ l.first + l.k;
-  run : take l.k (drop l.place l.ids.items) ≡ ids_from l.first l.k;
-}

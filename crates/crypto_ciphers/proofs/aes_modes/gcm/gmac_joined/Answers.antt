@@ -1,0 +1,12 @@
+use Rattle.std.proofs.Common.{refl}
+use Rattle.crypto_ciphers.proofs.aes_modes.gcm.gmac_joined.Goals as goal
+
+pub returns : goal.returns
+returns c = rw (
+  c.block_sum_of.ensures,
+  c.to_be_bytes.ensures,
+  c.ghash_joined-hash.ensures,
+  c.table_of.ensures,
+  c.enciphered-mask.ensures,
+  c.counter_block_of.ensures,
+) refl

@@ -1,0 +1,3 @@
+pub mod spnego
+pub mod ntlmv2
+pub mod session_keys

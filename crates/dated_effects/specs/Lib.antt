@@ -1,3 +1,0 @@
-pub mod Dated
-pub use Rattle.server_prepared.specs as ServerPrepared
-pub use Rattle.server_readied.specs as ServerReadied

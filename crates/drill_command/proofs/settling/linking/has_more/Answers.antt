@@ -1,0 +1,12 @@
+use Rattle.std.proofs.Common.{Bool, ◌&&◌, ap, ◌∙◌, slice_get}
+use Rattle.world_ends.specs.Tests.{opened_in, served_in}
+use Rattle.drill_command.proofs.settling.linking.has_more.Goals as goal
+
+pub returns : goal.returns
+returns c =
+    let o = slice_get c.args.channels.now c.args.k in
+    c.both.ensures
+    ∙ (ap (λ (b : Bool). b && c.has_frames.result)
+    (c.both-open.ensures
+    ∙ (ap (λ (b : Bool). b && c.is_served.result) c.is_open.ensures ∙ ap (λ (b : Bool). opened_in o && b) c.is_served.ensures))
+    ∙ ap (λ (b : Bool). (opened_in o && served_in o) && b) c.has_frames.ensures)

@@ -1,0 +1,4 @@
+use Rattle.drill_command.proofs.settling.linking.open_one.Goals as goal
+
+pub returns : goal.returns
+returns c = λ z d h. c.go.ensures z d h

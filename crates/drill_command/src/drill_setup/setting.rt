@@ -1,0 +1,121 @@
+// What both ends are set up with by a script.
+ghost use Rattle.std.specs.Prelude.{◌≡◌, ◌++◌, ◌∷◌, [], IfOk, OnOk, map};
+ghost use Rattle.law_scripts.specs.script_setup.Scripts.{ciphers_of, seals, signings_of, user_of};
+ghost use Rattle.script_words.specs.text_lines.Script.{nothing_given};
+ghost use Rattle.script_words.specs.text_lines.Settings.{settings_of};
+ghost use Rattle.drill_command.specs.drill_setup.Setup.{IsClientOf, IsServerOf};
+
+use client_ends::ClientConfig;
+use crypto_sessions::Users;
+use script_words::text_lines::Settings;
+use script_words::{Cipher, Given, Signing, User, UserList, with_defaults};
+use server_checks::Config;
+use std::alloc::{AllocError, Global};
+use wire_commands::Address;
+use wire_messages::Numbers;
+
+/// One more who may log on.
+fn push_user(copied: &mut Users, user: &User) -> Result<(), AllocError>
+    ensures { OnOk result (copied.new ≡ copied.old ++ user_of user.now ∷ []) }
+{
+    let name = user.name.copy()?;
+    let password = user.password.copy()?;
+    copied.push(name, password)
+}
+
+/// Those who may log on.
+fn users_of(alloc: Global, users: &[User]) -> Result<Users, AllocError>
+    ensures { IfOk result (λ us. us ≡ map user_of users.now) }
+{
+    let mut copied = Users::new(alloc);
+    for user in users {
+        push_user(&mut copied, user)?;
+    }
+    Ok(copied)
+}
+
+/// Whether the server seals: where the client offers a cipher.
+fn seals_with(cipher: Cipher) -> bool
+    ensures { result ≡ seals cipher }
+{
+    match cipher {
+        Cipher::None => false,
+        Cipher::Ccm => true,
+        Cipher::Gcm => true,
+        Cipher::Ccm256 => true,
+        Cipher::Gcm256 => true,
+    }
+}
+
+/// What the server of a drill is configured with: 127.0.0.1, port 445.
+pub fn server_config(alloc: Global, settings: &Settings) -> Result<Config, AllocError>
+    ensures { IfOk result (λ config. IsServerOf settings.now config) }
+{
+    Ok(Config {
+        users: users_of(alloc, settings.users.as_slice())?,
+        share: settings.share.copy()?,
+        room: settings.room,
+        encrypts: seals_with(settings.cipher),
+        address: Address {
+            ip: 0x7f00_0001,
+            port: 445,
+        },
+    })
+}
+
+/// AES-128-CCM, AES-128-GCM, AES-256-CCM and AES-256-GCM are 1 to 4 (MS-SMB2 2.2.3.1.2); the one that is named comes first.
+fn offered_ciphers(alloc: Global, cipher: Cipher) -> Result<Numbers, AllocError>
+    ensures { IfOk result (λ ns. ns ≡ ciphers_of cipher) }
+{
+    match cipher {
+        Cipher::None => Ok(Numbers::new(alloc)),
+        Cipher::Ccm => Numbers::from_slice(alloc, &[1, 2, 4, 3]),
+        Cipher::Gcm => Numbers::from_slice(alloc, &[2, 1, 4, 3]),
+        Cipher::Ccm256 => Numbers::from_slice(alloc, &[3, 2, 1, 4]),
+        Cipher::Gcm256 => Numbers::from_slice(alloc, &[4, 2, 1, 3]),
+    }
+}
+
+/// AES-CMAC 1 and AES-GMAC 2 (MS-SMB2 2.2.3.1.7).
+fn offered_signings(alloc: Global, signing: Signing) -> Result<Numbers, AllocError>
+    ensures { IfOk result (λ ns. ns ≡ signings_of signing) }
+{
+    match signing {
+        Signing::Cmac => Numbers::from_slice(alloc, &[1, 2]),
+        Signing::Gmac => Numbers::from_slice(alloc, &[2, 1]),
+    }
+}
+
+/// What the client of a drill is configured with, who logs on as this user.
+pub fn client_config(
+    alloc: Global,
+    settings: &Settings,
+    user: &User,
+) -> Result<ClientConfig, AllocError>
+    ensures { IfOk result (λ config. IsClientOf settings.now user.now config) }
+{
+    Ok(ClientConfig {
+        user: user.name.copy()?,
+        password: user.password.copy()?,
+        share: settings.share.copy()?,
+        ciphers: offered_ciphers(alloc, settings.cipher)?,
+        signings: offered_signings(alloc, settings.signing)?,
+        guid: *b"smb311-client-01",
+    })
+}
+
+/// The settings of a script that gives none.
+pub fn plain_settings(alloc: Global) -> Result<Settings, AllocError>
+    ensures { IfOk result (λ settings. settings ≡ settings_of nothing_given) }
+{
+    let given = Given {
+        cipher: None,
+        signing: None,
+        room: None,
+        users: UserList::new(alloc),
+        share: None,
+        channels: None,
+        begun: false,
+    };
+    with_defaults(alloc, given)
+}

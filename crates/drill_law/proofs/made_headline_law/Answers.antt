@@ -1,7 +1,0 @@
-use Rattle.drill_law.proofs.Made.{made_hold}
-use Rattle.drill_law.proofs.made_headline_law.Goals as goal
-
-pub returns : goal.returns
-returns c = record {
-  holds = made_hold c.headline_law.ensures.holds c.default_settings_law.ensures.fit c.made_lines_law.ensures.few;
-}

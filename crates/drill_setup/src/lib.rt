@@ -1,6 +1,0 @@
-//! What both ends of a drill are set up with by the settings of its script.
-#![tactic(auto)]
-
-mod setting;
-
-pub use setting::{client_config, plain_settings, server_config};

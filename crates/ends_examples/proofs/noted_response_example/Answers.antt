@@ -1,5 +1,0 @@
-use Rattle.ends_examples.proofs.Computed.{session_noted, channel_noted, noted_over}
-use Rattle.ends_examples.proofs.noted_response_example.Goals as goal
-
-pub returns : goal.returns
-returns c = record { session = session_noted; channel = channel_noted; over = noted_over }

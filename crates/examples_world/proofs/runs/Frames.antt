@@ -1,0 +1,59 @@
+-- Frames of several messages, computed.
+use Rattle.std.proofs.Common.{◌≡◌, [], ◌∷◌, Some, None, length, refl}
+use Rattle.spec_wire.specs.credits.Ids.{ids_from}
+use Rattle.spec_exchange.specs.Commands.{has_bit}
+use Rattle.spec_exchange.specs.Records.{text_size, opened_size, record_size, records_size, entry_bytes, fits}
+use Rattle.spec_exchange.specs.Step.{due_in}
+use Rattle.spec_exchange.specs.Table.{is_filled}
+use Rattle.spec_commands.specs.CommandOf.{command_of, message_of}
+use Rattle.spec_commands.specs.ReplyBody.{reply_body}
+use Rattle.spec_commands.specs.Tables.{bit_if}
+use Rattle.spec_wire.specs.messages.Places.{number_of, le, bytes_at}
+use Rattle.spec_wire.specs.messages.Fault.{part_fault, count_fault}
+use Rattle.spec_world.specs.Answering.{said_body, gathered, texts_of, all_texts, concatenated, each_joined, told_each}
+use Rattle.spec_world.specs.Connection.{went_all, last_status}
+use Rattle.spec_world.specs.Hearing.{begins_sealed, checked_behind}
+use Rattle.spec_world.specs.Logon.{token_in, exported, pending_by, answer_token_by}
+use Rattle.spec_world.specs.Messages.{has_header, header_in, messages_from, messages_in, message_spelling}
+use Rattle.spec_world.specs.Related.{file_place, file_named, with_file}
+use Rattle.spec_crypto.specs.sessions.Signing.{signed, verifies, signature}
+use Rattle.spec_world.specs.Ends.{OutsideWindow}
+use Rattle.examples_world.specs.runs.Ends.{greeted_end, frame_step, echo, cancel, two_echoes, related_echoes, statuses_of, go_through}
+
+pub two_echoes_are :
+    (length (frame_step greeted_end two_echoes).frames ≡ 1) × ((frame_step greeted_end two_echoes).status ≡ Some 0xc000_0022)
+    × ((frame_step greeted_end two_echoes).server_end.window.held ≡ ids_from 3 8)
+unfolding has_bit text_size opened_size record_size records_size entry_bytes fits due_in is_filled command_of message_of
+    reply_body bit_if number_of le bytes_at part_fault count_fault said_body gathered texts_of all_texts concatenated
+    each_joined told_each went_all last_status begins_sealed checked_behind token_in exported pending_by answer_token_by
+    has_header header_in messages_from messages_in message_spelling file_place file_named with_file signed verifies
+    signature
+two_echoes_are = (refl, refl, refl)
+
+pub id_taken_twice : (frame_step (frame_step greeted_end (echo 1 0)).server_end (echo 1 0)).ends ≡ Some (OutsideWindow 1)
+unfolding has_bit text_size opened_size record_size records_size entry_bytes fits due_in is_filled command_of message_of
+    reply_body bit_if number_of le bytes_at part_fault count_fault said_body gathered texts_of all_texts concatenated
+    each_joined told_each went_all last_status begins_sealed checked_behind token_in exported pending_by answer_token_by
+    has_header header_in messages_from messages_in message_spelling file_place file_named with_file signed verifies
+    signature
+id_taken_twice = refl
+
+pub cancel_is :
+    ((frame_step greeted_end (cancel 1)).frames ≡ []) × ((frame_step greeted_end (cancel 1)).ends ≡ None)
+    × ((frame_step greeted_end (cancel 1)).server_end.window.held ≡ ids_from 1 8)
+unfolding has_bit text_size opened_size record_size records_size entry_bytes fits due_in is_filled command_of message_of
+    reply_body bit_if number_of le bytes_at part_fault count_fault said_body gathered texts_of all_texts concatenated
+    each_joined told_each went_all last_status begins_sealed checked_behind token_in exported pending_by answer_token_by
+    has_header header_in messages_from messages_in message_spelling file_place file_named with_file signed verifies
+    signature
+cancel_is = (refl, refl, refl)
+
+pub related_are :
+    (statuses_of (go_through (related_echoes None)).replies ≡ 0 ∷ 0 ∷ [])
+    × (statuses_of (go_through (related_echoes (Some 0xc000_0022))).replies ≡ 0xc000_0022 ∷ 0xc000_0022 ∷ [])
+unfolding has_bit text_size opened_size record_size records_size entry_bytes fits due_in is_filled command_of message_of
+    reply_body bit_if number_of le bytes_at part_fault count_fault said_body gathered texts_of all_texts concatenated
+    each_joined told_each went_all last_status begins_sealed checked_behind token_in exported pending_by answer_token_by
+    has_header header_in messages_from messages_in message_spelling file_place file_named with_file signed verifies
+    signature
+related_are = (refl, refl)

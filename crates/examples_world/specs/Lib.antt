@@ -1,0 +1,5 @@
+pub mod sessions
+pub mod commands
+pub mod runs
+pub mod connections
+pub mod settings

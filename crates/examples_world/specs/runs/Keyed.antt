@@ -1,0 +1,81 @@
+-- An end of a connection with keys: what is signed, sealed and bound, and related messages of a session.
+use Rattle.std.specs.Prelude.{ℕ, ◌==◌, Bool, true, false, if◌then◌else◌, List, [], ◌∷◌, ◌++◌, take, drop, replicate, Some}
+use Rattle.spec_wire.specs.messages.Bare.{bare_spelling}
+use Rattle.spec_exchange.specs.Commands.{TreeConnect}
+use Rattle.spec_exchange.specs.State.{Server}
+use Rattle.spec_exchange.specs.Fold.{nothing_yet}
+use Rattle.spec_commands.specs.BodyOf.{body_of}
+use Rattle.spec_crypto.specs.declared.sessions.material.Keys.{Keys}
+use Rattle.spec_crypto.specs.sessions.Sealing.{sealed}
+use Rattle.spec_world.specs.Settings.{WorldSettings}
+use Rattle.spec_world.specs.Messages.{message_spelling, heard_in}
+use Rattle.spec_world.specs.Ends.{ClientEnd, ServerEnd, Logons, no_logons, no_keys, nonce_at}
+use Rattle.spec_world.specs.Hearing.{Checked}
+use Rattle.spec_world.specs.Connection.{Going, went_all, beginning}
+use Rattle.spec_world.specs.World.{channel_bound}
+use Rattle.spec_world.specs.Events.{bytes_start}
+use Rattle.examples_world.specs.runs.Ends.{greeted_end, nobody, header_of, echo, checked}
+use Rattle.examples_world.specs.connections.Parts.{some_keys, some_settings}
+
+-- ---- related messages, signed as owed: session 9 is on connection 0
+
+abbrev pub one_session : Server
+one_session = record nothing_yet {
+  share = 100 ∷ [];
+  present = λ x. x == 9;
+  sessions = 1;
+  connections = 0 ∷ [];
+  session_on = λ k. Some 9;
+  next_tree = λ x. 1;
+}
+
+-- a TREE_CONNECT to the share of these bytes, and behind it a TREE_DISCONNECT that names neither session nor tree
+abbrev pub two_trees : List ℕ → List Checked
+two_trees share =
+    checked (record (header_of 3 1 0 0) { session = 9 }) (body_of (TreeConnect share)) false
+    ∷ checked (record (header_of 4 2 4 0) { session = 0xffff_ffff_ffff_ffff; tree = 0xffff_ffff }) bare_spelling true ∷ []
+
+abbrev pub go_in_session : List Checked → Going
+go_in_session cs = went_all nobody 0 5 [] greeted_end (beginning one_session no_logons greeted_end) cs
+
+-- ---- keys
+
+abbrev pub keyed_end : Bool → ServerEnd
+keyed_end encrypts = record greeted_end { keys = Some some_keys; encrypts = encrypts; channel = 1 }
+
+-- an ECHO that is to be signed, and signed, and its response: AES-CMAC, by OpenSSL
+abbrev pub flagged_echo : List ℕ
+flagged_echo = message_spelling (header_of 13 1 8 0) bare_spelling
+
+abbrev pub echo_signature : List ℕ
+echo_signature = 131 ∷ 179 ∷ 82 ∷ 127 ∷ 52 ∷ 246 ∷ 59 ∷ 77 ∷ 204 ∷ 33 ∷ 20 ∷ 249 ∷ 59 ∷ 255 ∷ 159 ∷ 49 ∷ []
+
+abbrev pub signed_echo : List ℕ
+signed_echo = take 48 flagged_echo ++ (echo_signature ++ drop 64 flagged_echo)
+
+abbrev pub reply_signature : List ℕ
+reply_signature = 147 ∷ 151 ∷ 248 ∷ 33 ∷ 120 ∷ 193 ∷ 77 ∷ 73 ∷ 183 ∷ 185 ∷ 238 ∷ 171 ∷ 193 ∷ 129 ∷ 75 ∷ 107 ∷ []
+
+abbrev pub signed_reply : List ℕ
+signed_reply =
+    take 48 (message_spelling (header_of 13 1 9 0) bare_spelling)
+    ++ (reply_signature ++ drop 64 (message_spelling (header_of 13 1 9 0) bare_spelling))
+
+-- an ECHO that is sealed, and its response, sealed under the first nonce of the channel
+abbrev pub sealed_echo : List ℕ
+sealed_echo = sealed some_keys true (nonce_at 1 0) (echo 1 0)
+
+abbrev pub sealed_reply : List ℕ
+sealed_reply = sealed some_keys false (nonce_at 1 0) (message_spelling (header_of 13 1 1 0) bare_spelling)
+
+-- ---- a binding to session 9
+
+abbrev pub keyed_logons : Logons
+keyed_logons = record no_logons { keys = λ x. if x == 9 then some_keys else no_keys }
+
+abbrev pub binding : Checked
+binding = checked (record (header_of 1 1 8 0) { session = 9 }) bare_spelling false
+
+-- the client's end behind the binding of a second channel
+abbrev pub bound_second : ClientEnd
+bound_second = ((channel_bound (record (bytes_start some_settings) { numbers = 1 }) 0 (heard_in binding.raw)).wires 0).client_end

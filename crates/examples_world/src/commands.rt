@@ -1,0 +1,91 @@
+//! What bytes ask and tell, computed by the checker on bytes that were laid out by hand from the standard's tables.
+#![tactic(auto, unfolding(crate::specs::commands::Computed::computed))]
+
+ghost use Rattle.std.specs.Prelude.{◌≡◌, ℕ, [], ◌∷◌, ◌++◌, true, false, Some, None};
+ghost use Rattle.spec_exchange.specs.Commands.{Close, Write, ListDirectory, TreeConnect, Create, Unreadable};
+ghost use Rattle.spec_exchange.specs.State.{Count, Empty, Listing};
+ghost use Rattle.spec_commands.specs.CommandOf.{command_of};
+ghost use Rattle.spec_commands.specs.BodyOf.{body_of};
+ghost use Rattle.spec_commands.specs.ReplyBody.{reply_body};
+ghost use Rattle.spec_commands.specs.ReplyOf.{reply_of};
+ghost use Rattle.spec_wire.specs.messages.Places.{le};
+ghost use Rattle.spec_commands.specs.Infos.{attributes_of, interface_bytes};
+ghost use Rattle.examples_world.specs.commands.Samples.{header_of, told, zeros, a_create, replied, two_names, with_attributes};
+
+/// A CLOSE that asks for times and lengths (MS-SMB2 2.2.15).
+pub fn close_example()
+    ensures asked { command_of told (header_of 6 0) (zeros ++ 24 ∷ 0 ∷ 1 ∷ 0 ∷ 0 ∷ 0 ∷ 0 ∷ 0 ∷ 5 ∷ 0 ∷ 0 ∷ 0 ∷ 0 ∷ 0 ∷ 0 ∷ 0 ∷ 5
+        ∷ 0 ∷ 0 ∷ 0 ∷ 0 ∷ 0 ∷ 0 ∷ 0 ∷ []) ≡ Some (Close 5 true) }
+    ensures written { body_of (Close 5 true)
+        ≡ 24 ∷ 0 ∷ 1 ∷ 0 ∷ 0 ∷ 0 ∷ 0 ∷ 0 ∷ 5 ∷ 0 ∷ 0 ∷ 0 ∷ 0 ∷ 0 ∷ 0 ∷ 0 ∷ 5 ∷ 0 ∷ 0 ∷ 0 ∷ 0 ∷ 0 ∷ 0 ∷ 0 ∷ [] }
+{}
+
+/// A TREE_CONNECT to `\\s\d` names the share d (2.2.9).
+pub fn tree_connect_example()
+    ensures { command_of told (header_of 3 0) (zeros ++ 9 ∷ 0 ∷ 0 ∷ 0 ∷ 72 ∷ 0 ∷ 10 ∷ 0 ∷ 92 ∷ 0 ∷ 92 ∷ 0 ∷ 115 ∷ 0 ∷ 92
+        ∷ 0 ∷ 100 ∷ 0 ∷ []) ≡ Some (TreeConnect (100 ∷ [])) }
+{}
+
+/// A CREATE of `a` with a DH2Q (2.2.13, 2.2.13.2.11).
+pub fn create_example()
+    ensures asked { command_of told (header_of 5 0) (zeros ++ 57 ∷ 0 ∷ 0 ∷ 0 ∷ 2 ∷ 0 ∷ 0 ∷ 0 ∷ 0 ∷ 0 ∷ 0 ∷ 0 ∷ 0 ∷ 0 ∷ 0 ∷ 0 ∷ 0
+        ∷ 0 ∷ 0 ∷ 0 ∷ 0 ∷ 0 ∷ 0 ∷ 0 ∷ 2 ∷ 1 ∷ 0 ∷ 0 ∷ 0 ∷ 0 ∷ 0 ∷ 0 ∷ 1 ∷ 0 ∷ 0 ∷ 0 ∷ 3 ∷ 0 ∷ 0 ∷ 0 ∷ 64 ∷ 0 ∷ 0 ∷ 0
+        ∷ 120 ∷ 0 ∷ 2 ∷ 0 ∷ 128 ∷ 0 ∷ 0 ∷ 0 ∷ 56 ∷ 0 ∷ 0 ∷ 0 ∷ 97 ∷ 0 ∷ 0 ∷ 0 ∷ 0 ∷ 0 ∷ 0 ∷ 0 ∷ 0 ∷ 0 ∷ 0 ∷ 0 ∷ 16 ∷ 0
+        ∷ 4 ∷ 0 ∷ 0 ∷ 0 ∷ 24 ∷ 0 ∷ 32 ∷ 0 ∷ 0 ∷ 0 ∷ 68 ∷ 72 ∷ 50 ∷ 81 ∷ 0 ∷ 0 ∷ 0 ∷ 0 ∷ 0 ∷ 0 ∷ 0 ∷ 0 ∷ 2 ∷ 0 ∷ 0 ∷ 0
+        ∷ 0 ∷ 0 ∷ 0 ∷ 0 ∷ 0 ∷ 0 ∷ 0 ∷ 0 ∷ 7 ∷ 0 ∷ 0 ∷ 0 ∷ 0 ∷ 0 ∷ 0 ∷ 0 ∷ 0 ∷ 0 ∷ 0 ∷ 0 ∷ 0 ∷ 0 ∷ 0 ∷ 0 ∷ [])
+        ≡ Some (Create a_create) }
+    ensures written { body_of (Create a_create)
+        ≡ 57 ∷ 0 ∷ 0 ∷ 0 ∷ 2 ∷ 0 ∷ 0 ∷ 0 ∷ 0 ∷ 0 ∷ 0 ∷ 0 ∷ 0 ∷ 0 ∷ 0 ∷ 0 ∷ 0 ∷ 0 ∷ 0 ∷ 0 ∷ 0 ∷ 0 ∷ 0 ∷ 0 ∷ 2 ∷ 1 ∷ 0 ∷ 0
+        ∷ 0 ∷ 0 ∷ 0 ∷ 0 ∷ 1 ∷ 0 ∷ 0 ∷ 0 ∷ 3 ∷ 0 ∷ 0 ∷ 0 ∷ 64 ∷ 0 ∷ 0 ∷ 0 ∷ 120 ∷ 0 ∷ 2 ∷ 0 ∷ 128 ∷ 0 ∷ 0 ∷ 0 ∷ 56 ∷ 0
+        ∷ 0 ∷ 0 ∷ 97 ∷ 0 ∷ 0 ∷ 0 ∷ 0 ∷ 0 ∷ 0 ∷ 0 ∷ 0 ∷ 0 ∷ 0 ∷ 0 ∷ 16 ∷ 0 ∷ 4 ∷ 0 ∷ 0 ∷ 0 ∷ 24 ∷ 0 ∷ 32 ∷ 0 ∷ 0 ∷ 0 ∷ 68
+        ∷ 72 ∷ 50 ∷ 81 ∷ 0 ∷ 0 ∷ 0 ∷ 0 ∷ 0 ∷ 0 ∷ 0 ∷ 0 ∷ 2 ∷ 0 ∷ 0 ∷ 0 ∷ 0 ∷ 0 ∷ 0 ∷ 0 ∷ 0 ∷ 0 ∷ 0 ∷ 0 ∷ 7 ∷ 0 ∷ 0 ∷ 0
+        ∷ 0 ∷ 0 ∷ 0 ∷ 0 ∷ 0 ∷ 0 ∷ 0 ∷ 0 ∷ 0 ∷ 0 ∷ 0 ∷ 0 ∷ [] }
+{}
+
+/// What is left out, an unknown class, a short body and a CANCEL (2.2.35, 2.2.37, 2.2.30).
+pub fn unreadable_example()
+    ensures notify { command_of told (header_of 15 0) zeros ≡ Some (Unreadable 0xc00000bb) }
+    ensures attributes { command_of told (header_of 16 0) (zeros ++ 41 ∷ 0 ∷ 1 ∷ 15 ∷ 64 ∷ 0 ∷ 0 ∷ 0 ∷ 0 ∷ 0 ∷ 0 ∷ 0 ∷ 0 ∷ 0 ∷ 0 ∷ 0
+        ∷ 0 ∷ 0 ∷ 0 ∷ 0 ∷ 0 ∷ 0 ∷ 0 ∷ 0 ∷ 5 ∷ 0 ∷ 0 ∷ 0 ∷ 0 ∷ 0 ∷ 0 ∷ 0 ∷ 5 ∷ 0 ∷ 0 ∷ 0 ∷ 0 ∷ 0 ∷ 0 ∷ 0 ∷ [])
+        ≡ Some (Unreadable 0xc00000bb) }
+    ensures unknown { command_of told (header_of 16 0) (zeros ++ 41 ∷ 0 ∷ 1 ∷ 99 ∷ 64 ∷ 0 ∷ 0 ∷ 0 ∷ 0 ∷ 0 ∷ 0 ∷ 0 ∷ 0 ∷ 0 ∷ 0 ∷ 0
+        ∷ 0 ∷ 0 ∷ 0 ∷ 0 ∷ 0 ∷ 0 ∷ 0 ∷ 0 ∷ 5 ∷ 0 ∷ 0 ∷ 0 ∷ 0 ∷ 0 ∷ 0 ∷ 0 ∷ 5 ∷ 0 ∷ 0 ∷ 0 ∷ 0 ∷ 0 ∷ 0 ∷ 0 ∷ [])
+        ≡ Some (Unreadable 0xc0000003) }
+    ensures short { command_of told (header_of 7 0) zeros ≡ Some (Unreadable 0xc000000d) }
+    ensures cancel { command_of told (header_of 12 0) zeros ≡ None }
+{}
+
+/// The response to a WRITE of three bytes (2.2.22).
+pub fn write_reply_example()
+    ensures written { reply_body [] (Write 5 0 (1 ∷ 2 ∷ 3 ∷ []) 0) (replied 0 (Count 3))
+        ≡ 17 ∷ 0 ∷ 0 ∷ 0 ∷ 3 ∷ 0 ∷ 0 ∷ 0 ∷ 0 ∷ 0 ∷ 0 ∷ 0 ∷ 0 ∷ 0 ∷ 0 ∷ 0 ∷ [] }
+    ensures heard { reply_of (Write 5 0 (1 ∷ 2 ∷ 3 ∷ []) 0) (header_of 9 0) (zeros ++ 17 ∷ 0 ∷ 0 ∷ 0 ∷ 3 ∷ 0 ∷ 0 ∷ 0 ∷ 0 ∷ 0 ∷ 0
+        ∷ 0 ∷ 0 ∷ 0 ∷ 0 ∷ 0 ∷ []) ≡ replied 0 (Count 3) }
+    ensures refused { reply_body [] (Write 5 0 (1 ∷ 2 ∷ 3 ∷ []) 0) (replied 0xc0000054 Empty) ≡ 9 ∷ 0 ∷ 0 ∷ 0 ∷ 0 ∷ 0 ∷ 0 ∷ 0 ∷ 0 ∷ [] }
+{}
+
+/// A listing of names, class 12 (2.2.34, MS-FSCC 2.4.28).
+pub fn listing_example()
+    ensures written { reply_body [] (ListDirectory 5 12 true false (42 ∷ []) 1024) (replied 0 (Listing 12 two_names))
+        ≡ 9 ∷ 0 ∷ 72 ∷ 0 ∷ 32 ∷ 0 ∷ 0 ∷ 0 ∷ 16 ∷ 0 ∷ 0 ∷ 0 ∷ 0 ∷ 0 ∷ 0 ∷ 0 ∷ 2 ∷ 0 ∷ 0 ∷ 0 ∷ 46 ∷ 0 ∷ 0 ∷ 0 ∷ 0 ∷ 0 ∷ 0
+        ∷ 0 ∷ 0 ∷ 0 ∷ 0 ∷ 0 ∷ 4 ∷ 0 ∷ 0 ∷ 0 ∷ 97 ∷ 0 ∷ 98 ∷ 0 ∷ [] }
+    ensures heard { reply_of (ListDirectory 5 12 true false (42 ∷ []) 1024) (header_of 14 0)
+        (zeros ++ 9 ∷ 0 ∷ 72 ∷ 0 ∷ 32 ∷ 0 ∷ 0 ∷ 0 ∷ 16 ∷ 0 ∷ 0 ∷ 0 ∷ 0 ∷ 0 ∷ 0 ∷ 0 ∷ 2 ∷ 0 ∷ 0 ∷ 0 ∷ 46 ∷ 0 ∷ 0 ∷ 0 ∷ 0
+        ∷ 0 ∷ 0 ∷ 0 ∷ 0 ∷ 0 ∷ 0 ∷ 0 ∷ 4 ∷ 0 ∷ 0 ∷ 0 ∷ 97 ∷ 0 ∷ 98 ∷ 0 ∷ []) ≡ replied 0 (Listing 12 two_names) }
+{}
+
+/// FileAttributes as they are told (MS-FSCC 2.6): a directory that was made NORMAL is a DIRECTORY; a file that was set DIRECTORY
+/// and ARCHIVE is an ARCHIVE; NORMAL beside ARCHIVE is left out, and alone it stays.
+pub fn attributes_example()
+    ensures directory { attributes_of (with_attributes true 0x80) ≡ 0x10 }
+    ensures file { attributes_of (with_attributes false 0x30) ≡ 0x20 }
+    ensures archive { attributes_of (with_attributes false 0xa0) ≡ 0x20 }
+    ensures normal { attributes_of (with_attributes false 0x90) ≡ 0x80 }
+{}
+
+/// An interface at 10.0.0.7, whose port is 0 whatever port the server has (MS-SMB2 2.2.32.5.1.1).
+pub fn interface_example()
+    ensures { interface_bytes (record { ip = 0x0a000007; port = 445 })
+        ≡ (0 ∷ 0 ∷ 0 ∷ 0 ∷ 1 ∷ 0 ∷ 0 ∷ 0 ∷ 0 ∷ 0 ∷ 0 ∷ 0 ∷ 0 ∷ 0 ∷ 0 ∷ 0 ∷ 0 ∷ 228 ∷ 11 ∷ 84 ∷ 2 ∷ 0 ∷ 0 ∷ 0 ∷ 2 ∷ 0
+        ∷ 0 ∷ 0 ∷ 10 ∷ 0 ∷ 0 ∷ 7 ∷ []) ++ le 120 0 }
+{}

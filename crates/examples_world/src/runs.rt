@@ -1,0 +1,158 @@
+//! Worked examples of the exchange over bytes, computed by the checker: frames of several messages, related ones, events that
+//! found no memory or a server that stopped, what is signed, sealed and bound, and a dialog without credits; and a worked
+//! logon, the bytes of which another implementation makes.
+
+ghost use Rattle.std.specs.Prelude.{◌≡◌, ℕ, [], ◌∷◌, ◌++◌, true, false, Some, None, replicate, length};
+ghost use Rattle.spec_wire.specs.credits.Ids.{ids_from};
+ghost use Rattle.spec_exchange.specs.Client.{SaidFirst, SaidSecond, AskedTree};
+ghost use Rattle.spec_exchange.specs.Commands.{TreeConnect};
+ghost use Rattle.spec_exchange.specs.Operations.{BadToken};
+ghost use Rattle.spec_crypto.specs.tokens.Tokens.{first_token};
+ghost use Rattle.spec_world.specs.Ends.{OutsideWindow, Stopped};
+ghost use Rattle.spec_world.specs.Related.{file_named};
+ghost use Rattle.spec_world.specs.Dialog.{pays_next};
+ghost use Rattle.spec_world.specs.Logon.{Interim, signer_of, final_keys};
+ghost use Rattle.spec_world.specs.Sending.{greeting_text, setup_text, request_text};
+ghost use Rattle.examples_world.specs.runs.Ends.{greeted_end, frame_step, echo, cancel, two_echoes, related_echoes};
+ghost use Rattle.examples_world.specs.runs.Ends.{statuses_of, go_through};
+ghost use Rattle.examples_world.specs.runs.Keyed.{go_in_session, two_trees, keyed_end, signed_echo, signed_reply};
+ghost use Rattle.examples_world.specs.runs.Keyed.{sealed_echo, sealed_reply, keyed_logons, binding, bound_second};
+ghost use Rattle.examples_world.specs.runs.Events.{two_disconnects, with_mishaps, lacks, halts, setup_behind, penniless};
+ghost use Rattle.examples_world.specs.runs.Events.{granting, fault_at};
+ghost use Rattle.examples_world.specs.runs.Meeting.{client_of_logon, first_id, sent, dialog_sent, create_asked};
+ghost use Rattle.examples_world.specs.runs.Meeting.{greeting_heard, first_setup_heard, last_told, tree_told};
+ghost use Rattle.examples_world.specs.runs.Meeting.{create_told, signed_tree_heard};
+ghost use Rattle.examples_world.specs.runs.Worked as worked;
+ghost use Rattle.examples_world.specs.connections.Parts.{some_keys};
+ghost use Rattle.examples_world.specs.settings.Logon.{share_name};
+
+/// Two messages of one frame are answered in one frame. Neither is signed, and no key is there to sign with.
+pub fn two_echoes_example()
+    ensures frames { length (frame_step greeted_end two_echoes).frames ≡ 1 }
+    ensures status { (frame_step greeted_end two_echoes).status ≡ Some 0xc000_0022 }
+    ensures left { (frame_step greeted_end two_echoes).server_end.window.held ≡ ids_from 3 8 }
+{}
+
+/// An id is taken once.
+pub fn id_taken_twice_example()
+    ensures { (frame_step (frame_step greeted_end (echo 1 0)).server_end (echo 1 0)).ends ≡ Some (OutsideWindow 1) }
+{}
+
+/// A CANCEL takes no id and has no reply.
+pub fn cancel_example()
+    ensures frames { (frame_step greeted_end (cancel 1)).frames ≡ [] }
+    ensures ends { (frame_step greeted_end (cancel 1)).ends ≡ None }
+    ensures held { (frame_step greeted_end (cancel 1)).server_end.window.held ≡ ids_from 1 8 }
+{}
+
+/// A related message fails with the status of the one before it, and goes its way where that is success.
+pub fn related_messages_example()
+    ensures goes { statuses_of (go_through (related_echoes None)).replies ≡ 0 ∷ 0 ∷ [] }
+    ensures fails { statuses_of (go_through (related_echoes (Some 0xc000_0022))).replies ≡ 0xc000_0022 ∷ 0xc000_0022 ∷ [] }
+{}
+
+/// Without a mishap the frame's step is the connection's own.
+pub fn no_mishap_example()
+    ensures frames { (with_mishaps (None ∷ None ∷ [])).step.frames ≡ (frame_step greeted_end two_disconnects).frames }
+    ensures matches { (with_mishaps (None ∷ None ∷ [])).matches ≡ true }
+    ensures lacked { (with_mishaps (None ∷ None ∷ [])).lacked ≡ false }
+{}
+
+/// An event that found no memory is answered so, and the message behind it by the step.
+pub fn no_memory_example()
+    ensures last { (with_mishaps (None ∷ lacks ∷ [])).step.status ≡ Some 0xc000_0017 }
+    ensures behind { (with_mishaps (lacks ∷ None ∷ [])).step.status ≡ Some 0xc000_0203 }
+    ensures lacked { (with_mishaps (lacks ∷ None ∷ [])).lacked ≡ true }
+{}
+
+/// A server that stopped ends the connection without an answer, and no message behind has an event.
+pub fn stopped_example()
+    ensures ends { (with_mishaps (halts ∷ [])).step.ends ≡ Some (Stopped 3) }
+    ensures frames { (with_mishaps (halts ∷ [])).step.frames ≡ [] }
+    ensures matches { (with_mishaps (halts ∷ [])).matches ≡ true }
+{}
+
+/// As much is given as a frame has events, and no more.
+pub fn given_example()
+    ensures too_few { (with_mishaps (None ∷ [])).matches ≡ false }
+    ensures too_many { (with_mishaps (None ∷ None ∷ None ∷ [])).matches ≡ false }
+    ensures behind_a_stop { (with_mishaps (halts ∷ None ∷ [])).matches ≡ false }
+{}
+
+/// The 4,097th SESSION_SETUP of a connection has no event.
+pub fn setups_example()
+    ensures last { (setup_behind 4095 []).matches ≡ false }
+    ensures past { (setup_behind 4096 []).matches ≡ true }
+    ensures status { (setup_behind 4096 []).step.status ≡ Some 0xc000_009a }
+    ensures count { (setup_behind 4096 []).setups ≡ 4096 }
+{}
+
+/// A request too short for its FileId names 16 zeros. An IOCTL's stands at 72.
+pub fn short_request_example()
+    ensures short { file_named 11 (replicate 87 1) ≡ replicate 16 0 }
+    ensures whole { file_named 11 (replicate 88 1) ≡ replicate 16 1 }
+{}
+
+/// No request of a dialog follows where no credit is held behind the response; behind TREE_CONNECT and a binding none does.
+pub fn no_credit_example()
+    ensures none { fault_at (SaidFirst false) 0 ≡ Some BadToken }
+    ensures one { fault_at (SaidFirst false) 1 ≡ None }
+    ensures tree { fault_at AskedTree 0 ≡ None }
+    ensures binding { pays_next penniless (SaidSecond true) (granting 0).header ≡ true }
+{}
+
+/// A related message takes session and tree of the one before it.
+pub fn related_session_example()
+    ensures { statuses_of (go_in_session (two_trees (100 ∷ []))).replies ≡ 0 ∷ 0 ∷ [] }
+{}
+
+/// What is only signed is refused where sealing is owed.
+pub fn sealing_owed_example()
+    ensures owed { (frame_step (keyed_end true) signed_echo).status ≡ Some 0xc000_0022 }
+    ensures not_owed { (frame_step (keyed_end false) signed_echo).status ≡ Some 0 }
+{}
+
+/// A signed request has a signed reply.
+pub fn signed_reply_example()
+    ensures { (frame_step (keyed_end false) signed_echo).frames ≡ signed_reply ∷ [] }
+{}
+
+/// A sealed request has a sealed reply, which takes a nonce.
+pub fn sealed_reply_example()
+    ensures frames { (frame_step (keyed_end true) sealed_echo).frames ≡ sealed_reply ∷ [] }
+    ensures counter { (frame_step (keyed_end true) sealed_echo).server_end.counter ≡ 1 }
+{}
+
+/// In a binding the session signs the interim response, and the channel has the session's cipher keys and the next number.
+pub fn binding_example()
+    ensures signer { signer_of [] keyed_logons 0 greeted_end binding (Interim true) ≡ Some some_keys.signing }
+    ensures keys { (final_keys [] keyed_logons 0 greeted_end binding true).to_server ≡ replicate 32 2 }
+    ensures channel { bound_second.channel ≡ 2 }
+{}
+
+/// NEGOTIATE, and the server's step over it.
+pub fn worked_greeting_example()
+    ensures asked { greeting_text client_of_logon worked.client_salt (dialog_sent 0 0) ≡ worked.greeting }
+    ensures told { greeting_heard.frames ≡ worked.greeting_reply ∷ [] }
+{}
+
+/// Both SESSION_SETUPs. The second token, and what ends the logon, are given; the final response is signed by AES-CMAC.
+pub fn worked_setup_example()
+    ensures first { setup_text false 0 first_token (dialog_sent 1 0) ≡ worked.first_setup }
+    ensures interim { first_setup_heard.frames ≡ worked.interim ∷ [] }
+    ensures second { setup_text false 0 worked.second_token (dialog_sent 2 first_id) ≡ worked.second_setup }
+    ensures last { last_told ≡ worked.last_reply }
+{}
+
+/// TREE_CONNECT and its response as they are before they are sealed; and the server's step over a signed one.
+pub fn worked_tree_example()
+    ensures asked { request_text (sent 3 first_id 0 (TreeConnect share_name)) 1 false ≡ worked.tree_asked }
+    ensures told { tree_told ≡ worked.tree_told }
+    ensures signed { signed_tree_heard.frames ≡ worked.signed_tree_told ∷ [] }
+{}
+
+/// A CREATE of a persistent open and its response, before they are sealed.
+pub fn worked_create_example()
+    ensures asked { request_text (sent 4 first_id 1 create_asked) 1 false ≡ worked.create_asked }
+    ensures told { create_told ≡ worked.create_told }
+{}

@@ -1,7 +1,0 @@
-use Rattle.std.proofs.Common.{◌∙◌}
-use Rattle.file_store.proofs.Lengths.{holds_is}
-use Rattle.file_store.proofs.bytes.row_holds.Goals as goal
-
-pub returns : goal.returns
-returns c = λ b i. c.eq.ensures ∙ holds_is c.args.at c.args.bytes.now b c.as_slice.result.now (c.as_slice.ensures.value
-    ∙ c.in_ok-there.ensures b i)

@@ -1,7 +1,0 @@
-use Rattle.std.proofs.Common.{arith}
-use Rattle.std.proofs.lemmas.Grind.{common_steps}
-use Rattle.file_store.proofs.Full.{root_full}
-use Rattle.file_store.proofs.tree.Tree.full_root.Goals as goal
-
-pub returns : goal.returns
-returns c = λ s h. let e = c.count.ensures s h in let f = root_full s h.rows.no_empty h.rows.no_root in grind (arith, common_steps)

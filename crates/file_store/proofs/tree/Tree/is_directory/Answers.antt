@@ -1,8 +1,0 @@
-use Rattle.file_store.proofs.Found.{found_directory, never_missing}
-use Rattle.file_store.proofs.tree.Tree.is_directory.Goals as goal
-
-pub returns-in-Some : goal.returns-in-Some
-returns-in-Some c = λ s h e. found_directory s c.args.file _ (c.in-Some.ensures s h)
-
-pub returns-in-None : goal.returns-in-None
-returns-in-None c = λ s h e. absurd (let x = never_missing s c.args.file (c.in-None.ensures s h) e in cc)

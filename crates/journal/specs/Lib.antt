@@ -1,0 +1,2 @@
+pub mod record_bytes
+pub mod disk_journal

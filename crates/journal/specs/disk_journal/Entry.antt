@@ -1,0 +1,30 @@
+-- A disk that ends with a closed gate, and what a crash leaves while an entry is put behind it.
+use Rattle.std.specs.Prelude.{◌≡◌, ◌⊎◌, ℕ, ◌≤◌, List, [], ◌∷◌, ◌++◌, length}
+use Rattle.base_outside.specs.streams.Disk.{Only}
+use Rattle.spec_wire.specs.journal.Grammar.{IsClosed}
+
+-- the bytes end with a closed gate at this place
+pub record EntryEndsAt (gate : ℕ) (front : List ℕ) (shut : ℕ) (bytes : List ℕ) : Type 0 where
+  pub file : bytes ≡ front ++ shut ∷ []
+  pub place : length front ≡ gate
+  pub closed : IsClosed shut
+
+-- the gate is closed, with any bytes behind it
+pub record StaysClosed (front bytes : List ℕ) : Type 0 where
+  pub gate : ℕ
+  pub rest : List ℕ
+  pub file : bytes ≡ front ++ gate ∷ rest
+  pub closed : IsClosed gate
+
+-- the gate is closed, or it is open and all of the entry stands behind it
+abbrev pub IsClosedOrOpened : List ℕ → List ℕ → List ℕ → Type 0
+IsClosedOrOpened front behind bytes = StaysClosed front bytes ⊎ (bytes ≡ front ++ 1 ∷ behind)
+
+-- at most 9 bytes: the magic and one gate at most
+abbrev pub IsEntryShort : List ℕ → Type 0
+IsEntryShort bytes = length bytes ≤ 9
+
+-- a disk that is taken as new, with nothing on it that waits for a sync
+pub record IsEntryNew (bytes : List ℕ) (outcomes : List ℕ → Type 0) : Type 0 where
+  pub short : length bytes ≤ 9
+  pub durable : Only bytes outcomes

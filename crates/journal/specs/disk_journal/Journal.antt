@@ -1,0 +1,199 @@
+-- What contracts see of a journal, and what its calls answer.
+use Rattle.std.specs.Prelude.{◌≡◌, ◌⊎◌, ℕ, ◌+◌, ◌-◌, ◌^◌, ◌<◌, ◌≤◌, min, Bool, true, false, List, [], ◌∷◌, ◌++◌, length}
+use Rattle.std.specs.Prelude.{take, drop, Option, Some, None, Result, Ok, Err}
+use Rattle.base_outside.specs.streams.Disk.{Only}
+use Rattle.base_outside.specs.streams.Faults.{Rose}
+use Rattle.spec_wire.specs.journal.Grammar.{IsClosed, front, AllFit, StandsFor, BreaksAt}
+use Rattle.journal.specs.declared.disk_journal.journal.JournalError.{JournalError}
+use Rattle.journal.specs.declared.disk_journal.journal.JournalError.TheVariants as errors
+
+-- A journal: its disk, how many bytes it uses with the gate at the end, how many bodies stand in it, how
+-- many of them were handed out and where the next one's gate stands, at which count of faults it stopped,
+-- and how many bytes it has room for without more memory.
+pub record JournalState (D : Type 0) : Type 0 where
+  pub disk : D
+  pub used : ℕ
+  pub count : ℕ
+  pub taken : ℕ
+  pub next : ℕ
+  pub stopped : Option ℕ
+  pub room : ℕ
+
+-- The disk holds these bodies and a closed gate, and nothing on it waits for a sync.
+pub record JournalSettled {D : Type 0} (seen : D → List ℕ) (may_leave : D → List ℕ → Type 0) (journal : JournalState D)
+    (bodies : List (List ℕ)) : Type 0 where
+  pub gate : ℕ
+  pub file : seen journal.disk ≡ front bodies ++ gate ∷ []
+  pub closed : IsClosed gate
+  pub used : journal.used ≡ length (front bodies) + 1
+  pub count : journal.count ≡ length bodies
+  pub fit : AllFit bodies
+  pub some_taken : journal.taken ≤ length bodies
+  pub next : journal.next ≡ length (front (take journal.taken bodies))
+  pub goes_on : journal.stopped ≡ None
+  pub durable : Only (seen journal.disk) (may_leave journal.disk)
+
+-- bytes that stand for these bodies, or for these and one more
+abbrev pub BeforeOrAfter : List (List ℕ) → List ℕ → List ℕ → Type 0
+BeforeOrAfter bodies body bytes = StandsFor bytes bodies ⊎ StandsFor bytes (bodies ++ body ∷ [])
+
+-- a size that stands still at the last number of 64 bits
+abbrev pub journal_capped : ℕ → ℕ
+journal_capped size = min size (2 ^ 64 - 1)
+
+-- the most bytes that a journal uses: an entry that begins an epoch may use the last 134,217,728
+abbrev pub limit_of : Bool → ℕ
+limit_of true = 1073741824
+limit_of false = 939524096
+
+-- Whether an entry of so many bytes may be added to a journal.
+abbrev pub JournalAdmits : Option ℕ → ℕ → ℕ → Bool → Result Unit JournalError → Type 0
+JournalAdmits stopped used size epoch (Ok _) = (stopped ≡ None) × (used + 5 + size ≤ limit_of epoch)
+JournalAdmits stopped used size epoch (Err errors.Memory) = ⊥
+JournalAdmits stopped used size epoch (Err (errors.DiskFault n)) = ⊥
+JournalAdmits stopped used size epoch (Err (errors.NotAJournal at)) = ⊥
+JournalAdmits stopped used size epoch (Err (errors.Full would limit)) = (stopped ≡ None) × (would ≡ journal_capped (used + 5 + size))
+    × (limit ≡ limit_of epoch) × (limit < would)
+JournalAdmits stopped used size epoch (Err (errors.Stopped n)) = stopped ≡ Some n
+
+-- an entry of so many bytes may be added
+abbrev pub Allows : {D : Type 0} → JournalState D → ℕ → Bool → Type 0
+Allows old size epoch = (old.stopped ≡ None) × (old.used + 5 + size ≤ limit_of epoch)
+
+-- nothing changed but the room, which never falls
+abbrev pub OnlyRoom : {D : Type 0} → JournalState D → JournalState D → Type 0
+OnlyRoom old new = (new ≡ record old { room = new.room }) × (old.room ≤ new.room)
+
+-- What `append` answers, and what it leaves.
+abbrev pub Appends : {D : Type 0} → (D → ℕ) → JournalState D → List ℕ → Bool → Result ℕ JournalError → JournalState D → Type 0
+Appends faults old body epoch (Ok n) new =
+    Allows old (length body) epoch × (n ≡ old.count) × (new.count ≡ old.count + 1)
+    × (new.used ≡ old.used + 5 + length body) × (new.stopped ≡ None) × (faults new.disk ≡ faults old.disk)
+    × (old.room ≤ new.room) × (new.taken ≡ old.taken) × (new.next ≡ old.next)
+Appends faults old body epoch (Err errors.Memory) new = Allows old (length body) epoch × (old.room < length body + 5) × OnlyRoom old new
+Appends faults old body epoch (Err (errors.DiskFault n)) new =
+    Allows old (length body) epoch × Rose (faults old.disk) n × (n ≡ faults new.disk) × (new.stopped ≡ Some n)
+    × (new.used ≡ old.used) × (new.count ≡ old.count) × (old.room ≤ new.room) × (new.taken ≡ old.taken)
+    × (new.next ≡ old.next)
+Appends faults old body epoch (Err (errors.NotAJournal at)) new = ⊥
+Appends faults old body epoch (Err (errors.Full would limit)) new = (old.stopped ≡ None)
+    × (would ≡ journal_capped (old.used + 5 + length body)) × (limit ≡ limit_of epoch) × (limit < would) × (new ≡ old)
+Appends faults old body epoch (Err (errors.Stopped n)) new = (old.stopped ≡ Some n) × (new ≡ old)
+
+-- What `reserve` answers, and what it leaves.
+abbrev pub Reserves : {D : Type 0} → JournalState D → ℕ → Bool → Result Unit JournalError → JournalState D → Type 0
+Reserves old size epoch (Ok _) new = Allows old size epoch × (size + 5 ≤ new.room) × OnlyRoom old new
+Reserves old size epoch (Err errors.Memory) new = Allows old size epoch × (old.room < size + 5) × OnlyRoom old new
+Reserves old size epoch (Err (errors.DiskFault n)) new = ⊥
+Reserves old size epoch (Err (errors.NotAJournal at)) new = ⊥
+Reserves old size epoch (Err (errors.Full would limit)) new = (old.stopped ≡ None)
+    × (would ≡ journal_capped (old.used + 5 + size)) × (limit ≡ limit_of epoch) × (limit < would) × (new ≡ old)
+Reserves old size epoch (Err (errors.Stopped n)) new = (old.stopped ≡ Some n) × (new ≡ old)
+
+-- A disk failed in a call that then dropped it, at this count of faults. Generic code has no such disk but by a call that failed.
+pub record FailedAt {D : Type 0} (faults : D → ℕ) (disk : D) (n : ℕ) : Type 0 where
+  pub dropped : D
+  pub count : n ≡ faults dropped
+  pub rose : Rose (faults disk) n
+
+-- What `create` answers of a disk.
+abbrev pub JournalCreates : {D : Type 0} → (D → ℕ) → D → Result (JournalState D) JournalError → Type 0
+JournalCreates faults disk (Ok journal) = (faults journal.disk ≡ faults disk) × (journal.used ≡ 9) × (journal.count ≡ 0)
+    × (journal.taken ≡ 0) × (journal.stopped ≡ None)
+JournalCreates faults disk (Err errors.Memory) = ⊥
+JournalCreates faults disk (Err (errors.DiskFault n)) = FailedAt faults disk n
+JournalCreates faults disk (Err (errors.NotAJournal at)) = ⊥
+JournalCreates faults disk (Err (errors.Full would limit)) = ⊥
+JournalCreates faults disk (Err (errors.Stopped n)) = ⊥
+
+-- What `recover` answers of a disk: a journal of the bodies that its bytes stand for, or where they break the grammar.
+abbrev pub JournalRecovers : {D : Type 0} → Type 0 → (D → List ℕ) → (D → ℕ) → D → Result (JournalState D) JournalError → Type 0
+JournalRecovers told seen faults disk (Ok journal) = (faults journal.disk ≡ faults disk) × (journal.taken ≡ 0)
+    × (journal.stopped ≡ None) × (told → (bodies : List (List ℕ)) × StandsFor (seen disk) bodies
+    × (journal.used ≡ length (front bodies) + 1) × (journal.count ≡ length bodies))
+JournalRecovers told seen faults disk (Err errors.Memory) = ⊥
+JournalRecovers told seen faults disk (Err (errors.DiskFault n)) = FailedAt faults disk n
+JournalRecovers told seen faults disk (Err (errors.NotAJournal at)) = told → BreaksAt (seen disk) at
+JournalRecovers told seen faults disk (Err (errors.Full would limit)) = ⊥
+JournalRecovers told seen faults disk (Err (errors.Stopped n)) = ⊥
+
+-- What `next_body` hands out of a journal of these bodies: each once, in order, and none exactly behind the last.
+abbrev pub HandsOut : {D : Type 0} → (D → List ℕ) → (D → List ℕ → Type 0) → JournalState D → List (List ℕ)
+    → Result (Option (List ℕ)) JournalError → JournalState D → Type 0
+HandsOut seen may_leave old bodies (Ok (Some body)) new = (drop old.taken bodies ≡ body ∷ drop new.taken bodies)
+    × JournalSettled seen may_leave new bodies
+HandsOut seen may_leave old bodies (Ok None) new = (drop old.taken bodies ≡ []) × JournalSettled seen may_leave new bodies
+HandsOut seen may_leave old bodies (Err errors.Memory) new = JournalSettled seen may_leave new bodies
+HandsOut seen may_leave old bodies (Err (errors.DiskFault n)) new = Unit {0}
+HandsOut seen may_leave old bodies (Err (errors.NotAJournal at)) new = ⊥
+HandsOut seen may_leave old bodies (Err (errors.Full would limit)) new = ⊥
+HandsOut seen may_leave old bodies (Err (errors.Stopped n)) new = ⊥
+
+-- nothing changed but the disk, which was read
+abbrev pub OnlyRead : {D : Type 0} → (D → ℕ) → JournalState D → JournalState D → Type 0
+OnlyRead faults old new = (new ≡ record old { disk = new.disk }) × (faults new.disk ≡ faults old.disk)
+
+-- the disk failed while it was read, and the journal stopped
+abbrev pub JournalStopsAt : {D : Type 0} → (D → ℕ) → ℕ → JournalState D → JournalState D → Type 0
+JournalStopsAt faults n old new = (old.stopped ≡ None) × Rose (faults old.disk) n × (n ≡ faults new.disk)
+    × (new.stopped ≡ Some n) × (new.used ≡ old.used) × (new.count ≡ old.count) × (new.room ≡ old.room)
+
+-- What `next_body` answers on any disk, and what it leaves.
+abbrev pub JournalNextAnswers : {D : Type 0} → (D → ℕ) → JournalState D → Result (Option (List ℕ)) JournalError → JournalState D → Type 0
+JournalNextAnswers faults old (Ok (Some body)) new = (old.stopped ≡ None) × (new ≡ record old {
+  disk = new.disk;
+  taken = old.taken + 1;
+  next = old.next + 5 + length body;
+}) × (new.next < new.used)
+    × (faults new.disk ≡ faults old.disk)
+JournalNextAnswers faults old (Ok None) new = (old.stopped ≡ None) × (old.next + 1 ≡ old.used) × (new ≡ old)
+JournalNextAnswers faults old (Err errors.Memory) new = (old.stopped ≡ None) × (old.next + 1 < old.used) × OnlyRead faults old new
+JournalNextAnswers faults old (Err (errors.DiskFault n)) new = JournalStopsAt faults n old new × (new.taken ≡ old.taken)
+    × (new.next ≡ old.next)
+JournalNextAnswers faults old (Err (errors.NotAJournal at)) new = (old.stopped ≡ None) × (old.next + 1 < old.used)
+    × (at ≡ old.next) × OnlyRead faults old new
+JournalNextAnswers faults old (Err (errors.Full would limit)) new = ⊥
+JournalNextAnswers faults old (Err (errors.Stopped n)) new = (old.stopped ≡ Some n) × (new ≡ old)
+
+-- What is read of a journal of these bodies until none is left.
+abbrev pub HandsOutRest : {D : Type 0} → (D → List ℕ) → (D → List ℕ → Type 0) → JournalState D → List (List ℕ)
+    → Result (List (List ℕ)) JournalError → JournalState D → Type 0
+HandsOutRest seen may_leave old bodies (Ok list) new = (list ≡ drop old.taken bodies) × JournalSettled seen may_leave new bodies
+HandsOutRest seen may_leave old bodies (Err errors.Memory) new = JournalSettled seen may_leave new bodies
+HandsOutRest seen may_leave old bodies (Err (errors.DiskFault n)) new = Unit {0}
+HandsOutRest seen may_leave old bodies (Err (errors.NotAJournal at)) new = ⊥
+HandsOutRest seen may_leave old bodies (Err (errors.Full would limit)) new = ⊥
+HandsOutRest seen may_leave old bodies (Err (errors.Stopped n)) new = ⊥
+
+-- nothing changed but the disk, which was read, and how many bodies were handed out
+abbrev pub JournalAdvances : {D : Type 0} → (D → ℕ) → JournalState D → JournalState D → Type 0
+JournalAdvances faults old new = (new ≡ record old { disk = new.disk; taken = new.taken; next = new.next })
+    × (faults new.disk ≡ faults old.disk)
+
+abbrev pub RestAnswers : {D : Type 0} → (D → ℕ) → JournalState D → Result (List (List ℕ)) JournalError → JournalState D → Type 0
+RestAnswers faults old (Ok list) new = (old.stopped ≡ None) × JournalAdvances faults old new
+RestAnswers faults old (Err errors.Memory) new = (old.stopped ≡ None) × JournalAdvances faults old new
+RestAnswers faults old (Err (errors.DiskFault n)) new = JournalStopsAt faults n old new
+RestAnswers faults old (Err (errors.NotAJournal at)) new = (old.stopped ≡ None) × (at ≡ new.next)
+    × (new.next + 1 < new.used) × JournalAdvances faults old new
+RestAnswers faults old (Err (errors.Full would limit)) new = ⊥
+RestAnswers faults old (Err (errors.Stopped n)) new = ⊥
+
+-- What `bodies` answers of a journal of these bodies: all of them.
+abbrev pub HandsOutAll : {D : Type 0} → (D → List ℕ) → (D → List ℕ → Type 0) → List (List ℕ) → Result (List (List ℕ))
+    JournalError → JournalState D → Type 0
+HandsOutAll seen may_leave bodies (Ok list) new = (list ≡ bodies) × JournalSettled seen may_leave new bodies
+HandsOutAll seen may_leave bodies (Err errors.Memory) new = JournalSettled seen may_leave new bodies
+HandsOutAll seen may_leave bodies (Err (errors.DiskFault n)) new = Unit {0}
+HandsOutAll seen may_leave bodies (Err (errors.NotAJournal at)) new = ⊥
+HandsOutAll seen may_leave bodies (Err (errors.Full would limit)) new = ⊥
+HandsOutAll seen may_leave bodies (Err (errors.Stopped n)) new = ⊥
+
+-- What `bodies` answers on any disk, and what it leaves.
+abbrev pub AllAnswers : {D : Type 0} → (D → ℕ) → JournalState D → Result (List (List ℕ)) JournalError → JournalState D → Type 0
+AllAnswers faults old (Ok list) new = (old.stopped ≡ None) × OnlyRead faults old new
+AllAnswers faults old (Err errors.Memory) new = (old.stopped ≡ None) × OnlyRead faults old new
+AllAnswers faults old (Err (errors.DiskFault n)) new = JournalStopsAt faults n old new × (new.taken ≡ old.taken) × (new.next ≡ old.next)
+AllAnswers faults old (Err (errors.NotAJournal at)) new = (old.stopped ≡ None) × (8 ≤ at) × (at + 1 < old.used) × OnlyRead faults old new
+AllAnswers faults old (Err (errors.Full would limit)) new = ⊥
+AllAnswers faults old (Err (errors.Stopped n)) new = (old.stopped ≡ Some n) × (new ≡ old)

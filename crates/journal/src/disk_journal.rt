@@ -1,0 +1,21 @@
+//! A journal on a disk that may crash at any moment. It keeps each body that was appended, or loses the
+//! last one whole.
+//!
+//! The magic `smb311j1` stands at the front, then for each body an open gate (01), its length in four
+//! bytes, the lowest first, and itself, and behind the last a closed gate. An entry is on the disk, with
+//! the next closed gate, before its own gate opens. No checksum is used.
+
+mod entry;
+mod journal;
+mod laws;
+mod list;
+mod read;
+mod recovery;
+mod start;
+
+pub use journal::{Journal, JournalError};
+pub use laws::{broken_means_nothing, one_break, one_meaning};
+pub use list::BytesList;
+pub use read::Found;
+pub use recovery::repair;
+pub use start::prepare;

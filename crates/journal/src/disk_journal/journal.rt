@@ -1,0 +1,318 @@
+// The journal.
+ghost use Rattle.std.specs.Prelude.{◌≡◌, ◌⊎◌, ℕ, ◌+◌, ◌-◌, ◌≤◌, ◌<◌, ◌^◌, List, [], ◌∷◌, ◌++◌, length, IfOk, OnOk, OnErr, vec_capacity};
+ghost use Rattle.spec_wire.specs.messages.Places.{le};
+ghost use Rattle.spec_wire.specs.journal.Grammar.{entry, StandsFor};
+ghost use Rattle.spec_wire.specs.journal.Moments.{LeavesOnly, Quiet};
+ghost use Rattle.journal.specs.disk_journal.Entry.{IsEntryNew};
+ghost use Rattle.journal.specs.disk_journal.Journal.{JournalState, JournalSettled, JournalAdmits, Appends, Reserves};
+ghost use Rattle.journal.specs.disk_journal.Journal.{JournalCreates, JournalRecovers};
+ghost use Rattle.journal.specs.disk_journal.Journal.{HandsOut, JournalNextAnswers, HandsOutRest, RestAnswers, HandsOutAll};
+ghost use Rattle.journal.specs.disk_journal.Journal.{AllAnswers, BeforeOrAfter, limit_of};
+
+use crate::disk_journal::entry::write_entry;
+use crate::disk_journal::list::BytesList;
+use crate::disk_journal::read::{Found, NoBody, read_body};
+use crate::disk_journal::{prepare, repair};
+use base_outside::Disk;
+use std::alloc::{AllocError, Global};
+use std::marker::Model;
+use thiserror::Error;
+use wire_bytes::{Bytes, FixedOut};
+
+// Entries that begin no epoch leave this much of the journal free.
+const EPOCH_ROOM: u64 = 134_217_728;
+
+const LIMIT: u64 = 1_073_741_824;
+
+// A gate behind, and a length in front.
+const AROUND: u64 = 5;
+
+/// Why a call of the journal was refused.
+#[derive(Clone, Copy, PartialEq, Eq, Debug, Drop, Error)]
+pub enum JournalError {
+    #[error("memory ran out")]
+    Memory,
+    #[error("the disk failed, and its count of faults is now {0}")]
+    DiskFault(u64),
+    #[error("the disk holds no journal: its bytes break the grammar at byte {0}")]
+    NotAJournal(u64),
+    #[error("the journal would use {0} bytes, and its limit is {1}")]
+    Full(u64, u64),
+    #[error("the journal stopped when the disk failed, at a count of {0} faults")]
+    Stopped(u64),
+}
+
+impl From<AllocError> for JournalError {
+    ghost use Rattle.std.specs.Prelude.{◌≡◌};
+    ghost use Rattle.journal.specs.declared.disk_journal.journal.JournalError.TheVariants.{Memory};
+
+    ghost from_gives = { λ _ e. e ≡ Memory };
+
+    fn from(_: AllocError) -> Self {
+        JournalError::Memory
+    }
+}
+
+/// A journal on a disk. A contract sees the disk, how many bytes of it the journal uses, how many bodies
+/// stand in it, how many of them were handed out and where the next one's gate stands, the disk's count
+/// of faults at which it stopped, and how many bytes of an entry it has room for without more memory.
+#[derive(Drop)]
+pub struct Journal<D: Disk> {
+    alloc: Global,
+    disk: D,
+    gate: u64,
+    count: u64,
+    next: u64,
+    taken: u64,
+    stopped: Option<u64>,
+    buffer: Vec<u8>,
+}
+
+impl<D: Disk> Model for Journal<D> {
+    ghost use Rattle.std.specs.Prelude.{◌+◌, ◌-◌, ◌≤◌, ◌<◌, ◌^◌, vec_capacity};
+    ghost use Rattle.journal.specs.disk_journal.Journal.{JournalState};
+
+    ghost Value = { JournalState D };
+
+    ghost view = { λ j. record {
+      disk = j.disk;
+      used = j.gate + 1;
+      count = j.count;
+      taken = j.taken;
+      next = j.next;
+      stopped = j.stopped;
+      room = vec_capacity j.buffer;
+    } };
+
+    ghost invariant = { λ j. (j.gate < 2 ^ 64 - 1) × (j.count ≤ j.gate) × (8 ≤ j.next) × (j.next ≤ j.gate) × (j.taken ≤ j.next) };
+}
+
+// Whether an entry of so many bytes may be added.
+fn admit(stopped: Option<u64>, gate: u64, length: u64, epoch: bool) -> Result<(), JournalError>
+    requires { gate < 2 ^ 64 - 1 }
+    ensures admits { JournalAdmits stopped (gate + 1) length epoch result }
+    ensures bound { OnOk result (gate + 6 + length ≤ 2 ^ 30) }
+{
+    if let Some(count) = stopped {
+        return Err(JournalError::Stopped(count));
+    }
+    let limit = if epoch { LIMIT } else { LIMIT - EPOCH_ROOM };
+    let used = gate.saturating_add(1 + AROUND).saturating_add(length);
+    if used > limit {
+        return Err(JournalError::Full(used, limit));
+    }
+    Ok(())
+}
+
+// What stands behind the gate of an entry: the length, the body and the next closed gate.
+fn fill(buffer: &mut Vec<u8>, body: &[u8]) -> Result<(), AllocError>
+    requires { length body.now < 2 ^ 32 }
+    ensures filled { OnOk result (buffer.new.items ≡ entry body.now ++ 0 ∷ []) }
+    ensures room { vec_capacity buffer.old ≤ vec_capacity buffer.new }
+    ensures full { OnErr result (vec_capacity buffer.old < length body.now + 5) }
+{
+    let mut length: FixedOut<4> = FixedOut::new();
+    length.put_u32(body.len() as u32);
+    buffer.clear();
+    buffer.extend_from_slice(&length.finish())?;
+    buffer.extend_from_slice(body)?;
+    buffer.push(0)?;
+    Ok(())
+}
+
+impl<D: Disk> Journal<D> {
+    /// Makes a new journal of a disk of at most 9 bytes on which nothing waits for a sync. A crash at any
+    /// moment leaves a disk that stands for no bodies. `DiskFault` comes only where the disk's count of
+    /// faults rose, and carries it. Where it refuses, the disk is dropped: hand in a `&mut` to keep it; what
+    /// is left of it then is said by `prepare` alone.
+    pub fn create(alloc: Global, mut disk: D) -> Result<Journal<D>, JournalError>
+    where
+        D: Drop,
+        requires { D.told → IsEntryNew (D.seen disk) (D.may_leave disk) }
+        ensures settled { IfOk result (λ journal. D.told → JournalSettled D.seen D.may_leave journal []) }
+        ensures any_moment { IfOk result (λ journal. D.told → LeavesOnly D.moment D.left_since disk journal.disk (λ c. StandsFor c [])) }
+        ensures cause { JournalCreates D.faults disk result }
+    {
+        if prepare(&mut disk).is_err() {
+            return Err(JournalError::DiskFault(disk.fault_count()));
+        }
+        Ok(Journal {
+            alloc,
+            disk,
+            gate: 8,
+            count: 0,
+            next: 8,
+            taken: 0,
+            stopped: None,
+            buffer: Vec::new(alloc),
+        })
+    }
+
+    /// Makes a journal of what a crash left: syncs, reads the gates, and cuts behind the closed one. At
+    /// most 9 bytes that are no journal are taken as a new disk. The journal has exactly the bodies that
+    /// the bytes stood for, of which none is handed out yet. A crash at any moment leaves what it could
+    /// leave before the call, or bytes that stand for the same bodies.
+    ///
+    /// `NotAJournal` carries the first byte that isn't the mark's, or the open gate whose entry doesn't
+    /// fit; then the disk was only read. `DiskFault` comes only where the disk's count of faults rose, and
+    /// carries it. Where it refuses, the disk is dropped: hand in a `&mut` to keep it; what is left of it
+    /// then is said by `repair` alone.
+    pub fn recover(alloc: Global, mut disk: D) -> Result<Journal<D>, JournalError>
+    where
+        D: Drop,
+        ensures settled { IfOk result (λ journal. D.told → (bodies : List (List ℕ)) → StandsFor (D.seen disk) bodies
+            → JournalSettled D.seen D.may_leave journal bodies) }
+        ensures any_moment { IfOk result (λ journal. D.told → (bodies : List (List ℕ)) → StandsFor (D.seen disk) bodies
+            → LeavesOnly D.moment D.left_since disk journal.disk (λ c. D.may_leave disk c ⊎ StandsFor c bodies)) }
+        ensures cause { JournalRecovers D.told D.seen D.faults disk result }
+    {
+        match repair(&mut disk) {
+            Ok(Found::Behind { gate, count }) => Ok(Journal {
+                alloc,
+                disk,
+                gate,
+                count,
+                next: 8,
+                taken: 0,
+                stopped: None,
+                buffer: Vec::new(alloc),
+            }),
+            Ok(Found::Broken(at)) => Err(JournalError::NotAJournal(at)),
+            Err(_) => Err(JournalError::DiskFault(disk.fault_count())),
+        }
+    }
+
+    /// Adds a body and answers its number, from 0. At Ok it is on the disk: from then on each crash leaves
+    /// a disk that stands for it. A crash at any moment of the call leaves a disk that stands for the
+    /// bodies before it, or for these and the new one.
+    ///
+    /// `DiskFault` comes only where the disk's count of faults rose, and carries it; from then on each call
+    /// answers `Stopped` with that count. `Full` carries the bytes that the journal would use and its
+    /// limit, which is 939,524,096, and 1,073,741,824 for a body that begins an `epoch`.
+    pub fn append(&mut self, body: &[u8], epoch: bool) -> Result<u64, JournalError>
+        ensures acknowledged { D.told → (bodies : List (List ℕ)) → JournalSettled D.seen D.may_leave self.old bodies
+            → IfOk result (λ number. (number ≡ length bodies) × JournalSettled D.seen D.may_leave self.new (bodies ++ body.now ∷ [])) }
+        ensures any_moment { D.told → (bodies : List (List ℕ)) → JournalSettled D.seen D.may_leave self.old bodies
+            → LeavesOnly D.moment D.left_since self.old.disk self.new.disk (BeforeOrAfter bodies body.now) }
+        ensures stays { D.told → (bodies : List (List ℕ)) → JournalSettled D.seen D.may_leave self.old bodies
+            → BeforeOrAfter bodies body.now (D.seen self.new.disk) }
+        ensures cause { Appends D.faults self.old body.now epoch result self.new }
+    {
+        admit(self.stopped, self.gate, body.len() as u64, epoch)?;
+        fill(&mut self.buffer, body)?;
+        if write_entry(&mut self.disk, self.gate, &self.buffer).is_err() {
+            let count = self.disk.fault_count();
+            self.stopped = Some(count);
+            return Err(JournalError::DiskFault(count));
+        }
+        self.gate += AROUND + body.len() as u64;
+        let number = self.count;
+        self.count += 1;
+        Ok(number)
+    }
+
+    /// Makes room for a body of so many bytes, and makes no call on the disk. After Ok the next `append`
+    /// of a body that is no longer, with the same `epoch`, wants no memory and isn't full.
+    pub fn reserve(&mut self, length: u32, epoch: bool) -> Result<(), JournalError>
+        ensures { Reserves self.old length epoch result self.new }
+    {
+        admit(self.stopped, self.gate, length as u64, epoch)?;
+        self.buffer.clear();
+        self.buffer.reserve(length as usize + 5)?;
+        Ok(())
+    }
+
+    /// The next body, in order, and `None` exactly where all were handed out. One that is appended before
+    /// comes last. It reads that entry alone.
+    ///
+    /// `DiskFault` comes only where the disk's count of faults rose, and carries it; from then on each call
+    /// answers `Stopped` with that count. After `Memory` nothing was handed out. `NotAJournal` with the
+    /// entry's gate comes only on a disk that no longer gives what was written.
+    pub fn next_body(&mut self) -> Result<Option<Bytes>, JournalError>
+        ensures in_order { D.told → (bodies : List (List ℕ)) → JournalSettled D.seen D.may_leave self.old bodies
+            → HandsOut D.seen D.may_leave self.old bodies result self.new }
+        ensures quiet { Quiet D.told D.seen D.may_leave D.moment D.left_since self.old.disk self.new.disk }
+        ensures cause { JournalNextAnswers D.faults self.old result self.new }
+    {
+        if let Some(count) = self.stopped {
+            return Err(JournalError::Stopped(count));
+        }
+        if self.next == self.gate {
+            return Ok(None);
+        }
+        match read_body(self.alloc, &mut self.disk, self.next, self.gate) {
+            Ok(body) => {
+                self.next += AROUND + body.len() as u64;
+                self.taken += 1;
+                Ok(Some(body))
+            }
+            Err(NoBody::Memory) => Err(JournalError::Memory),
+            Err(NoBody::Failed) => {
+                let count = self.disk.fault_count();
+                self.stopped = Some(count);
+                Err(JournalError::DiskFault(count))
+            }
+            Err(NoBody::EndsEarly) => Err(JournalError::NotAJournal(self.next)),
+        }
+    }
+
+    // All that were not handed out yet.
+    fn rest(&mut self) -> Result<BytesList, JournalError>
+        requires { self.old.stopped ≡ None }
+        ensures in_order { D.told → (bodies : List (List ℕ)) → JournalSettled D.seen D.may_leave self.old bodies
+            → HandsOutRest D.seen D.may_leave self.old bodies result self.new }
+        ensures quiet { Quiet D.told D.seen D.may_leave D.moment D.left_since self.old.disk self.new.disk }
+        ensures cause { RestAnswers D.faults self.old result self.new }
+    {
+        let mut list = BytesList::new(self.alloc);
+        loop {
+            match self.next_body() {
+                Ok(Some(body)) => list.push(body)?,
+                Ok(None) => return Ok(list),
+                Err(error) => return Err(error),
+            }
+        }
+    }
+
+    /// All bodies, in order, whatever was handed out; that stays as it was. Its answers are those of
+    /// `next_body`.
+    pub fn bodies(&mut self) -> Result<BytesList, JournalError>
+        ensures all { D.told → (bodies : List (List ℕ)) → JournalSettled D.seen D.may_leave self.old bodies
+            → HandsOutAll D.seen D.may_leave bodies result self.new }
+        ensures quiet { Quiet D.told D.seen D.may_leave D.moment D.left_since self.old.disk self.new.disk }
+        ensures cause { AllAnswers D.faults self.old result self.new }
+    {
+        if let Some(count) = self.stopped {
+            return Err(JournalError::Stopped(count));
+        }
+        let next = self.next;
+        let taken = self.taken;
+        self.next = 8;
+        self.taken = 0;
+        let answer = self.rest();
+        self.next = next;
+        self.taken = taken;
+        answer
+    }
+
+    /// How many bytes the journal uses, with the gate at its end.
+    pub fn used(&self) -> u64
+        ensures { result ≡ self.now.used }
+    {
+        self.gate + 1
+    }
+
+    /// Where the gate stands of the body that `next_body` hands out next; where all were, that of the closed one behind the last.
+    pub fn next_gate(&self) -> u64
+        ensures { result ≡ self.now.next }
+    {
+        self.next
+    }
+
+    /// Hands back the disk.
+    pub fn stop(self) -> D
+        ensures { result ≡ self.disk }
+    {
+        self.disk
+    }
+}

@@ -1,0 +1,15 @@
+//! The journal's records as bytes, and a journal on a disk that may crash at any moment. It is a room because it knows
+//! no table of the server. The server's records and recovery stand on it.
+#![tactic(auto)]
+
+mod disk_journal;
+pub mod record_bytes;
+
+pub use disk_journal::{
+    BytesList, Found, Journal, JournalError, broken_means_nothing, one_break, one_meaning, prepare,
+    repair,
+};
+pub use record_bytes::{
+    Basic, NewOpen, Origin, Record, RecordError, Records, can_write, read_records, records_law,
+    write_records,
+};

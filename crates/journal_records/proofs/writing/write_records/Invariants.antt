@@ -1,6 +1,0 @@
-use Rattle.std.proofs.Common.{◌≡◌, take, flat_map}
-use Rattle.journal_records.specs.Grammar.{record_spelling}
-use Rattle.journal_records.proofs.writing.write_records.Given as goal
-
-abbrev pub invariant-loop-r : goal.invariant-loop-r
-invariant-loop-r l = l.out ≡ flat_map record_spelling (take l.r-index l.records)

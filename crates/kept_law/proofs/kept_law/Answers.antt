@@ -1,5 +1,0 @@
-use Rattle.kept_law.proofs.Kept.{rows_kept, rows_kept_alone, rows_kept_behind}
-use Rattle.kept_law.proofs.kept_law.Goals as goal
-
-pub returns : goal.returns
-returns c = record { stepped = rows_kept; alone = rows_kept_alone; behind = rows_kept_behind }

@@ -1,0 +1,5 @@
+pub mod completeness
+pub mod answers
+pub mod waiting_dialogs
+pub mod sealing_logons
+pub mod statuses

@@ -1,0 +1,98 @@
+ghost use Rattle.std.specs.Prelude.{◌≡◌, ◌^◌, ◌∷◌, ◌<◌, ◌++◌, ℕ, Bool, List, length, None, Some};
+ghost use Rattle.spec_wire.specs.messages.Utf16.{utf16};
+ghost use Rattle.spec_wire.specs.messages.Ioctl.{ioctl_response_fault, ioctl_response_in};
+ghost use Rattle.spec_wire.specs.messages.QueryInfo.{query_info_response_fault, query_info_response_in};
+ghost use Rattle.spec_wire.specs.messages.Interfaces.{network_interface_fault, network_interface_in};
+ghost use Rattle.spec_wire.specs.messages.FileClasses as files;
+ghost use Rattle.spec_wire.specs.messages.VolumeClasses as volumes;
+ghost use Rattle.spec_exchange.specs.Commands.{Close, Ioctl, QueryFile, QueryVolume};
+ghost use Rattle.spec_exchange.specs.State.{Info, Address, Closed, Empty, Interfaces, FileInfo, VolumeInfo};
+ghost use Rattle.spec_commands.specs.Infos as infos;
+ghost use Rattle.spec_commands.specs.ReplyBody.{success_body, interfaces_value};
+ghost use Rattle.spec_commands.specs.ReplyOf.{body_in};
+ghost use Rattle.law_commands.specs.commands.Fitting.{IsInfo};
+
+use law_wire::{
+    close_response_law, file_all_information_law, file_basic_information_law,
+    file_fs_attribute_information_law, file_fs_device_information_law,
+    file_fs_full_size_information_law, file_fs_size_information_law,
+    file_fs_volume_information_law, file_internal_information_law,
+    file_network_open_information_law, ioctl_response_law, network_interface_law,
+    query_info_response_law,
+};
+
+/// What this client doesn't look at reads back all the same by the tables of the messages: the output of a QUERY_INFO's
+/// response, and an IOCTL's response. A CLOSE's times and lengths are passed over.
+pub fn output_law()
+    ensures volume { (header rest token : List ℕ) (file class room told size used : ℕ) → length header ≡ 64
+        → let m = header ++ (success_body token (QueryVolume file class room) (VolumeInfo told size used) ++ rest)
+        in (query_info_response_fault m ≡ None)
+        × ((query_info_response_in m).output ≡ infos.volume_bytes told size used) }
+    ensures file { (header rest token : List ℕ) (file class room told : ℕ) (path : List ℕ) (info : Info)
+        (access options : ℕ) → length header ≡ 64 → length (infos.file_bytes told path info access options) < 256 ^ 4
+        → let m = header ++ (success_body token (QueryFile file class room) (FileInfo told path info access options)
+        ++ rest) in (query_info_response_fault m ≡ None)
+        × ((query_info_response_in m).output ≡ infos.file_bytes told path info access options) }
+    ensures ioctl { (header rest token : List ℕ) (file code room : ℕ) (address : Address) → length header ≡ 64
+        → code < 256 ^ 4
+        → let m = header ++ (success_body token (Ioctl file code room) (Interfaces address) ++ rest)
+        in (ioctl_response_fault m ≡ None) × (ioctl_response_in m ≡ interfaces_value file code address) }
+    ensures close { (header rest token : List ℕ) (file : ℕ) (query : Bool) (info : Info) → length header ≡ 64
+        → IsInfo info
+        → body_in (Close file query) (header ++ (success_body token (Close file query) (Closed info) ++ rest))
+        ≡ Some Empty }
+{
+    query_info_response_law();
+    ioctl_response_law();
+    close_response_law();
+}
+
+/// The output reads as the class that it tells: of a volume 1, 3, 4, 5 and 7, of a file 4, 6, 18 and 34 (5 is what this client
+/// asks, by `reply_law`), and of an IOCTL the interface.
+pub fn class_law()
+    ensures volume { (room used : ℕ)
+        → (volumes.file_fs_volume_information_fault (infos.volume_bytes 1 room used) ≡ None)
+        × (volumes.file_fs_volume_information_in (infos.volume_bytes 1 room used) ≡ infos.volume_value) }
+    ensures size { (room used : ℕ) → room < 256 ^ 8
+        → (volumes.file_fs_size_information_fault (infos.volume_bytes 3 room used) ≡ None)
+        × (volumes.file_fs_size_information_in (infos.volume_bytes 3 room used) ≡ infos.sizes_of room used) }
+    ensures device { (room used : ℕ)
+        → (volumes.file_fs_device_information_fault (infos.volume_bytes 4 room used) ≡ None)
+        × (volumes.file_fs_device_information_in (infos.volume_bytes 4 room used)
+        ≡ record { device_type = 7; characteristics = 0x20 }) }
+    ensures system { (room used : ℕ)
+        → (volumes.file_fs_attribute_information_fault (infos.volume_bytes 5 room used) ≡ None)
+        × (volumes.file_fs_attribute_information_in (infos.volume_bytes 5 room used) ≡ infos.file_system) }
+    ensures full_size { (room used : ℕ) → room < 256 ^ 8
+        → (volumes.file_fs_full_size_information_fault (infos.volume_bytes 7 room used) ≡ None)
+        × (volumes.file_fs_full_size_information_in (infos.volume_bytes 7 room used) ≡ infos.full_sizes_of room used) }
+    ensures basic { (path : List ℕ) (i : Info) (access options : ℕ) → IsInfo i
+        → (files.file_basic_information_fault (infos.file_bytes 4 path i access options) ≡ None)
+        × (files.file_basic_information_in (infos.file_bytes 4 path i access options) ≡ infos.basic_of i) }
+    ensures internal { (path : List ℕ) (i : Info) (access options : ℕ) → IsInfo i
+        → (files.file_internal_information_fault (infos.file_bytes 6 path i access options) ≡ None)
+        × (files.file_internal_information_in (infos.file_bytes 6 path i access options)
+        ≡ record { index_number = i.file }) }
+    ensures all { (path : List ℕ) (i : Info) (access options : ℕ) → IsInfo i → length (utf16 (92 ∷ path)) < 256 ^ 4
+        → access < 256 ^ 4 → (files.file_all_information_fault (infos.file_bytes 18 path i access options) ≡ None)
+        × (files.file_all_information_in (infos.file_bytes 18 path i access options)
+        ≡ infos.all_of path i access options) }
+    ensures network_open { (path : List ℕ) (i : Info) (access options : ℕ) → IsInfo i
+        → (files.file_network_open_information_fault (infos.file_bytes 34 path i access options) ≡ None)
+        × (files.file_network_open_information_in (infos.file_bytes 34 path i access options)
+        ≡ infos.network_open_of i) }
+    ensures interface { (address : Address) → address.ip < 256 ^ 4
+        → (network_interface_fault (infos.interface_bytes address) ≡ None)
+        × (network_interface_in (infos.interface_bytes address) ≡ infos.interface_of address) }
+{
+    file_fs_volume_information_law();
+    file_fs_size_information_law();
+    file_fs_device_information_law();
+    file_fs_attribute_information_law();
+    file_fs_full_size_information_law();
+    file_basic_information_law();
+    file_internal_information_law();
+    file_all_information_law();
+    file_network_open_information_law();
+    network_interface_law();
+}

@@ -1,0 +1,261 @@
+-- An answer that owes no record leaves the files as they are.
+use Rattle.std.proofs.lemmas.Bool.{eqb-false}
+use Rattle.std.proofs.Common.{eqb-true, ◌≡◌, ℕ, ◌==◌, Bool, true, false, not, ◌&&◌, if◌then◌else◌, List, [], ◌∷◌, ◌++◌}
+use Rattle.std.proofs.Common.{Option, Some, None, is_some, refl, arith, sym, ◌∙◌, ap, subst}
+use Rattle.std.proofs.lemmas.Bool.Decides.{nat_tests}
+use Rattle.spec_exchange.specs.Table.{put, has, placed_in}
+use Rattle.spec_exchange.specs.Commands.{CreateRequest, deletes_on_close, asks_directory}
+use Rattle.spec_exchange.specs.State.{Server, Message, Open, Record, Origin, CreateRecord, DeleteRecord, RemoveRecord, CloseRecord, Kept}
+use Rattle.spec_exchange.specs.Files.{set_delete_pending}
+use Rattle.spec_exchange.specs.Opens.{goes, drop_open, leave_open, pending_behind, leave_records, pending_records}
+use Rattle.spec_exchange.specs.Opens.{shut_records, gone_records}
+use Rattle.spec_exchange.specs.CheckCreate.{empties, action_on_found}
+use Rattle.spec_exchange.specs.CheckOpen.{is_late, is_slot, file_of}
+use Rattle.spec_exchange.specs.Records.{origin_of}
+use Rattle.spec_exchange.specs.Effects.{apply, reach, attached, keep_closed, keep_slot, set_ranges, change_file}
+use Rattle.spec_exchange.specs.Effects.{change_records, create_records, make_open, file_made, is_persistent, next_open}
+use Rattle.spec_exchange.specs.Effects.{open_row, new_file, end_session, end_if_named, files_behind, leave_all}
+use Rattle.spec_exchange.specs.Effects.{leave_all_records, end_records, records_if_named, plain_of, leaves, new_open}
+use Rattle.spec_exchange.specs.Verdict.{Verdict, Refuse, Give, KeepRefusal, Repeat, Attach, Make, TurnDown, Tell, Show}
+use Rattle.spec_exchange.specs.Verdict.{KeepSlot, PutRanges, Alter, CloseOpen, Challenge, ChallengeBinding, Begin, Join}
+use Rattle.spec_exchange.specs.Verdict.{EndSession, AddTree, DropTree, Change, PutBytes, PutEnd, PutBasic}
+use Rattle.spec_exchange.specs.Verdict.{PutDeletePending, PutPath, PutNothing}
+use Rattle.law_server.proofs.tables.Logic.{either, front_of}
+use Rattle.law_server.proofs.tables.Lists.{has-placed, has-without, has-staying}
+use Rattle.law_server.proofs.tables.Found.{Facts, MakeFacts}
+use Rattle.law_locks.proofs.Steady.{Steady, steady_same, steady_on}
+
+steady_self : (t : Server) → Steady t t
+steady_self t = steady_same t t refl refl refl refl refl
+
+steady_if : (t : Server) (b : Bool) (x y : Server) → (b ≡ true → Steady t x) → (b ≡ false → Steady t y) → Steady t (if b then x else y)
+steady_if t b x y f g = either (λ u. Steady t u) b x y f g
+
+-- ---- an open that leaves
+
+no_front : (xs ys : List Record) → xs ++ ys ≡ [] → xs ≡ []
+no_front [] ys e = refl
+no_front (x ∷ xs) ys e = absurd (cc)
+
+no_back : (xs ys : List Record) → xs ++ ys ≡ [] → ys ≡ []
+no_back [] ys e = e
+no_back (x ∷ xs) ys e = absurd (cc)
+
+plain_if : (s : Server) (origin : Origin) (o : ℕ) → shut_records s origin o ≡ [] → (s.opened o).persistent ≡ false
+unfolding shut_records
+plain_if s origin o e = of_bool (s.opened o).persistent e
+  where
+    of_bool : (b : Bool) → (if b then CloseRecord origin o ∷ [] else []) ≡ [] → b ≡ false
+    of_bool true e = absurd (cc)
+    of_bool false e = refl
+
+pending_if : (s : Server) (origin : Origin) (o : ℕ) → pending_records s origin o ≡ [] → (s.opened o).persistent ≡ false
+    → deletes_on_close (s.opened o).options ≡ true → s.delete_pending (s.opened o).file ≡ true
+unfolding pending_records
+pending_if s origin o e p d = of_bools (s.opened o).persistent (deletes_on_close (s.opened o).options)
+    (s.delete_pending (s.opened o).file) e p d
+  where
+    of_bools : (a b c : Bool) → (if not a && (b && not c) then DeleteRecord origin (s.opened o).file true ∷ [] else [])
+        ≡ [] → a ≡ false → b ≡ true → c ≡ true
+    of_bools false true true e p d = refl
+    of_bools false true false e p d = absurd (cc)
+    of_bools false false c e p d = absurd (cc)
+    of_bools true b c e p d = absurd (cc)
+
+stays_if : (s : Server) (origin : Origin) (f : ℕ) → gone_records s origin f ≡ [] → goes s f ≡ false
+unfolding gone_records
+stays_if s origin f e = of_bool (goes s f) e
+  where
+    of_bool : (b : Bool) → (if b then RemoveRecord origin f ∷ [] else []) ≡ [] → b ≡ false
+    of_bool true e = absurd (cc)
+    of_bool false e = refl
+
+set_pending_steady : (s : Server) (f : ℕ) → s.delete_pending f ≡ true → Steady s (set_delete_pending s f true)
+set_pending_steady s f m = record { entries = refl; delete_pending = λ g. grind arith; directory = λ g. refl; others = λ p g h k l. (h, k) }
+
+drop_steady : (s : Server) (o : ℕ) → Steady s (drop_open s o)
+drop_steady s o = record {
+  entries = refl;
+  delete_pending = λ g. refl;
+  directory = λ g. refl;
+  others = λ p g h k l. (let w = has-without p o s.opens in grind arith, k);
+}
+
+pending_steady : (s : Server) (o : ℕ) → (deletes_on_close (s.opened o).options ≡ true
+    → s.delete_pending (s.opened o).file ≡ true) → Steady s (pending_behind s o)
+pending_steady s o m = steady_if s (deletes_on_close (s.opened o).options) _ _
+    (λ d. set_pending_steady s (s.opened o).file (m d)) (λ _. steady_self s)
+
+pub leave_steady : (s : Server) (origin : Origin) (o : ℕ) → leave_records s origin o ≡ [] → Steady s (leave_open s o)
+unfolding leave_records
+leave_steady s origin o e =
+    let b = no_back (pending_records s origin o) _ e in
+    let p = plain_if s origin o (no_front (shut_records s origin o) _ b) in
+    let g = stays_if (drop_open (pending_behind s o) o) origin (s.opened o).file (no_back (shut_records s origin o) _ b) in
+    either (λ u. Steady s u) (goes (drop_open (pending_behind s o) o) (s.opened o).file) _ _ (λ t. absurd (grind arith))
+    (λ _. steady_on s (pending_behind s o) (drop_open (pending_behind s o) o)
+    (pending_steady s o (pending_if s origin o (no_front (pending_records s origin o) _ e) p))
+    (drop_steady (pending_behind s o) o))
+
+leave_all_steady : (s : Server) (origin : Origin) (os : List ℕ) → leave_all_records s origin os ≡ [] → Steady s (leave_all s os)
+unfolding leave_all_records leave_all
+leave_all_steady s origin [] e = steady_self s
+leave_all_steady s origin (o ∷ os) e =
+    steady_on s (leave_open s o) _ (leave_steady s origin o (no_front (leave_records s origin o) _ e))
+    (leave_all_steady (leave_open s o) origin os (no_back (leave_records s origin o) _ e))
+
+-- ---- a session that ends
+
+behind_steady : (s : Server) (origin : Origin) (session : ℕ) (quiet : Bool) → end_records s origin session quiet ≡ []
+    → Steady s (files_behind s session quiet)
+unfolding end_records
+behind_steady s origin session true e = steady_self s
+behind_steady s origin session false e = leave_all_steady s origin (plain_of s session) e
+
+pub end_steady : (s : Server) (origin : Origin) (session now : ℕ) (quiet : Bool) → end_records s origin session quiet
+    ≡ [] → Steady s (end_session s session now quiet)
+end_steady s origin session now quiet e =
+    let b = behind_steady s origin session quiet e in
+    record {
+      entries = b.entries;
+      delete_pending = b.delete_pending;
+      directory = λ f. refl;
+      others = λ p f h k l. (let w = has-staying s session p s.opens in front_of (has p s.opens) (not (leaves s session p)) (sym w ∙ h), k);
+    }
+
+pub named_steady : (s : Server) (origin : Origin) (now : ℕ) (named : Option ℕ) (quiet : Bool)
+    → records_if_named s origin named quiet ≡ [] → Steady s (end_if_named s now named quiet)
+named_steady s origin now None quiet e = steady_self s
+named_steady s origin now (Some session) quiet e = end_steady s origin session now quiet e
+
+-- ---- the verdicts
+
+reach_steady : (t : Server) (m : Message) (o : ℕ) → Steady t (reach t m o)
+reach_steady t m o = steady_if t (is_late t m o) _ _ (λ _. steady_self t) (λ _. steady_same t _ refl refl refl refl refl)
+
+slot_steady : (t s : Server) (o index number status : ℕ) → Steady t s → Steady t (keep_slot s o index number status)
+slot_steady t s o index number status st =
+    steady_if t (is_slot index) _ _ (λ _. record {
+      entries = st.entries;
+      delete_pending = st.delete_pending;
+      directory = st.directory;
+      others = st.others;
+    }) (λ _. st)
+
+attached_steady : (t : Server) (m : Message) (o : ℕ) → Steady t (attached t m o)
+attached_steady t m o = steady_if t (is_some (t.session_of_open o)) _ _ (λ _. steady_self t) (λ _. steady_same t _ refl refl refl refl refl)
+
+closed_steady : (t s : Server) (x : ℕ) (q : Option ℕ) → Steady t s → Steady t (keep_closed s x q)
+closed_steady t s x None st = st
+closed_steady t s x (Some g) st = record {
+  entries = st.entries;
+  delete_pending = st.delete_pending;
+  directory = st.directory;
+  others = st.others;
+}
+
+change_steady : (t s : Server) (m : Message) (f now : ℕ) (change : Change) → Steady t s → change_records m f now change
+    ≡ [] → Steady t (change_file s f now change)
+unfolding change_records
+change_steady t s m f now (PutBytes at bytes) st e = absurd (cc)
+change_steady t s m f now (PutEnd size) st e = absurd (cc)
+change_steady t s m f now (PutBasic basic) st e = absurd (cc)
+change_steady t s m f now (PutDeletePending flag) st e = absurd (cc)
+change_steady t s m f now (PutPath replaced path) st e = absurd (cc)
+change_steady t s m f now PutNothing st e = st
+
+opened_there : (s : Server) (m : Message) (r : CreateRequest) (found : Option ℕ) (action now : ℕ)
+    → create_records s m r found action now ≡ [] → action ≡ 1
+unfolding create_records
+opened_there s m r found action now e = of_bool (action == 1) (is_persistent r.durable) (λ h. eqb-true action 1 h) e
+  where
+    of_bool : (a p : Bool) → (a ≡ true → action ≡ 1)
+        → (if a && not p then [] else CreateRecord (origin_of m) action (new_file s found) r.path r.attributes
+        (asks_directory r) now (new_open s m r r.durable) ∷ []) ≡ [] → action ≡ 1
+    of_bool true p h e = h refl
+    of_bool false p h e = absurd (cc)
+
+no_emptying : (d : ℕ) → action_on_found d ≡ 1 → empties d ≡ false
+no_emptying d e = grind (arith, nat_tests)
+
+new_steady : (t : Server) (o f : ℕ) (row : Open) (by : ℕ → ℕ → Option ℕ) (slots : ℕ → ℕ → Option Kept) (u : Server)
+    → row.file ≡ f → t.delete_pending f ≡ false
+    → u.entries ≡ t.entries → u.delete_pending ≡ t.delete_pending → u.directory ≡ t.directory → u.opens
+    ≡ placed_in o t.opens → u.opened ≡ put t.opened o row → Steady t u
+new_steady t o f row by slots u file not_pending e m d os op =
+    record {
+      entries = e;
+      delete_pending = λ g. ap (λ z. z g) m;
+      directory = λ g. ap (λ z. z g) d;
+      others = λ p g h k l. other p g (sym (has-placed p o t.opens) ∙ subst (λ z. has p z ≡ true) os h)
+          (subst (λ z. (z p).file ≡ g) op k) l;
+    }
+  where
+    other : (p g : ℕ) → (if o == p then true else has p t.opens) ≡ true → (put t.opened o row p).file ≡ g
+        → t.delete_pending g ≡ true → has p t.opens ≡ true × (t.opened p).file ≡ g
+    other p g h k l = elim (p == o) as (λ b. p == o ≡ b → has p t.opens ≡ true × (t.opened p).file ≡ g) [
+      | true ↦ λ q. let same : p ≡ o = eqb-true p o q in absurd (grind arith)
+      | false ↦ λ q. let apart = eqb-false p o q in (grind arith, grind arith)
+    ] refl
+
+made_steady : (t : Server) (m : Message) (r : CreateRequest) (found : Option ℕ) (action now : ℕ)
+    → MakeFacts t m r found action → create_records t m r found action now ≡ []
+    → Steady t (make_open t m r found action now)
+made_steady t m r None action now f e = let one = opened_there t m r None action now e in let two = f.action_is in absurd (grind arith)
+made_steady t m r (Some g) action now f e =
+    let one = opened_there t m r (Some g) action now e in
+    let off = no_emptying r.disposition (sym f.action_is ∙ one) in
+    let th = f.there g refl in
+    by_kind (empties r.disposition) refl off th.not_pending
+  where
+    by_kind : (b : Bool) → empties r.disposition ≡ b → empties r.disposition ≡ false → t.delete_pending g ≡ false
+        → Steady t (make_open t m r (Some g) action now)
+    by_kind true e off un = absurd (grind arith)
+    by_kind false e off un =
+        let same : file_made t r (Some g) now ≡ t = rw e refl in
+        new_steady t (next_open t) g (open_row t m r g action) t.by_guid t.lock_sequences (make_open t m r (Some g) action now) refl un
+        (ap (λ s. s.entries) same) (ap (λ s. s.delete_pending) same) (ap (λ s. s.directory) same)
+        (ap (λ s. placed_in (next_open t) s.opens) same)
+        (ap (λ s. put s.opened (next_open t) (open_row t m r g action)) same)
+
+pub bare_steady : (t : Server) (m : Message) (now : ℕ) (v : Verdict) → Facts t m v → (apply t m now v).records ≡ []
+    → Steady t (apply t m now v).server
+bare_steady t m now (Refuse status) f e = steady_self t
+bare_steady t m now (Give body) f e = steady_self t
+bare_steady t m now (KeepRefusal guid status) f e = steady_same t _ refl refl refl refl refl
+bare_steady t m now (Repeat o r) f e = attached_steady t m o
+bare_steady t m now (Attach o r) f e = attached_steady t m o
+bare_steady t m now (Make r found action) f e = made_steady t m r found action now f e
+bare_steady t m now (TurnDown o status) f e = reach_steady t m o
+bare_steady t m now (Tell o body) f e = reach_steady t m o
+bare_steady t m now (Show o last body) f e = let st = reach_steady t m o in record {
+  entries = st.entries;
+  delete_pending = st.delete_pending;
+  directory = st.directory;
+  others = st.others;
+}
+bare_steady t m now (KeepSlot o index number status elements) f e = slot_steady t (reach t m o) o index number status (reach_steady t m o)
+bare_steady t m now (PutRanges o index number ranges elements) f e =
+    let st = reach_steady t m o in slot_steady t (set_ranges (reach t m o) (file_of t o) ranges) o index number 0
+    (record {
+      entries = st.entries;
+      delete_pending = st.delete_pending;
+      directory = st.directory;
+      others = st.others;
+    })
+bare_steady t m now (Alter o change body) f e = change_steady t (reach t m o) m (file_of t o) now change (reach_steady t m o) e
+bare_steady t m now (CloseOpen o body) f e = closed_steady t (leave_open t o) m.session_id (t.opened o).create_guid
+    (leave_steady t (origin_of m) o e)
+bare_steady t m now Challenge f e = steady_same t _ refl refl refl refl refl
+bare_steady t m now (ChallengeBinding session) f e = steady_same t _ refl refl refl refl refl
+bare_steady t m now (Begin session user previous r is_quiet) f e =
+    let st = named_steady t (origin_of m) now previous is_quiet e in record {
+      entries = st.entries;
+      delete_pending = st.delete_pending;
+      directory = st.directory;
+      others = st.others;
+    }
+bare_steady t m now (Join session) f e = steady_same t _ refl refl refl refl refl
+bare_steady t m now (EndSession session is_quiet) f e = end_steady t (origin_of m) session now is_quiet e
+bare_steady t m now (AddTree pipes) f e = steady_same t _ refl refl refl refl refl
+bare_steady t m now DropTree f e = steady_same t _ refl refl refl refl refl

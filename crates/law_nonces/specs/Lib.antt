@@ -1,0 +1,3 @@
+pub mod negotiation
+pub mod server_nonces
+pub mod client_nonces

@@ -1,0 +1,4 @@
+pub mod invariant
+pub mod refusals
+pub mod outcomes
+pub mod scripts

@@ -1,0 +1,5 @@
+use Rattle.law_records.proofs.leaving_opens.Left.{begun}
+use Rattle.law_records.proofs.leaving_opens.laws.begun_law.Goals as goal
+
+pub returns : goal.returns
+returns c = begun

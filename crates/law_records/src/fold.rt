@@ -1,0 +1,6 @@
+//! What a fold of records finds behind each of them: a file that was just made or emptied, files in the order of their
+//! numbers, and what a new epoch sweeps away.
+
+mod laws;
+
+pub use laws::{created_law, form_law, ordered_law, shut_law, swept_law};

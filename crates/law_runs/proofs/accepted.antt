@@ -1,0 +1,4 @@
+pub mod Minds
+pub mod Takes
+pub mod Serves
+pub mod Runs

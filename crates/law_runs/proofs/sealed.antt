@@ -1,0 +1,5 @@
+pub mod Spelled
+pub mod Sent
+pub mod Takes
+pub mod Serves
+pub mod Runs

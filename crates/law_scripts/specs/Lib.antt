@@ -1,0 +1,9 @@
+pub mod script_setup
+pub mod schedules
+pub mod settings_fit
+pub mod script_runs
+pub mod settling
+pub mod quiet_runs
+pub mod headline
+pub mod generated
+pub mod drill

@@ -1,0 +1,339 @@
+-- What the journal's records say of sessions: a fold of them stands in the server's epoch, has no session, and its opens
+-- are this client's.
+use Rattle.std.proofs.Common.{◌≡◌, ℕ, ◌+◌, ◌==◌, nat_le, nat_lt, Bool, true, false, not, ◌&&◌, ◌||◌, if◌then◌else◌}
+use Rattle.std.proofs.Common.{List, [], ◌∷◌, ◌++◌, refl, arith, sym, subst, ◌∙◌, ap, Option, Some, None, length}
+use Rattle.spec_exchange.specs.Table.{put}
+use Rattle.spec_exchange.specs.Status.{success}
+use Rattle.spec_exchange.specs.Content.{written, ended, is_empty}
+use Rattle.spec_exchange.specs.Commands.{Element, all_lock, all_unlock}
+use Rattle.spec_exchange.specs.State.{Server, Entry, Open, Record, NewOpen, EpochRecord, CreateRecord, WriteRecord}
+use Rattle.spec_exchange.specs.State.{EndRecord, BasicRecord, DeleteRecord, RenameRecord, RemoveRecord, LockRecord}
+use Rattle.spec_exchange.specs.State.{CloseRecord, VersionRecord, ExpireRecord}
+use Rattle.spec_exchange.specs.Files.{root, find, exists, passes_room, make_file, set_content, empty_file}
+use Rattle.spec_exchange.specs.Files.{set_delete_pending, store_basic, remove_file, rename_file}
+use Rattle.spec_exchange.specs.Ranges.{RangeAnswer, Stands, Denied, change_ranges}
+use Rattle.spec_exchange.specs.Opens.{pending_behind, without_gone}
+use Rattle.spec_exchange.specs.CheckOpen.{target_of, file_of}
+use Rattle.spec_exchange.specs.Effects.{keep_slot, set_ranges}
+use Rattle.spec_exchange.specs.Step.{add_expired_guid, max_expired_guids}
+use Rattle.spec_exchange.specs.Fold.{fold, fold_from, with_record, nothing_yet, begin_epoch, set_version, sweep}
+use Rattle.spec_exchange.specs.Fold.{may_create, may_have_open, restore, restored_row, created_file, is_file}
+use Rattle.spec_exchange.specs.Fold.{may_rename, may_remove, lock_recorded, lock_granted, shut_recorded}
+use Rattle.spec_exchange.specs.Fold.{recovery_records, opening_records}
+use Rattle.law_server.proofs.tables.Logic.{either}
+use Rattle.law_sessions.proofs.sessions.Columns.{Stays, stays_same, stays_so, stays_pending, stays_dropped, stays_gone}
+use Rattle.law_sessions.proofs.sessions.Columns.{stays_kept, stays_ranged, stays_noted}
+
+-- ---- records that a step owes: no epoch begins, and an open is this client's
+
+abbrev pub OwnOpen : ℕ → List ℕ → Option NewOpen → Type 0
+OwnOpen guid user None = Unit {0}
+OwnOpen guid user (Some n) = n.client_guid ≡ guid × n.user ≡ user
+
+abbrev pub OwnRecord : ℕ → List ℕ → Record → Type 0
+OwnRecord guid user (EpochRecord number) = ⊥
+OwnRecord guid user (CreateRecord origin action file path attributes is_dir time opened) = OwnOpen guid user opened
+OwnRecord guid user _ = Unit {0}
+
+unfoldable pub Clean : ℕ → List ℕ → List Record → Type 0
+Clean guid user [] = Unit {0}
+Clean guid user (r ∷ rs) = OwnRecord guid user r × Clean guid user rs
+
+pub clean_more : (guid : ℕ) (user : List ℕ) (xs ys : List Record) → Clean guid user xs → Clean guid user ys → Clean guid user (xs ++ ys)
+unfolding Clean
+clean_more guid user [] ys a b = b
+clean_more guid user (x ∷ xs) ys a b = (a.0, clean_more guid user xs ys a.1 b)
+
+-- ---- the fold
+
+pub record Folds (guid : ℕ) (user : List ℕ) (number : ℕ) (d : Server) : Type 0 where
+  pub epoch : d.epoch ≡ number
+  pub present : (x : ℕ) → d.present x ≡ false
+  pub making : (k : ℕ) → d.making k ≡ None
+  pub opens : (o : ℕ) → d.standing o ≡ true → (d.opened o).user ≡ user × (d.opened o).client_guid ≡ guid
+
+fold_stays : (guid : ℕ) (user : List ℕ) (epoch : ℕ) (d t : Server) → Stays d t → Folds guid user epoch d → Folds guid user epoch t
+fold_stays guid user epoch d t q f =
+    record {
+      epoch = q.epoch ∙ f.epoch;
+      present = λ x. ap (λ g. g x) q.present ∙ f.present x;
+      making = λ k. ap (λ g. g k) q.making ∙ f.making k;
+      opens = λ o h. subst (λ g. (g o).user ≡ user × (g o).client_guid ≡ guid) (sym q.opened) (f.opens o (q.standing o h));
+    }
+
+stays_version : (d : Server) (number : ℕ) → Stays d (set_version d number)
+stays_version d number =
+    either (λ t. Stays d t) ((number == 2) && (d.version == 1)) (record d { version = 2 }) d
+    (λ _. record {
+      present = refl;
+      user = refl;
+      trees = refl;
+      next_tree = refl;
+      epoch = refl;
+      open_ids_given = refl;
+      session_ids_given = refl;
+      making = refl;
+      session_on = refl;
+      opened = refl;
+      standing = λ q e. e;
+    })
+    (λ _. stays_same d)
+
+stays_created : (d : Server) (action f : ℕ) (path : List ℕ) (attributes : ℕ) (is_dir : Bool) (time : ℕ)
+    → Stays d (created_file d action f path attributes is_dir time)
+stays_created d action f path attributes is_dir time =
+    let P : Server → Type 0 = λ t. Stays d t in
+    either P (action == 2) (make_file d path is_dir attributes time) _
+    (λ _. record {
+      present = refl;
+      user = refl;
+      trees = refl;
+      next_tree = refl;
+      epoch = refl;
+      open_ids_given = refl;
+      session_ids_given = refl;
+      making = refl;
+      session_on = refl;
+      opened = refl;
+      standing = λ q e. e;
+    })
+    (λ _. either P (action == 1) d (empty_file d f attributes time) (λ _. stays_same d)
+    (λ _. record {
+      present = refl;
+      user = refl;
+      trees = refl;
+      next_tree = refl;
+      epoch = refl;
+      open_ids_given = refl;
+      session_ids_given = refl;
+      making = refl;
+      session_on = refl;
+      opened = refl;
+      standing = λ q e. e;
+    }))
+
+stays_shut : (d : Server) (o : ℕ) → Stays d (shut_recorded d o)
+stays_shut d o = stays_so d (pending_behind d o) (shut_recorded d o) (stays_pending d o) (stays_dropped (pending_behind d o) o)
+
+stays_granted : (d : Server) (o index number : ℕ) (r : RangeAnswer) → Stays d (lock_granted d o index number r)
+stays_granted d o index number (Denied status) = stays_same d
+stays_granted d o index number (Stands ranges) =
+    let a = set_ranges d (file_of d o) ranges in stays_so d a (keep_slot a o index number success)
+    (stays_ranged d (file_of d o) ranges) (stays_kept a o index number success)
+
+stays_locked : (d : Server) (o index number status : ℕ) (elements : List Element) → Stays d (lock_recorded d o index number status elements)
+stays_locked d o index number status elements =
+    let P : Server → Type 0 = λ t. Stays d t in
+    either P (not (all_lock elements || all_unlock elements)) d _ (λ _. stays_same d)
+    (λ _. either P (status == success)
+    (lock_granted d o index number (change_ranges (d.ranges (file_of d o)) o elements))
+    (keep_slot d o index number status)
+    (λ _. stays_granted d o index number (change_ranges (d.ranges (file_of d o)) o elements)) (λ _. stays_kept d o index number status))
+
+-- an open that a record restores
+restored_open : (standing : ℕ → Bool) (opened : ℕ → Open) (i : ℕ) (row : Open) (guid : ℕ) (user : List ℕ)
+    → ((o : ℕ) → standing o ≡ true → (opened o).user ≡ user × (opened o).client_guid ≡ guid) → row.user ≡ user
+    → row.client_guid ≡ guid
+    → (o : ℕ) → put standing i true o ≡ true → (put opened i row o).user ≡ user × (put opened i row o).client_guid ≡ guid
+restored_open standing opened i row guid user f a b o h = let old = f o in (grind arith, grind arith)
+
+restored : (guid : ℕ) (user : List ℕ) (epoch : ℕ) (d : Server) (f action : ℕ) (opened : Option NewOpen)
+    → OwnOpen guid user opened → Folds guid user epoch d → Folds guid user epoch (restore d f action opened)
+restored guid user epoch d f action None own q = q
+restored guid user epoch d f action (Some n) own q =
+    record {
+      epoch = q.epoch;
+      present = q.present;
+      making = q.making;
+      opens = restored_open d.standing d.opened n.id (restored_row n f action) guid user q.opens own.1 own.0;
+    }
+
+-- a record that changes nothing of sessions and opens but what leaves
+simply : (guid : ℕ) (user : List ℕ) (epoch : ℕ) (d t : Server) (b : Bool) → Stays d t → Folds guid user epoch d
+    → Folds guid user epoch (if b then t else d)
+simply guid user epoch d t b q f = either (λ x. Folds guid user epoch x) b t d (λ _. fold_stays guid user epoch d t q f) (λ _. f)
+
+one_record : (guid : ℕ) (user : List ℕ) (epoch : ℕ) (d : Server) (r : Record) → OwnRecord guid user r
+    → Folds guid user epoch d → Folds guid user epoch (with_record d r)
+one_record guid user epoch d (EpochRecord number) own f = absurd own
+one_record guid user epoch d (VersionRecord number) own f = fold_stays guid user epoch d (set_version d number) (stays_version d number) f
+one_record guid user epoch d (CreateRecord origin action file path attributes is_dir time opened) own f =
+    let t = created_file d action file path attributes is_dir time in
+    either (λ x. Folds guid user epoch x) (may_create d action file path && may_have_open d opened) (restore t file action opened) d
+    (λ _. restored guid user epoch t file action opened own
+    (fold_stays guid user epoch d t (stays_created d action file path attributes is_dir time) f)) (λ _. f)
+one_record guid user epoch d (WriteRecord origin file at time bytes) own f =
+    simply guid user epoch d (set_content d file (written at bytes (d.content file)) time)
+    (is_file d file && (not (is_empty bytes) && not (passes_room d file (at + length bytes))))
+    (record {
+      present = refl;
+      user = refl;
+      trees = refl;
+      next_tree = refl;
+      epoch = refl;
+      open_ids_given = refl;
+      session_ids_given = refl;
+      making = refl;
+      session_on = refl;
+      opened = refl;
+      standing = λ q e. e;
+    }) f
+one_record guid user epoch d (EndRecord origin file size time) own f =
+    simply guid user epoch d (set_content d file (ended size (d.content file)) time) (is_file d file && not (passes_room d file size))
+    (record {
+      present = refl;
+      user = refl;
+      trees = refl;
+      next_tree = refl;
+      epoch = refl;
+      open_ids_given = refl;
+      session_ids_given = refl;
+      making = refl;
+      session_on = refl;
+      opened = refl;
+      standing = λ q e. e;
+    }) f
+one_record guid user epoch d (BasicRecord origin file basic) own f =
+    simply guid user epoch d (store_basic d file basic) (exists d file)
+    (record {
+      present = refl;
+      user = refl;
+      trees = refl;
+      next_tree = refl;
+      epoch = refl;
+      open_ids_given = refl;
+      session_ids_given = refl;
+      making = refl;
+      session_on = refl;
+      opened = refl;
+      standing = λ q e. e;
+    }) f
+one_record guid user epoch d (DeleteRecord origin file flag) own f =
+    simply guid user epoch d (set_delete_pending d file flag) (exists d file && not (file == root))
+    (record {
+      present = refl;
+      user = refl;
+      trees = refl;
+      next_tree = refl;
+      epoch = refl;
+      open_ids_given = refl;
+      session_ids_given = refl;
+      making = refl;
+      session_on = refl;
+      opened = refl;
+      standing = λ q e. e;
+    }) f
+one_record guid user epoch d (RenameRecord origin file replaced path) own f =
+    simply guid user epoch d (rename_file d file (target_of file (find d path)) path) (may_rename d file replaced path)
+    (record {
+      present = refl;
+      user = refl;
+      trees = refl;
+      next_tree = refl;
+      epoch = refl;
+      open_ids_given = refl;
+      session_ids_given = refl;
+      making = refl;
+      session_on = refl;
+      opened = refl;
+      standing = λ q e. e;
+    }) f
+one_record guid user epoch d (RemoveRecord origin file) own f =
+    simply guid user epoch d (remove_file d file) (may_remove d file)
+    (record {
+      present = refl;
+      user = refl;
+      trees = refl;
+      next_tree = refl;
+      epoch = refl;
+      open_ids_given = refl;
+      session_ids_given = refl;
+      making = refl;
+      session_on = refl;
+      opened = refl;
+      standing = λ q e. e;
+    }) f
+one_record guid user epoch d (LockRecord origin o index number status elements) own f =
+    simply guid user epoch d (lock_recorded d o index number status elements) (d.standing o && nat_le index 64)
+    (stays_locked d o index number status elements) f
+one_record guid user epoch d (CloseRecord origin o) own f = simply guid user epoch d (shut_recorded d o) (d.standing o) (stays_shut d o) f
+one_record guid user epoch d (ExpireRecord origin o) own f =
+    simply guid user epoch d (add_expired_guid (shut_recorded d o) (d.opened o).client_guid (d.opened o).create_guid)
+    (d.standing o && nat_lt d.expired_count max_expired_guids)
+    (stays_so d (shut_recorded d o) _ (stays_shut d o) (stays_noted (shut_recorded d o) (d.opened o).client_guid
+    (d.opened o).create_guid)) f
+
+all_records : (guid : ℕ) (user : List ℕ) (epoch : ℕ) (d : Server) (rs : List Record) → Clean guid user rs
+    → Folds guid user epoch d → Folds guid user epoch (fold_from d rs)
+unfolding fold_from Clean
+all_records guid user epoch d [] own f = f
+all_records guid user epoch d (r ∷ rs) own f = all_records guid user epoch (with_record d r) rs own.1
+    (one_record guid user epoch d r own.0 f)
+
+pub fold_more : (d : Server) (xs ys : List Record) → fold_from d (xs ++ ys) ≡ fold_from (fold_from d xs) ys
+unfolding fold_from
+fold_more d [] ys = refl
+fold_more d (x ∷ xs) ys = fold_more (with_record d x) xs ys
+
+-- the records of a step follow
+pub folds_more : (guid : ℕ) (user : List ℕ) (epoch : ℕ) (rs more : List Record) → Clean guid user more
+    → Folds guid user epoch (fold rs) → Folds guid user epoch (fold (rs ++ more))
+folds_more guid user epoch rs more own f = subst (λ d. Folds guid user epoch d) (sym (fold_more nothing_yet rs more))
+    (all_records guid user epoch (fold rs) more own f)
+
+-- ---- a restart
+
+stays_swept : (d : Server) (es : List Entry) → Stays d (sweep d es)
+unfolding sweep
+stays_swept d [] = stays_same d
+stays_swept d (e ∷ es) = stays_so d (without_gone d e.file) (sweep (without_gone d e.file) es) (stays_gone d e.file)
+    (stays_swept (without_gone d e.file) es)
+
+-- a fold in a new epoch
+pub record Anew (guid : ℕ) (user : List ℕ) (number : ℕ) (d : Server) : Type 0 where
+  pub folds : Folds guid user number d
+  pub session_ids_given : d.session_ids_given ≡ 0
+
+begins_anew : (guid : ℕ) (user : List ℕ) (epoch : ℕ) (d : Server) → Folds guid user epoch d → Anew guid user (epoch + 1)
+    (begin_epoch d (epoch + 1))
+begins_anew guid user epoch d f =
+    either (λ t. Anew guid user (epoch + 1) t) (epoch + 1 == d.epoch + 1) (record (sweep d d.entries) {
+      epoch = epoch + 1;
+      open_ids_given = 0;
+      session_ids_given = 0;
+    }) d
+    (λ _. let q = fold_stays guid user epoch d (sweep d d.entries) (stays_swept d d.entries) f in record {
+      folds = record { epoch = refl; present = q.present; making = q.making; opens = q.opens };
+      session_ids_given = refl;
+    })
+    (λ n. absurd (no_other epoch d.epoch f.epoch n))
+  where
+    no_other : (a b : ℕ) → b ≡ a → (a + 1 == b + 1) ≡ false → ⊥
+    no_other a b e n = grind arith
+
+anew_at : (guid : ℕ) (user : List ℕ) (d : Server) → Folds guid user d.epoch d → Anew guid user (d.epoch + 1)
+    (fold_from d (opening_records d))
+unfolding fold_from
+anew_at guid user d f =
+    either (λ rs. Anew guid user (d.epoch + 1) (fold_from d rs)) (d.version == 1) _ _
+    (λ _. begins_anew guid user d.epoch (set_version d 2) (fold_stays guid user d.epoch d (set_version d 2) (stays_version d 2) f))
+    (λ _. begins_anew guid user d.epoch d f)
+
+anew_from : (guid : ℕ) (user : List ℕ) (epoch : ℕ) (d : Server) → Folds guid user epoch d → Anew guid user (epoch + 1)
+    (fold_from d (opening_records d))
+anew_from guid user epoch d f =
+    subst (λ n. Anew guid user (n + 1) (fold_from d (opening_records d))) f.epoch (anew_at guid user d (record {
+      epoch = refl;
+      present = f.present;
+      making = f.making;
+      opens = f.opens;
+    }))
+
+pub anew : (guid : ℕ) (user : List ℕ) (s : Server) (rs : List Record) → Folds guid user s.epoch (fold rs)
+    → Anew guid user (s.epoch + 1) (fold (rs ++ recovery_records rs))
+anew guid user s rs f = subst (λ d. Anew guid user (s.epoch + 1) d)
+    (sym (fold_more nothing_yet rs (recovery_records rs))) (anew_from guid user s.epoch (fold rs) f)
+
+pub folds_nothing : (guid : ℕ) (user : List ℕ) → Folds guid user 0 (fold [])
+unfolding fold_from
+folds_nothing guid user = record { epoch = refl; present = λ x. refl; making = λ k. refl; opens = λ o h. absurd (cc) }

@@ -1,0 +1,5 @@
+pub mod wire_facts
+pub mod events
+pub mod requests
+pub mod channel_numbers
+pub mod lone_server

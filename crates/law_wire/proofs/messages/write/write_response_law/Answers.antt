@@ -1,0 +1,6 @@
+use Rattle.spec_wire.specs.messages.Write.{write_response_table}
+use Rattle.law_wire.proofs.messages.Rows.{table_again}
+use Rattle.law_wire.proofs.messages.write.write_response_law.Goals as goal
+
+pub returns-clause-again : goal.returns-clause-again
+returns-clause-again c = λ header rest v e fit. table_again (write_response_table v) header rest 64 e fit

@@ -1,0 +1,3 @@
+pub mod messages
+pub mod info
+pub mod credits

@@ -1,8 +1,0 @@
-use Rattle.line_hearing.proofs.Hashes.{they_fit, lists_do}
-use Rattle.line_hearing.proofs.contexts.hash_count.Goals as goal
-
-pub hashes_in-requires : goal.hashes_in-requires
-hashes_in-requires c = record {
-  fits = they_fit c.args.bytes.now c.args.count c.requires;
-  lists = lists_do c.args.bytes.now c.args.count c.requires;
-}

@@ -1,8 +1,0 @@
-use Rattle.std.proofs.Common.{refl, sym, ◌∙◌}
-use Rattle.line_judging.proofs.setup.judge_flags.Goals as goal
-
-pub returns-then-fits : goal.returns-then-fits
-returns-then-fits c = (sym c.flags_fit-fits.ensures ∙ c.if-fits.true, refl, refl, c.seals.ensures)
-
-pub returns-else-fits : goal.returns-else-fits
-returns-else-fits c = (sym c.flags_fit-fits.ensures ∙ c.if-fits.false, refl)

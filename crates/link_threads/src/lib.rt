@@ -1,9 +1,0 @@
-//! A thread for each link that a net accepts, each by a seat of one book.
-#![tactic(auto)]
-
-mod crew;
-mod ended_list;
-mod links;
-mod running;
-
-pub use links::{Halt, Served, serve_links};

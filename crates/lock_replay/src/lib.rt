@@ -1,8 +1,0 @@
-//! The lock slots of an open: a LOCK request that names one is answered again as it was when it comes a second time
-//! (MS-SMB2 3.3.5.14).
-#![tactic(auto)]
-
-mod slots;
-
-pub use exchange_defs::values::Kept;
-pub use slots::Slots;

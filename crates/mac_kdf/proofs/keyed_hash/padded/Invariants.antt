@@ -1,9 +1,0 @@
-use Rattle.std.proofs.Common.{◌≡◌, length, take}
-use Rattle.cipher_defs.specs.Hmac.{padded_by}
-use Rattle.mac_kdf.proofs.keyed_hash.padded.Given as goal
-
-abbrev pub invariant-join : goal.invariant-join
-invariant-join l = record {
-  len : length l.joined ≡ 64;
-  joined : take l.k l.joined ≡ padded_by l.pad (take l.k l.block);
-}

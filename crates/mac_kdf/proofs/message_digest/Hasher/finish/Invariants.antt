@@ -1,6 +1,0 @@
-use Rattle.std.proofs.Common.{◌≡◌, ◌*◌, length, take}
-use Rattle.cipher_defs.specs.Md4.{digest_bytes}
-use Rattle.mac_kdf.proofs.message_digest.Hasher.finish.Given as goal
-
-abbrev pub invariant-words : goal.invariant-words
-invariant-words l = (length l.out ≡ 16) × (take (4 * l.i) l.out ≡ digest_bytes l.h l.i)

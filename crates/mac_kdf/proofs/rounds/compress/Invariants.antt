@@ -1,6 +1,0 @@
-use Rattle.std.proofs.Common.{◌≡◌, ℕ, ◌<◌, length, slice_index, ◌*◌}
-use Rattle.cipher_defs.specs.Md4.{word_at}
-use Rattle.mac_kdf.proofs.rounds.compress.Given as goal
-
-abbrev pub invariant-load : goal.invariant-load
-invariant-load l = (length l.w ≡ 16) × ((k : ℕ) → k < l.i → slice_index l.w k ≡ word_at l.block (4 * k))

@@ -1,6 +1,0 @@
-use Rattle.std.proofs.Common.{refl, slice_index}
-use Rattle.mac_kdf.proofs.Steps.{add32_last}
-use Rattle.mac_kdf.proofs.rounds.round.Goals as goal
-
-pub returns : goal.returns
-returns c = rw (c.rotate_left.ensures, add32_last (slice_index c.args.v 0) c.args.f c.args.k c.args.word) refl

@@ -1,2 +1,0 @@
-pub mod Made
-pub use Rattle.plain_law.specs as PlainLaw

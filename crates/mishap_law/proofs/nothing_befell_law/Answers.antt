@@ -1,8 +1,0 @@
-use Rattle.world_defs.specs.Hearing.{check_frame}
-use Rattle.mishap_law.proofs.Befell.{befell_of}
-use Rattle.mishap_law.proofs.nothing_befell_law.Goals as goal
-
-pub returns : goal.returns
-returns c = record {
-  none = λ z k now fresh s L f mishaps frame m lacked never. befell_of z k now fresh s L f mishaps (check_frame f frame) m lacked never;
-}

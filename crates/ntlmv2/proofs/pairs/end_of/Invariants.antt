@@ -1,9 +1,0 @@
-use Rattle.std.proofs.Common.{length}
-use Rattle.ntlmv2.proofs.Walks.{IsMeasured}
-use Rattle.ntlmv2.proofs.pairs.end_of.Given as goal
-
-abbrev pub invariant-pairs : goal.invariant-pairs
-invariant-pairs l = IsMeasured l.bytes l.rest
-
-abbrev pub decreases-pairs : goal.decreases-pairs
-decreases-pairs l = length l.rest

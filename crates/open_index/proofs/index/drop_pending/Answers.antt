@@ -1,5 +1,0 @@
-use Rattle.open_index.proofs.IndexLemmas.{other_pair}
-use Rattle.open_index.proofs.index.drop_pending.Goals as goal
-
-pub returns : goal.returns
-returns c = λ o d ne. c.remove.ensures.updates.2 (d, o) (other_pair c.args.deadline c.args.id d o ne)

@@ -1,5 +1,0 @@
-use Rattle.open_table.proofs.Names.{same_by}
-use Rattle.open_table.proofs.attach.same_name.Goals as goal
-
-pub returns : goal.returns
-returns c = same_by c.eq_ignore_ascii_case.result c.args.a.now c.args.b.now c.eq_ignore_ascii_case.ensures.test

@@ -1,9 +1,0 @@
-use Rattle.std.proofs.Common.{◌≡◌, nat_eq}
-use Rattle.std.specs.HashMap.{get}
-use Rattle.exchange_defs.specs.Step.{due_in}
-use Rattle.open_table.specs.Due.{deadline_at}
-use Rattle.open_table.proofs.due.first_past.Given as goal
-
-abbrev pub invariant-loop-id : goal.invariant-loop-id
-invariant-loop-id l = due_in (λ o. deadline_at (get nat_eq l.rows o)) l.id-iterator l.now
-    ≡ due_in (λ o. deadline_at (get nat_eq l.rows o)) l.overdue.keys l.now

@@ -1,8 +1,0 @@
-use Rattle.std.proofs.Common.{◌≡◌, drop, nat_eq}
-use Rattle.std.specs.HashMap.{get}
-use Rattle.open_table.specs.Due.{least_dated_in}
-use Rattle.open_table.proofs.due.least_undated.Given as goal
-
-abbrev pub invariant-loop-id : goal.invariant-loop-id
-invariant-loop-id l = least_dated_in (λ o. get nat_eq l.rows o) l.now (drop l.id-index l.undated) l.least
-    ≡ least_dated_in (λ o. get nat_eq l.rows o) l.now l.undated l.fn.found

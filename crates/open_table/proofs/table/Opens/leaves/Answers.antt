@@ -1,7 +1,0 @@
-use Rattle.std.proofs.Common.{None}
-use Rattle.open_table.proofs.Found.{found}
-use Rattle.open_table.proofs.PlainLemmas.{leaves_absent}
-use Rattle.open_table.proofs.table.Opens.leaves.Goals as goal
-
-pub returns-in-None : goal.returns-in-None
-returns-in-None c = λ s i h. leaves_absent s c.args.session c.args.id i (found c.args.self.now s c.args.id None h c.in-None.ensures.value)

@@ -1,8 +1,0 @@
-use Rattle.std.proofs.Common.{refl}
-use Rattle.open_table.proofs.Added.{shows_noted}
-use Rattle.open_table.proofs.table.Opens.note.Goals as goal
-
-pub returns-clause-same : goal.returns-clause-same
-returns-clause-same c = λ s h. shows_noted c.args.self.now (record c.args.self.now {
-  undated = c.note_undated.new.undated;
-}) s refl c.note_undated.ensures.others h

@@ -1,7 +1,0 @@
-use Rattle.std.proofs.Common.{refl}
-use Rattle.open_table.proofs.Changed.{shows_located}
-use Rattle.open_table.proofs.table.Opens.set_location.Goals as goal
-
-pub returns : goal.returns
-returns c = λ s h st. shows_located c.args.self.now (record c.args.self.now { rows = c.put_location.new.rows }) s
-    c.args.id c.args.last (record { rest = refl; len = c.put_location.ensures.len }) c.put_location.ensures.rows h

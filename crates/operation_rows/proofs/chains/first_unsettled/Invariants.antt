@@ -1,8 +1,0 @@
-use Rattle.operation_rows.proofs.Walking.{Walks}
-use Rattle.operation_rows.proofs.chains.first_unsettled.Given as goal
-
-abbrev pub invariant-loop-at : goal.invariant-loop-at
-invariant-loop-at l = Walks l.chain l.fn.rows l.rows l.from l.at
-
-abbrev pub decreases-loop-at : goal.decreases-loop-at
-decreases-loop-at l = l.at

@@ -1,8 +1,0 @@
-use Rattle.std.proofs.Common.{◌≡◌, ◌++◌, take}
-use Rattle.std.specs.List.{flat_map}
-use Rattle.std.specs.String.{string_bytes}
-use Rattle.outcome_lines.specs.Text.{file_line}
-use Rattle.outcome_lines.proofs.files.push_files.Given as goal
-
-abbrev pub invariant-loop-file : goal.invariant-loop-file
-invariant-loop-file l = string_bytes l.out ≡ string_bytes l.initial.out ++ flat_map file_line (take l.file-index l.files)

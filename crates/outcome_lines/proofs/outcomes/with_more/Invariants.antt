@@ -1,8 +1,0 @@
-use Rattle.std.proofs.Common.{◌≡◌, ◌++◌, take}
-use Rattle.std.specs.List.{flat_map}
-use Rattle.std.specs.String.{string_bytes}
-use Rattle.outcome_lines.specs.Text.{behind_slash}
-use Rattle.outcome_lines.proofs.outcomes.with_more.Given as goal
-
-abbrev pub invariant-loop-name : goal.invariant-loop-name
-invariant-loop-name l = string_bytes l.shown ≡ l.fn.first ++ flat_map behind_slash (take l.name-index l.more)

@@ -1,7 +1,0 @@
-use Rattle.plain_law.proofs.Plain.{plain_runs}
-use Rattle.plain_law.proofs.plain_runs_law.Goals as goal
-
-pub returns : goal.returns
-returns c = record {
-  runs = plain_runs c.nothing_is_refused_law.ensures c.wire_facts_law.ensures.lawful c.runs_law.ensures.runs c.plain_nonces_law.ensures.once;
-}

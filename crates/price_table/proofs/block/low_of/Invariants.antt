@@ -1,5 +1,0 @@
-use Rattle.std.proofs.Common.{ℕ, ◌<◌, ◌≤◌, slice_index}
-use Rattle.price_table.proofs.block.low_of.Given as goal
-
-abbrev pub invariant-loop-price : goal.invariant-loop-price
-invariant-loop-price l = (i : ℕ) → i < l.price-index → l.low ≤ slice_index l.prices i

@@ -1,5 +1,0 @@
-use Rattle.purse_law.proofs.Runs.{have_all}
-use Rattle.purse_law.proofs.purse_law.Goals as goal
-
-pub returns : goal.returns
-returns c = record { full = have_all c.nothing_is_refused_law.ensures c.plain_runs_law.ensures.runs }

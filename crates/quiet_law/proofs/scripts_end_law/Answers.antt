@@ -1,5 +1,0 @@
-use Rattle.quiet_law.proofs.Scripts.{quiet_scripts_end}
-use Rattle.quiet_law.proofs.scripts_end_law.Goals as goal
-
-pub returns : goal.returns
-returns c = record { end = quiet_scripts_end c.lines_end_law.ensures.end c.script_settings_law.ensures.fit }

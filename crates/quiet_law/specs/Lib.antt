@@ -1,2 +1,0 @@
-pub mod Quiet
-pub use Rattle.settling_law.specs as SettlingLaw

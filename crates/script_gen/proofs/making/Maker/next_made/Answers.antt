@@ -1,6 +1,0 @@
-use Rattle.script_gen.proofs.Ending.{none_left}
-use Rattle.script_gen.proofs.making.Maker.next_made.Goals as goal
-
-pub returns-then-self : goal.returns-then-self
-returns-then-self c =
-    none_left c.args.self.now.events.now c.args.self.now.operations c.args.self.now.made c.args.self.now.words c.requires.none c.if-self.true

@@ -1,5 +1,0 @@
-use Rattle.sealing_law.proofs.Opening.{nonces_differ}
-use Rattle.sealing_law.proofs.laws.distinct_nonces_law.Goals as goal
-
-pub returns : goal.returns
-returns c = λ a b fa fb ca cb e. nonces_differ a b fa fb ca cb e

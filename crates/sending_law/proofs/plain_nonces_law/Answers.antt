@@ -1,7 +1,0 @@
-use Rattle.sending_law.proofs.Untampered.{untampered}
-use Rattle.sending_law.proofs.plain_nonces_law.Goals as goal
-
-pub returns : goal.returns
-returns c = record {
-  once = untampered c.sessions_law.ensures.fit c.nonces_to_client_law.ensures.once c.nonces_to_server_law.ensures.once;
-}

@@ -1,6 +1,0 @@
-use Rattle.std.proofs.Common.{◌≡◌, ◌++◌, drop}
-use Rattle.serve_settings.specs.Settings.{users_of}
-use Rattle.serve_settings.proofs.settings.users_of.Given as goal
-
-abbrev pub invariant-loop-user : goal.invariant-loop-user
-invariant-loop-user l = l.list ++ users_of (drop l.user-index l.users) ≡ users_of l.users

@@ -1,8 +1,0 @@
-//! What a server is told: the words of its command, and its settings.
-#![tactic(auto)]
-
-mod settings;
-mod words;
-
-pub use settings::config_in;
-pub use words::{Bound, Said, read_words};

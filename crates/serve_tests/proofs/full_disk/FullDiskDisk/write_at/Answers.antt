@@ -1,6 +1,0 @@
-use Rattle.std.proofs.Common.{length}
-use Rattle.smb_io.proofs.Written.{untorn}
-use Rattle.serve_tests.proofs.full_disk.FullDiskDisk.write_at.Goals as goal
-
-pub returns-clause-crash : goal.returns-clause-crash
-returns-clause-crash c = λ left now. (left, tt, untorn c.args._at (length c.args._from.now) left)

@@ -1,0 +1,14 @@
+use Rattle.std.proofs.Common.{◌<◌, length, subst}
+use Rattle.serve_turns.proofs.link_threads.Covering.{left_covered, swapped}
+use Rattle.serve_turns.proofs.link_threads.crew.join_one.Goals as goal
+
+pub returns-in-Some-clause-covered : goal.returns-in-Some-clause-covered
+returns-in-Some-clause-covered g c = λ n was at low inside.
+    let crew = c.args.crew.now in
+    let taken = c.swap_remove-child in
+    let s = taken.ensures in
+    let e = c.finished.ensures in
+    left_covered (λ r. r.place) n crew.roll.ends.items c.finished.new.roll.ends.items crew.running.items taken.new.self.items taken.result
+    (swapped crew.running.items taken.new.self.items c.in-Some.at taken.result
+    (subst (λ l. c.in-Some.at < length l) c.as_slice.ensures.value c.in-Some.ensures) s.value s.items)
+    e.told e.others e.count was at low inside

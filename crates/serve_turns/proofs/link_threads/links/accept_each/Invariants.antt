@@ -1,0 +1,18 @@
+use Rattle.std.proofs.Common.{◌≡◌, ◌+◌, ◌<◌, ◌^◌, length}
+use Rattle.std.specs.List.{All}
+use Rattle.serve_turns.specs.shared_book.Words.{view_of, IsSeatOf}
+use Rattle.serve_turns.specs.link_serving.Serving.{AreServed}
+use Rattle.serve_turns.specs.link_threads.Covering.{AreCovered}
+use Rattle.serve_turns.proofs.link_threads.links.accept_each.Given as goal
+
+abbrev pub invariant-loop-place : goal.invariant-loop-place
+invariant-loop-place g l =
+    IsSeatOf l.book l.crew.roll.seat
+    × ((view_of l.crew.roll.seat).opening ≡ (view_of l.initial.crew.roll.seat).opening)
+    × (length l.crew.roll.ends.items ≡ length l.initial.crew.roll.ends.items)
+    × AreCovered (λ c. c.place) l.place l.crew.roll.ends.items l.crew.running.items
+    × AreServed (g.S.Service.serves l.service) l.crew.roll.ends.items (view_of l.crew.roll.seat).kept
+    × All (λ c. IsSeatOf l.book c.handle.promise.seat.value × (c.handle.promise.service.value ≡ l.service)) l.crew.running.items
+    × (g.N.Net.faults l.net ≡ g.N.Net.faults l.initial.net)
+    × (g.N.Net.listens_at l.net ≡ g.N.Net.listens_at l.initial.net)
+    × (g.N.Net.accepted l.initial.net + l.place < 2 ^ 64 → g.N.Net.accepted l.net ≡ g.N.Net.accepted l.initial.net + l.place)

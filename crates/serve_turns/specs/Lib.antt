@@ -1,0 +1,4 @@
+pub mod shared_book
+pub mod link_serving
+pub mod connection_turns
+pub mod link_threads

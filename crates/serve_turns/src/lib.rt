@@ -1,0 +1,15 @@
+//! One history for all threads, the turns of a served connection, and a thread for each link. It is a room because all
+//! that waits and shares is here, over any server. The command `serve` stands on it.
+#![tactic(auto)]
+
+mod connection_turns;
+mod link_serving;
+mod link_threads;
+pub mod shared_book;
+
+pub use connection_turns::{Connections, Told, Turn, What, serve_connection};
+pub use link_serving::{
+    ConnEnd, Ended, Roll, Service, SharedClock, entered, push_lines, serve_here,
+};
+pub use link_threads::{Halt, Served, serve_links};
+pub use shared_book::{BookSeat, Receipt, SharedBook, shared, view};

@@ -1,0 +1,128 @@
+//! A thread that serves one link.
+ghost use Rattle.std.specs.Prelude.{◌≡◌, ◌+◌, ◌<◌, ◌≤◌, ◌^◌, ℕ, None, Some, length, get_or, IfOk, IfErr};
+ghost use Rattle.serve_turns.specs.shared_book.Words.{view_of, AreOfOneBook, IsSameSeat, IsSeatOf};
+ghost use Rattle.serve_turns.specs.link_serving.Serving.{AreServed};
+
+use crate::link_serving::{Roll, Service, entered};
+use crate::link_threads::ended_list::EndedList;
+use crate::shared_book::{Book, BookSeat, SharedBook};
+use base_outside::Link;
+use std::snapshot::Snapshot;
+use std::sync::Wait;
+use std::thread::{Promise, PromisedHandle, Scope, SpawnError, Threads};
+
+/// What a thread promises that serves a link: how it ended, as the service says, and its seat, which is of the same book.
+#[derive(Drop)]
+pub(crate) struct ServesLink<B: Book, S: Service<B>> {
+    service: Snapshot<S>,
+    seat: Snapshot<BookSeat<B>>,
+    place: usize,
+}
+
+impl<B: Book, S: Service<B>> Promise<(S::End, BookSeat<B>)> for ServesLink<B, S> {
+    ghost use Rattle.std.specs.Prelude.{◌+◌};
+    ghost use Rattle.serve_turns.specs.shared_book.Words.{view_of, AreOfOneBook};
+
+    ghost kept_by = { λ p r. AreOfOneBook p.seat.value r.1
+        × S.serves p.service.value (p.place + 1) (view_of p.seat.value) r.0 (view_of r.1) };
+}
+
+/// Serves a link that it owns, and notes that it has ended.
+fn served<B: Book, S: Service<B>, W: Wait, L: Link + Drop>(
+    rt: &W,
+    service: &S,
+    mut link: L,
+    book: &SharedBook<B>,
+    mut seat: BookSeat<B>,
+    place: usize,
+    ended: &EndedList,
+) -> (S::End, BookSeat<B>)
+    requires own { IsSeatOf book.now seat }
+    requires few { place + 1 < 2 ^ 64 }
+    ensures own { AreOfOneBook seat result.1 }
+    ensures serves { S.serves service.now (place + 1) (view_of seat) result.0 (view_of result.1) }
+{
+    let end = service.serve(rt, &mut link, book, &mut seat, place as u64 + 1);
+    drop(link);
+    ended.note(rt, place, service.halts(&end));
+    (end, seat)
+}
+
+/// A thread that serves the link at a place.
+#[derive(Drop)]
+pub(crate) struct Running<B: Book, S: Service<B>> {
+    pub place: usize,
+    pub handle: PromisedHandle<(S::End, BookSeat<B>), ServesLink<B, S>>,
+    ghost placed: { handle.promise.place ≡ place },
+}
+
+/// Begins a thread for a link. Where none is to be had the link is served here.
+pub(crate) fn begun<'s, E, W, L, B, S>(
+    rt: &'s W,
+    scope: &Scope<'s, E>,
+    service: &'s S,
+    link: L,
+    book: &'s SharedBook<B>,
+    seat: BookSeat<B>,
+    place: usize,
+    ended: &'s EndedList,
+) -> Result<Running<B, S>, (S::End, BookSeat<B>)>
+where
+    W: Wait + Threads + Sync + 's,
+    L: Link + Drop + Send + 's,
+    B: Book + Drop + Send + 's,
+    S: Service<B> + 's,
+    S::End: 's,
+    B::Event: Send + 's,
+    B::Reply: Send + 's,
+    requires own { IsSeatOf book.now seat }
+    requires few { place + 1 < 2 ^ 64 }
+    ensures runs { IfOk result (λ r. IsSeatOf book.now r.handle.promise.seat.value
+        × (r.handle.promise.service.value ≡ service.now)) }
+    ensures place { IfOk result (λ r. r.place ≡ place) }
+    ensures done { IfErr result (λ d. IsSeatOf book.now d.1
+        × S.serves service.now (place + 1) (view_of seat) d.0 (view_of d.1)) }
+{
+    let promise = ServesLink {
+        service: Snapshot::of(service),
+        seat: Snapshot::of(&seat),
+        place,
+    };
+    let child = scope.spawn_with(
+        promise,
+        move || -> (S::End, BookSeat<B>)
+            requires { IsSeatOf book.now seat × (place + 1 < 2 ^ 64) }
+            ensures { AreOfOneBook seat result.1
+                × S.serves service.entry.now (place + 1) (view_of seat) result.0 (view_of result.1) }
+        { served(rt, service, link, book, seat, place, ended) },
+    );
+    match child {
+        Ok(handle) => Ok(Running { place, handle }),
+        Err(SpawnError { value: job }) => Err(job()),
+    }
+}
+
+/// Waits for the end of a thread, and takes in what it left. True where no further link is to be accepted behind it.
+pub(crate) fn finished<B: Book, S: Service<B>, R: Threads>(
+    rt: &R,
+    book: &SharedBook<B>,
+    service: &S,
+    roll: &mut Roll<B, S::End>,
+    child: Running<B, S>,
+) -> bool
+    requires own { IsSeatOf book.now roll.old.seat }
+    requires runs { IsSeatOf book.now child.handle.promise.seat.value
+        × (child.handle.promise.service.value ≡ service.now) }
+    ensures same { IsSameSeat roll.old.seat roll.new.seat }
+    ensures served { AreServed (S.serves service.now) roll.old.ends.items (view_of roll.old.seat).kept
+        → AreServed (S.serves service.now) roll.new.ends.items (view_of roll.new.seat).kept }
+    ensures told { child.place < length roll.old.ends.items
+        → (end : S.End) × (get_or roll.new.ends.items child.place None ≡ Some end) }
+    ensures others { (at : ℕ) → (at ≡ child.place → ⊥) → get_or roll.new.ends.items at None ≡ get_or roll.old.ends.items at None }
+    ensures opening { (view_of roll.new.seat).opening ≡ (view_of roll.old.seat).opening }
+    ensures count { length roll.new.ends.items ≡ length roll.old.ends.items }
+{
+    let Running { place, handle } = child;
+    let (end, seat) = handle.join(rt);
+    entered(book, service, roll, place, end, seat)
+}

@@ -1,2 +1,0 @@
-pub mod Acts
-pub use Rattle.server_carrying.specs as ServerCarrying

@@ -1,3 +1,0 @@
-mod Shown
-mod Written
-pub use Rattle.server_dating.proofs as ServerDating

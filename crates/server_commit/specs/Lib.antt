@@ -1,4 +1,0 @@
-pub mod Commits
-pub use Rattle.server_dating.specs.ServerSteps
-pub use Rattle.server_dating.specs.DatedEffects
-pub use Rattle.server_dating.specs.ServerReadied

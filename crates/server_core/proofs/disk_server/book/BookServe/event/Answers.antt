@@ -1,0 +1,20 @@
+use Rattle.server_core.proofs.disk_server.Serving.{goes_not, halts_stopped, stops_goes, stops_same}
+use Rattle.server_core.proofs.disk_server.book.BookServe.event.Goals as goal
+
+pub returns-in-Some : goal.returns-in-Some
+returns-in-Some g c = record {
+  short = tt;
+  serves = λ users s L records h served. tt;
+  halts = λ users s L records h. halts_stopped _ _ c.in-Some.ensures;
+  halted = λ count was. (stops_same _ _ count c.in-Some.ensures was, was);
+  stops = λ count stop. stops_goes _ _ count c.in-Some.ensures stop;
+}
+
+pub returns-in-None : goal.returns-in-None
+returns-in-None g c = record {
+  short = c.go_on.ensures.short;
+  serves = λ users s L records h served. c.go_on.ensures.serves users s L records h served;
+  halts = λ users s L records h. c.go_on.ensures.halts users s L records h;
+  halted = λ count was. goes_not _ count _ _ c.in-None.ensures was;
+  stops = λ count stop. c.go_on.ensures.stops count stop;
+}

@@ -1,0 +1,7 @@
+//! A server over its disk, as its connections see it.
+
+mod asked;
+mod book;
+
+pub use crate::Server;
+pub use book::Book;

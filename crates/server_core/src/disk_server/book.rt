@@ -1,0 +1,127 @@
+//! The server that connections share.
+ghost use Rattle.std.specs.Prelude.{◌≡◌};
+ghost use Rattle.server_core.specs.disk_server.Telling.{TellsAnswer, refusal};
+ghost use Rattle.server_core.specs.Shown.{stopped_of};
+
+use crate::Server;
+use crate::disk_server::asked::{logon_in, shape_in};
+use crate::event_replies::{Logon, Reply, Serve, ServeError, reply_from};
+use base_outside::Disk;
+use server_checks::ServerEvent;
+use server_effects::Answer;
+use std::alloc::Global;
+use wire_commands::{Command, room_for};
+
+/// A server that takes one event at a time, and looks for the room of a reply's body before it takes the event.
+#[derive(Drop)]
+pub struct Book<D: Disk> {
+    pub alloc: Global,
+    pub server: Server<D>,
+}
+
+// Room that was found is given back for the reply, whose writers find it again.
+fn give_back(_room: Vec<u8>) {}
+
+// The reply to an event that was carried out.
+fn told(
+    alloc: Global,
+    command: &Command<'_>,
+    logon: &Option<Logon>,
+    answer: &Answer,
+) -> Result<Reply, ServeError>
+    ensures { TellsAnswer command.now logon.now answer.now result }
+{
+    match reply_from(alloc, command, logon, answer) {
+        Ok(reply) => Ok(reply),
+        Err(_) => Err(ServeError::Unanswered {
+            acted: answer.acted,
+        }),
+    }
+}
+
+// Why a server has no answer: it has stopped, and else it found no memory.
+fn refused_by<D: Disk>(server: &Server<D>) -> ServeError
+    ensures { result ≡ refusal (stopped_of server.now) }
+{
+    match server.stopped() {
+        Some(count) => ServeError::Stopped(count),
+        None => ServeError::Memory,
+    }
+}
+
+impl<D: Disk> Book<D> {
+    ghost use Rattle.std.specs.Prelude.{◌≡◌, ℕ, Err, IfOk, List, None, Some};
+    ghost use Rattle.conn_core.specs.served.Serving.{Halts, IsServerServed, IsServerShort, ServerServes};
+    ghost use Rattle.conn_core.specs.declared.served.error.ServeError.TheVariants as errors;
+    ghost use Rattle.spec_exchange.specs.State as model;
+    ghost use Rattle.server_core.specs.disk_server.Asked.{HasShape, BookLogonIs};
+    ghost use Rattle.server_core.specs.disk_server.Shown.{ShowsBook};
+    ghost use Rattle.server_core.specs.Shown.{stopped_of};
+    ghost use Rattle.spec_crypto.specs.tokens.Acceptor.{User};
+    ghost use Rattle.spec_world.specs.Ends.{Logons};
+
+    // The event, and its reply in the room that was found for it.
+    fn carry(
+        &mut self,
+        now: u64,
+        event: ServerEvent<'_>,
+        command: &Command<'_>,
+        logon: &Option<Logon>,
+        room: Vec<u8>,
+    ) -> Result<Reply, ServeError>
+        requires { stopped_of self.old.server ≡ None }
+        ensures short { IfOk result (λ r. IsServerShort r) }
+        ensures serves { (users : List User) (s : model.Server) (L : Logons) (records : List model.Record)
+            → ShowsBook D.told D.seen D.may_leave self.old users s L records → IsServerServed event.entry
+            → HasShape event.entry command.now → BookLogonIs s L event.entry logon.now
+            → ServerServes (ShowsBook D.told D.seen D.may_leave self.new users) users s L records now event.entry result }
+        ensures halts { (users : List User) (s : model.Server) (L : Logons) (records : List model.Record)
+            → ShowsBook D.told D.seen D.may_leave self.old users s L records
+            → Halts (stopped_of self.old.server) (stopped_of self.new.server) result }
+        ensures stops { (count : ℕ) → result ≡ Err (errors.Stopped count) → stopped_of self.new.server ≡ Some count }
+    {
+        match self.server.event(now, event) {
+            Ok(answer) => {
+                give_back(room);
+                told(self.alloc, command, logon, &answer)
+            }
+            Err(_) => Err(refused_by(&self.server)),
+        }
+    }
+
+    // An event of a server that goes on: the room first.
+    fn go_on(&mut self, now: u64, event: ServerEvent<'_>) -> Result<Reply, ServeError>
+        requires { stopped_of self.old.server ≡ None }
+        ensures short { IfOk result (λ r. IsServerShort r) }
+        ensures serves { (users : List User) (s : model.Server) (L : Logons) (records : List model.Record)
+            → ShowsBook D.told D.seen D.may_leave self.old users s L records → IsServerServed event.entry
+            → ServerServes (ShowsBook D.told D.seen D.may_leave self.new users) users s L records now event.entry result }
+        ensures halts { (users : List User) (s : model.Server) (L : Logons) (records : List model.Record)
+            → ShowsBook D.told D.seen D.may_leave self.old users s L records
+            → Halts (stopped_of self.old.server) (stopped_of self.new.server) result }
+        ensures stops { (count : ℕ) → result ≡ Err (errors.Stopped count) → stopped_of self.new.server ≡ Some count }
+    {
+        let command = shape_in(self.alloc, &event);
+        let logon = logon_in(&self.server, &event);
+        match Vec::<u8>::with_capacity(self.alloc, room_for(&command)) {
+            Ok(room) => self.carry(now, event, &command, &logon, room),
+            Err(_) => Err(ServeError::Memory),
+        }
+    }
+}
+
+impl<D: Disk> Serve for Book<D> {
+    ghost use Rattle.server_core.specs.disk_server.Shown.{ShowsBook};
+    ghost use Rattle.server_core.specs.Shown.{stopped_of};
+
+    ghost shows = { λ b users s L records. ShowsBook D.told D.seen D.may_leave b users s L records };
+
+    ghost stopped = { λ b. stopped_of b.server };
+
+    fn event(&mut self, now: u64, event: ServerEvent<'_>) -> Result<Reply, ServeError> {
+        match self.server.stopped() {
+            Some(count) => Err(ServeError::Stopped(count)),
+            None => self.go_on(now, event),
+        }
+    }
+}

@@ -1,0 +1,8 @@
+//! The server's answer to an event, as its connections see it.
+
+mod progress;
+mod told;
+
+pub use conn_core::{Reply, Serve, ServeError};
+pub use progress::Logon;
+pub use told::reply_from;

@@ -1,0 +1,7 @@
+//! What was prepared of an event is carried out, behind the first deadlines of the opens that a recovery found (MS-SMB2 3.3.5).
+
+mod dating;
+
+pub use dating::carry_dated;
+pub use server_effects::{Prepared, dated_effects_law};
+pub use server_recovery::ServerState;

@@ -1,8 +1,0 @@
-//! What was prepared of an event is carried out, behind the first deadlines of the opens that a recovery found (MS-SMB2 3.3.5).
-#![tactic(auto)]
-
-mod dating;
-
-pub use dated_effects::{Prepared, dated_effects_law};
-pub use dating::carry_dated;
-pub use server_holds::ServerState;

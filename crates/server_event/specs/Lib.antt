@@ -1,4 +1,0 @@
-pub mod Behind
-pub mod Apart
-pub mod Early
-pub use Rattle.server_behind.specs.ServerHolds

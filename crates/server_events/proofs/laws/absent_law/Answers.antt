@@ -1,5 +1,0 @@
-use Rattle.server_events.proofs.Steps.{absent}
-use Rattle.server_events.proofs.laws.absent_law.Goals as goal
-
-pub returns : goal.returns
-returns c = absent

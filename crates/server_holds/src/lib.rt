@@ -1,6 +1,0 @@
-//! A server's tables with the journal behind them, and what they hold of the model's state.
-#![tactic(auto)]
-
-mod state;
-
-pub use state::ServerState;

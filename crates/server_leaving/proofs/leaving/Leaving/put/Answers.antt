@@ -1,5 +1,0 @@
-use Rattle.server_leaving.proofs.Files.{on_ok_by}
-use Rattle.server_leaving.proofs.leaving.Leaving.put.Goals as goal
-
-pub returns : goal.returns
-returns c = on_ok_by c.put_left.result c.put_left.ensures (λ f. (f, c.in_ok-put_gone.ensures))

@@ -1,1 +1,0 @@
-pub use Rattle.server_recording.specs as ServerRecording

@@ -1,5 +1,0 @@
-use Rattle.server_owed.proofs.Told.{other_setting}
-use Rattle.server_owed.proofs.change.path_in.Goals as goal
-
-pub returns-in_default : goal.returns-in_default
-returns-in_default c = other_setting c.args.setting.now c.in_default.not-Rename

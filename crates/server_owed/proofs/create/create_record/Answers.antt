@@ -1,9 +1,0 @@
-use Rattle.command_values.specs.Meaning.{message_of}
-use Rattle.journal_records.specs.Meaning.{opened}
-use Rattle.server_owed.proofs.Told.{told_create}
-use Rattle.server_owed.proofs.create.create_record.Goals as goal
-
-pub returns : goal.returns
-returns c = λ s t.
-    told_create (message_of c.args.m.now) c.args.action c.args.now _ _ _ _ c.args.request.now.attributes _ _ (opened c.args.made) _
-    c.origin_of-origin.ensures (c.new_file-file.ensures s t) c.in_ok-path.ensures c.has_bit-directory.ensures

@@ -1,5 +1,0 @@
-use Rattle.server_owed.proofs.Told.{other_elements}
-use Rattle.server_owed.proofs.lock.elements_of.Goals as goal
-
-pub returns-in_default : goal.returns-in_default
-returns-in_default c = other_elements c.args.m.now.command c.in_default.not-Lock

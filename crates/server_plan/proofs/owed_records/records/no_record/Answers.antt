@@ -1,0 +1,7 @@
+use Rattle.std.proofs.Common.{List, ap}
+use Rattle.journal.specs.record_bytes.Meaning.{records_of}
+use Rattle.journal.specs.declared.record_bytes.value.Record.{Record}
+use Rattle.server_plan.proofs.owed_records.records.no_record.Goals as goal
+
+pub returns : goal.returns
+returns c = ap (λ (v : List Record). records_of v) c.new.ensures

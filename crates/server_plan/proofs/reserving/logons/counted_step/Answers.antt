@@ -1,0 +1,28 @@
+use Rattle.std.proofs.Common.{◌<◌, subst, sym}
+use Rattle.wire_commands.specs.values.Meaning.{message_of}
+use Rattle.server_checks.specs.declared.session_table.table.Sessions.{Sessions}
+use Rattle.server_plan.proofs.reserving.Kept.{sessions_kept, with_sessions}
+use Rattle.server_plan.proofs.reserving.Steps.{challenge_for}
+use Rattle.server_plan.proofs.reserving.logons.counted_step.Goals as goal
+
+pub returns-in-Ok-clause-room : goal.returns-in-Ok-clause-room
+returns-in-Ok-clause-room c = (c.in-Ok.ensures.room, subst (λ (v : Sessions). v.given < 0xffff_ffff) (sym c.in-Ok.ensures.rest) c.requires)
+
+pub returns-in-Ok-clause-shown : goal.returns-in-Ok-clause-shown
+returns-in-Ok-clause-shown c = λ now s f h a w. challenge_for (record c.args.t.now {
+  sessions = c.reserve_link.new.self;
+}) s (message_of c.args.m.now) now
+    c.args.made.list c.args.made.acceptor c.args.made.token (with_sessions c.args.t.now c.reserve_link.new.self s h
+    (c.in-Ok.ensures.same s h.sessions))
+
+pub returns-in-Ok-clause-step : goal.returns-in-Ok-clause-step
+returns-in-Ok-clause-step c = λ p now h keys pending l. h
+
+pub returns-in-Err-clause-shown : goal.returns-in-Err-clause-shown
+returns-in-Err-clause-shown c = λ now s f h a w. with_sessions c.args.t.now c.reserve_link.new.self s h (c.in-Err.ensures.same s h.sessions)
+
+pub returns-in-Ok-clause-kept : goal.returns-in-Ok-clause-kept
+returns-in-Ok-clause-kept c = sessions_kept c.args.t.now c.reserve_link.new.self c.in-Ok.ensures.logons
+
+pub returns-in-Err-clause-kept : goal.returns-in-Err-clause-kept
+returns-in-Err-clause-kept c = sessions_kept c.args.t.now c.reserve_link.new.self c.in-Err.ensures.logons

@@ -1,4 +1,0 @@
-use Rattle.server_ready.proofs.logons.channel_for.Goals as goal
-
-pub returns : goal.returns
-returns c = λ keys pending l. (c.in_ok-token.ensures keys pending l, c.in_ok-keys.ensures keys pending l)

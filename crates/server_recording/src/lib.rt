@@ -1,6 +1,0 @@
-//! The body of an event's records goes onto a server's disk. Where that fails the server stops.
-#![tactic(auto)]
-
-mod recording;
-
-pub use recording::write;

@@ -1,0 +1,12 @@
+//! The part of a server's state that outlives a restart, and what the journal's records make of it.
+
+mod apply;
+mod creates;
+mod durable;
+mod files;
+mod leaves;
+mod locks;
+mod records;
+
+pub use apply::apply_records;
+pub use durable::{Durable, FULL_ROOM};

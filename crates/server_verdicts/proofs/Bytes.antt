@@ -1,8 +1,0 @@
--- Bytes of a write.
-use Rattle.std.proofs.Common.{◌≡◌, ℕ, ◌==◌, List, [], ◌∷◌, length, refl, arith}
-use Rattle.exchange_defs.specs.Content.{is_empty}
-
-pub empty_is : (xs : List ℕ) → (length xs == 0) ≡ is_empty xs
-unfolding is_empty
-empty_is [] = refl
-empty_is (x ∷ xs) = grind arith

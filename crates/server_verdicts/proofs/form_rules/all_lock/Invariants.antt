@@ -1,6 +1,0 @@
-use Rattle.std.proofs.Common.{◌≡◌, drop}
-use Rattle.exchange_defs.specs.Commands.{all_lock}
-use Rattle.server_verdicts.proofs.form_rules.all_lock.Given as goal
-
-abbrev pub invariant-loop-one : goal.invariant-loop-one
-invariant-loop-one l = all_lock (drop l.one-index l.elements) ≡ all_lock l.elements

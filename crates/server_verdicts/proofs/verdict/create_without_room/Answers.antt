@@ -1,6 +1,0 @@
-use Rattle.std.proofs.Common.{refl, ◌∙◌}
-use Rattle.command_values.specs.Meaning.{command_of}
-use Rattle.server_verdicts.proofs.verdict.create_without_room.Goals as goal
-
-pub returns-in-Create : goal.returns-in-Create
-returns-in-Create c = c.refused_create.ensures (command_of c.args.m.now.command) ∙ rw c.in-Create.is refl

@@ -1,6 +1,0 @@
-use Rattle.std.proofs.Common.{◌≡◌, drop}
-use Rattle.exchange_defs.specs.CheckSetup.{tree_in}
-use Rattle.session_bind.proofs.look.pipes_of.Given as goal
-
-abbrev pub invariant-loop-one : goal.invariant-loop-one
-invariant-loop-one l = tree_in (drop l.one-index l.trees) l.tree ≡ tree_in l.trees l.tree

@@ -1,7 +1,0 @@
-use Rattle.token_defs.specs.Tokens.{begun_by}
-use Rattle.session_bind.proofs.Breaks.{init_broken}
-use Rattle.session_bind.proofs.tokens.begun_in.Goals as goal
-
-pub returns-in_ok-check_break-in-Err : goal.returns-in_ok-check_break-in-Err
-unfolding begun_by
-returns-in_ok-check_break-in-Err c = init_broken c.in-Err.error _ c.in_ok-check_break-in-Err.ensures c.in-Err.ensures

@@ -1,5 +1,0 @@
-use Rattle.settling_law.proofs.Scripts.{scripts_settle}
-use Rattle.settling_law.proofs.scripts_settle_law.Goals as goal
-
-pub returns : goal.returns
-returns c = record { settle = scripts_settle c.lines_settle_law.ensures.settle c.script_settings_law.ensures.fit }

@@ -1,0 +1,45 @@
+-- How the server's command ends, as the words ask for it, and its status. What `drill` and `gen` come to stands with them.
+use Rattle.std.specs.Prelude.{◌≡◌, ℕ, Bool, false, List, [], ◌∷◌, Option, Some, None}
+use Rattle.serve_command.specs.server_settings.Words.{is_serve}
+use Rattle.serve_command.specs.declared.server_settings.words.Said.{Said}
+use Rattle.base_outside.specs.declared.streams.address.Address.{Address}
+use Rattle.serve_command.specs.Ends.{ServingEnds}
+use Rattle.serve_command.specs.Printing.{Prints, usage_line}
+use Rattle.serve_command.specs.declared.ending.Ending.{Ending}
+use Rattle.serve_command.specs.declared.ending.Ending.TheVariants.{Done, Usage, Settings, SourceFailed, SinkFailed, DiskFailed, NetFailed}
+use Rattle.serve_command.specs.declared.ending.Ending.TheVariants.{Memory, NoJournal, JournalFull}
+
+-- the first word is the server's
+abbrev pub asks_server : List (List ℕ) → Bool
+asks_server [] = false
+asks_server (word ∷ more) = is_serve word
+
+-- the status that the program ends with
+abbrev pub serve_status : Ending → ℕ
+serve_status Done = 0
+serve_status Usage = 2
+serve_status Settings = 3
+serve_status SourceFailed = 4
+serve_status SinkFailed = 5
+serve_status DiskFailed = 6
+serve_status NetFailed = 7
+serve_status Memory = 8
+serve_status NoJournal = 9
+serve_status JournalFull = 10
+
+-- Of source and sink it is told how often they had failed, before and behind, of a source also what it had left, and of
+-- a sink what it held.
+module _ {D N : Type 0} (told : Type 0) (seen : D → List ℕ) (may_leave : D → List ℕ → Type 0) (faults : D → ℕ)
+    (listens_at : N → Option Address) (links : N → ℕ) (net_faults : N → ℕ) (disk : D) (net : N) (left left' : Option (List ℕ))
+    (source source' : ℕ) (written written' : Option (List ℕ)) (sink sink' : ℕ) where
+  -- the command ended so, with the net and the disk that it left
+  abbrev pub HasEnded : Said → Ending → Type 0
+  HasEnded said ending = (net' : N) × (disk' : Option D)
+      × ServingEnds told seen may_leave faults listens_at links net_faults said disk left left' source source' written
+      written' sink sink' net net'
+      disk' ending
+
+  -- by what the words say: where that is nothing, the usage is printed, and the source is as it was
+  abbrev pub Serves : Option Said → Ending → Type 0
+  Serves None ending = (left' ≡ left) × (source' ≡ source) × Prints written written' sink sink' usage_line Usage ending
+  Serves (Some said) ending = HasEnded said ending

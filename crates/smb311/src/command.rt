@@ -1,0 +1,7 @@
+//! What the program does: the server's command where the first of its words is `serve`, and else `drill` or `gen`.
+
+mod serving;
+mod top;
+mod words;
+
+pub use top::smb311;

@@ -1,0 +1,101 @@
+// `serve` as the words ask for it.
+ghost use Rattle.std.specs.Prelude.{◌≡◌, map, None};
+ghost use Rattle.std.specs.String.{string_bytes};
+ghost use Rattle.serve_command.specs.server_settings.Words.{said};
+ghost use Rattle.serve_command.specs.declared.ending.Ending.{Ending};
+ghost use Rattle.smb311.specs.command.Top.{HasEnded, Serves, serve_status};
+
+use base_outside::{Clock, Disk, Net, Sink, Source};
+use rand_core::Rng;
+use serve_command::{Ending, Said, read_words, serve, usage};
+use std::alloc::Global;
+use std::sync::Wait;
+use std::thread::Threads;
+
+/// Serves as the words say, or tells what the words are, and answers the status.
+pub(crate) fn served<W, S, O, D, N, C, R>(
+    rt: &W,
+    alloc: Global,
+    words: &[String],
+    source: &mut S,
+    sink: &mut O,
+    disk: D,
+    net: N,
+    clock: C,
+    random: R,
+) -> u8
+where
+    W: Wait + Threads + Sync,
+    S: Source,
+    O: Sink,
+    D: Disk + Drop + Send,
+    N: Net + Drop,
+    C: Clock + Drop + Send,
+    R: Rng + Drop + Send,
+    ensures ends { (ending : Ending) × (result ≡ serve_status ending)
+        × Serves D.told D.seen D.may_leave D.faults N.listens_at N.accepted N.faults disk net (S.left source.old) (S.left source.new)
+        (S.faults source.old) (S.faults source.new) (O.written sink.old) (O.written sink.new) (O.faults sink.old) (O.faults sink.new)
+        (said (map string_bytes words.now)) ending }
+    ensures words_first { said (map string_bytes words.now) ≡ None → source.new ≡ source.old }
+{
+    served_by(rt, alloc, words, source, sink, disk, net, clock, random) as u8
+}
+
+fn served_by<W, S, O, D, N, C, R>(
+    rt: &W,
+    alloc: Global,
+    words: &[String],
+    source: &mut S,
+    sink: &mut O,
+    disk: D,
+    net: N,
+    clock: C,
+    random: R,
+) -> Ending
+where
+    W: Wait + Threads + Sync,
+    S: Source,
+    O: Sink,
+    D: Disk + Drop + Send,
+    N: Net + Drop,
+    C: Clock + Drop + Send,
+    R: Rng + Drop + Send,
+    ensures ends { Serves D.told D.seen D.may_leave D.faults N.listens_at N.accepted N.faults disk net
+        (S.left source.old) (S.left source.new)
+        (S.faults source.old) (S.faults source.new) (O.written sink.old) (O.written sink.new) (O.faults sink.old) (O.faults sink.new)
+        (said (map string_bytes words.now)) result }
+    ensures words_first { said (map string_bytes words.now) ≡ None → source.new ≡ source.old }
+{
+    match read_words(words) {
+        Some(said) => ended(rt, alloc, &said, source, sink, disk, net, clock, random),
+        None => usage(sink),
+    }
+}
+
+// Serves, and gives net and disk away.
+fn ended<W, S, O, D, N, C, R>(
+    rt: &W,
+    alloc: Global,
+    said: &Said,
+    source: &mut S,
+    sink: &mut O,
+    disk: D,
+    net: N,
+    clock: C,
+    random: R,
+) -> Ending
+where
+    W: Wait + Threads + Sync,
+    S: Source,
+    O: Sink,
+    D: Disk + Drop + Send,
+    N: Net + Drop,
+    C: Clock + Drop + Send,
+    R: Rng + Drop + Send,
+    ensures { HasEnded D.told D.seen D.may_leave D.faults N.listens_at N.accepted N.faults disk net (S.left source.old) (S.left source.new)
+        (S.faults source.old) (S.faults source.new) (O.written sink.old) (O.written sink.new) (O.faults sink.old) (O.faults sink.new)
+        said.now result }
+{
+    let finished = serve(rt, alloc, said, source, sink, disk, net, clock, random);
+    finished.ending
+}

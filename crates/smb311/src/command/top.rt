@@ -1,0 +1,83 @@
+// The call.
+ghost use Rattle.std.specs.Prelude.{◌≡◌, map, true, false, None};
+ghost use Rattle.std.specs.String.{string_bytes};
+ghost use Rattle.rand_core.specs.Stream.{fill_bytes};
+ghost use Rattle.serve_command.specs.server_settings.Words.{said};
+ghost use Rattle.serve_command.specs.declared.ending.Ending.{Ending as ServeEnding};
+ghost use Rattle.drill_command.specs.Asking.{asked_in};
+ghost use Rattle.drill_command.specs.TopCall.{CommandEnds, command_reads, status_of};
+ghost use Rattle.drill_command.specs.declared.ending.Ending.{Ending};
+ghost use Rattle.smb311.specs.command.Top.{Serves, asks_server, serve_status};
+
+use crate::command::serving::served;
+use crate::command::words::asks_server;
+use base_outside::{Clock, Disk, Net, Sink, Source};
+use drill_command::smb311_drill;
+use rand_core::Rng;
+use std::alloc::Global;
+use std::sync::Wait;
+use std::thread::Threads;
+
+/// Does the command that the words name and answers the program's status.
+///
+/// Where the first word is `serve`, it is the server's command: it reads settings and serves the connections that a net accepts, over what
+/// the disk holds. Else it is `drill` or `gen`, and disk, net and clock aren't used. The status is 0 where that was done, 2 where the words
+/// are no command, 3 where a line is refused, 4 where the source failed, 5 where the sink did, 6 where the disk did, 7 where the net did, 8
+/// where memory ran out, 9 where the disk holds no journal, and 10 where the journal has no room for one more start. What is written goes
+/// to the sink alone.
+pub fn smb311<W, S, O, D, N, C, R>(
+    rt: &W,
+    alloc: Global,
+    words: &[String],
+    source: &mut S,
+    sink: &mut O,
+    disk: D,
+    net: N,
+    clock: C,
+    random: R,
+) -> u8
+where
+    W: Wait + Threads + Sync,
+    S: Source,
+    O: Sink,
+    D: Disk + Drop + Send,
+    N: Net + Drop,
+    C: Clock + Drop + Send,
+    R: Rng + Drop + Send,
+    // The first word is `serve`: the status is that of an ending of the server's command, and what that ending says holds.
+    ensures serves { asks_server (map string_bytes words.now) ≡ true → (ending : ServeEnding) × (result ≡ serve_status ending)
+        × Serves D.told D.seen D.may_leave D.faults N.listens_at N.accepted N.faults disk net (S.left source.old) (S.left source.new)
+        (S.faults source.old) (S.faults source.new) (O.written sink.old) (O.written sink.new) (O.faults sink.old) (O.faults sink.new)
+        (said (map string_bytes words.now)) ending }
+    // Another or none: the same of `drill` and `gen`, whose run draws from these bytes.
+    ensures drills { asks_server (map string_bytes words.now) ≡ false → (ending : Ending) × (result ≡ status_of ending)
+        × CommandEnds (asked_in (map string_bytes words.now)) (fill_bytes 32 (R.stream random)).0 (S.left source.old) (S.left source.new)
+        (O.written sink.old) (O.written sink.new) (S.faults source.old) (S.faults source.new) (O.faults sink.old) (O.faults sink.new)
+        ending }
+    // The words are judged first: where they are neither the server's nor `drill`, nothing is read.
+    ensures words_first { said (map string_bytes words.now) ≡ None → command_reads (asked_in (map string_bytes words.now)) ≡ false
+        → source.new ≡ source.old }
+{
+    if asks_server(words) {
+        served(rt, alloc, words, source, sink, disk, net, clock, random)
+    } else {
+        drilled(alloc, words, source, sink, random)
+    }
+}
+
+// `drill` and `gen`.
+fn drilled<S: Source, O: Sink, R: Rng + Drop>(
+    alloc: Global,
+    words: &[String],
+    source: &mut S,
+    sink: &mut O,
+    mut random: R,
+) -> u8
+    ensures ends { (ending : Ending) × (result ≡ status_of ending)
+        × CommandEnds (asked_in (map string_bytes words.now)) (fill_bytes 32 (R.stream random)).0 (S.left source.old) (S.left source.new)
+        (O.written sink.old) (O.written sink.new) (S.faults source.old) (S.faults source.new) (O.faults sink.old) (O.faults sink.new)
+        ending }
+    ensures words_first { command_reads (asked_in (map string_bytes words.now)) ≡ false → source.new ≡ source.old }
+{
+    smb311_drill(alloc, words, source, sink, &mut random)
+}

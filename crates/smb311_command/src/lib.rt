@@ -1,8 +1,0 @@
-//! What the program does: the server's command where the first of its words is `serve`, and else `drill` or `gen`.
-#![tactic(auto)]
-
-mod serving;
-mod top;
-mod words;
-
-pub use top::smb311;

@@ -1,0 +1,3 @@
+pub mod ciphers
+pub mod sessions
+pub mod tokens

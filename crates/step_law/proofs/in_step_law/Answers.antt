@@ -1,5 +1,0 @@
-use Rattle.step_law.proofs.InStep.{tied_goes}
-use Rattle.step_law.proofs.in_step_law.Goals as goal
-
-pub returns : goal.returns
-returns c = record { in_step = tied_goes c.nothing_is_refused_law.ensures }

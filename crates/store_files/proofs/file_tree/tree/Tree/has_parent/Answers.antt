@@ -1,0 +1,13 @@
+use Rattle.std.proofs.Common.{sym, ap, ◌∙◌}
+use Rattle.spec_exchange.specs.Files.{find, has_parent, is_found_directory}
+use Rattle.store_files.proofs.file_tree.Found.{found_there}
+use Rattle.store_files.proofs.file_tree.tree.Tree.has_parent.Goals as goal
+
+pub returns-in-Some : goal.returns-in-Some
+unfolding has_parent is_found_directory
+returns-in-Some c = λ s h. let f = c.in-Some.ensures s h in c.is_directory.ensures s h (found_there s _ _ (sym f))
+    ∙ ap (is_found_directory s) (f ∙ ap (find s) c.parent_of.ensures)
+
+pub returns-in-None : goal.returns-in-None
+unfolding has_parent is_found_directory
+returns-in-None c = λ s h. let f = c.in-None.ensures s h in ap (is_found_directory s) (f ∙ ap (find s) c.parent_of.ensures)

@@ -1,0 +1,16 @@
+use Rattle.std.proofs.Common.{◌≡◌, ◌+◌, ◌-◌, ◌≤◌, ◌<◌, ℕ, List, Bool, false, length, drop, get_or}
+use Rattle.spec_exchange.specs.Listing.{one_byte}
+use Rattle.store_files.specs.names.Rows.{AreFor}
+use Rattle.store_files.proofs.names.pattern.this_byte.Given as goal
+
+abbrev pub invariant-loop-i : goal.invariant-loop-i
+invariant-loop-i l = record {
+  in_range : l.i ≤ length l.name;
+  len : length l.fits ≡ length l.name + 1;
+  behind : (k : ℕ) → l.i ≤ k → get_or l.fits k false ≡ get_or l.initial.fits k false;
+  done : (f : List ℕ → Bool) → AreFor l.initial.fits f l.name → (k : ℕ) → k < l.i → get_or l.fits k false
+      ≡ one_byte l.character f (drop k l.name);
+}
+
+abbrev pub decreases-loop-i : goal.decreases-loop-i
+decreases-loop-i l = length l.name - l.i

@@ -1,0 +1,3 @@
+pub mod file_extents
+pub mod names
+pub mod file_tree

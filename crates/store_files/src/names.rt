@@ -1,0 +1,7 @@
+//! Names and paths of files (MS-FSCC 2.1.5, MS-SMB2 2.2.13).
+
+mod names;
+mod pattern;
+
+pub use names::{key_of, path_form, units};
+pub use pattern::accepts;

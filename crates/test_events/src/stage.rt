@@ -1,0 +1,312 @@
+// A server, and the events of a row on it.
+use crate::around::envelope_of;
+use crate::event_calls::{
+    Envelope, Fault, config, first_token, kept, second_token, setup_heard, setup_message,
+};
+use crate::event_server::Runs;
+use crate::requests::{request, write};
+use crate::told::{push_answer, push_digits};
+use crate::words::{has, option, payload, small, word};
+use base_outside::Disk;
+use server_checks::{Config, ServerEvent};
+use server_effects::Answer;
+use std::alloc::{AllocError, Global};
+use std::fmt::Write;
+use store_files::StoredFile;
+use wire_bytes::Bytes;
+
+// The first session of the first epoch.
+const FIRST: u64 = 0x1_0000_0001;
+
+fn flip_last(bytes: &mut [u8]) {
+    if let Some(last) = bytes.last_mut() {
+        *last ^= 1;
+    }
+}
+
+// All bytes of a disk.
+fn push_disk<D: Disk>(said: &mut String, alloc: Global, disk: &mut D) -> Result<(), Fault> {
+    let length = disk.length().unwrap_or(1_000_000);
+    if length >= 1_000_000 {
+        return Err(Fault::Other);
+    }
+    let mut bytes = vec![in alloc; 0u8; length as usize]?;
+    if disk.read(0, bytes.as_mut_slice()).is_err() {
+        return Err(Fault::Other);
+    }
+    kept(push_digits(said, bytes.as_slice()))
+}
+
+// `PATH BYTES` for each file.
+fn push_files(said: &mut String, files: &[StoredFile]) -> Result<(), AllocError> {
+    if files.is_empty() {
+        return said.push_str("none");
+    }
+    for file in files {
+        if !said.is_empty() {
+            said.push_str(", ")?;
+        }
+        write!(said, "{} ", file.path.as_str())?;
+        push_digits(said, file.bytes.as_slice())?;
+    }
+    Ok(())
+}
+
+/// A server and the moment of its events, with the last token that it gave, the session that this names, and what was answered last.
+#[derive(Drop)]
+pub struct Stage<S: Runs> {
+    alloc: Global,
+    room: u64,
+    encrypts: bool,
+    server: Option<S>,
+    now: u64,
+    token: Bytes,
+    session: u64,
+    said: String,
+}
+
+impl<S: Runs> Stage<S> {
+    pub fn new(alloc: Global, room: u64, encrypts: bool) -> Stage<S> {
+        Stage {
+            alloc,
+            room,
+            encrypts,
+            server: None,
+            now: 5,
+            token: Bytes::new(alloc),
+            session: 0,
+            said: String::new(alloc),
+        }
+    }
+
+    /// What was answered last.
+    pub fn said(&self) -> &str {
+        self.said.as_str()
+    }
+
+    pub fn is_begun(&self) -> bool {
+        self.server.is_some()
+    }
+
+    // Whether the last event succeeded, or asks for the next token of a logon.
+    fn is_done(&self) -> bool {
+        let said = self.said.as_str();
+        said.starts_with("ok") || said.starts_with("c0000016")
+    }
+
+    fn say(&mut self, text: &str) -> Result<(), Fault> {
+        self.said.clear();
+        kept(self.said.push_str(text))
+    }
+
+    fn begin_with(&mut self, disk: S::D, config: Config) -> Result<(), Fault> {
+        match S::begin(self.alloc, disk, config) {
+            Ok(server) => {
+                self.server = Some(server);
+                self.say("ok")
+            }
+            Err(error) => kept(write!(self.said, "{error:?}")),
+        }
+    }
+
+    /// Begins on what a disk holds: `ok`, or why there is no server.
+    pub fn begin(&mut self, disk: S::D) -> Result<(), Fault> {
+        self.said.clear();
+        match config(self.alloc, self.room, self.encrypts) {
+            Ok(config) => self.begin_with(disk, config),
+            Err(_) => Err(Fault::Memory),
+        }
+    }
+
+    fn stopped(&mut self) -> Result<S::D, Fault> {
+        match self.server.take() {
+            Some(server) => Ok(server.stop()),
+            None => Err(Fault::Other),
+        }
+    }
+
+    fn restart(&mut self) -> Result<(), Fault> {
+        let disk = self.stopped()?;
+        self.begin(disk)
+    }
+
+    // All bytes of the disk, on which the server is then gone.
+    fn disk(&mut self) -> Result<(), Fault> {
+        let mut disk = self.stopped()?;
+        push_disk(&mut self.said, self.alloc, &mut disk)
+    }
+
+    fn files(&mut self) -> Result<(), Fault> {
+        let Some(server) = &self.server else {
+            return Err(Fault::Other);
+        };
+        let files = server.files()?;
+        kept(push_files(&mut self.said, files.as_slice()))
+    }
+
+    fn event(&mut self, around: &Envelope, event: ServerEvent<'_>) -> Result<(), Fault> {
+        let Some(server) = &mut self.server else {
+            return Err(Fault::Other);
+        };
+        match server.event(self.now, event) {
+            Ok(answer) => self.told(around, answer),
+            Err(error) => kept(write!(self.said, "{error:?}")),
+        }
+    }
+
+    // Keeps the token of an answer, and the session that it names.
+    fn told(&mut self, around: &Envelope, answer: Answer) -> Result<(), Fault> {
+        push_answer(&mut self.said, self.alloc, around, &answer)?;
+        let Answer { reply, token, .. } = answer;
+        if !token.is_empty() {
+            self.session = reply.session_id;
+            self.token = token;
+        }
+        Ok(())
+    }
+
+    // An event of a connection, which has no ids.
+    fn bare(&mut self, event: ServerEvent<'_>) -> Result<(), Fault> {
+        let mut around = Envelope::of(0);
+        around.tree = 0;
+        self.event(&around, event)
+    }
+
+    fn heard(&mut self, around: &Envelope, message: &[u8]) -> Result<(), Fault> {
+        let setup = setup_heard(self.alloc, around, message)?;
+        self.event(around, ServerEvent::Setup { setup })
+    }
+
+    // A SESSION_SETUP with this token; the flag `cut` leaves only a part of its body.
+    fn setup(&mut self, words: &[&str], session: u64, token: &[u8]) -> Result<(), Fault> {
+        let around = envelope_of(words, session);
+        let mut message = setup_message(self.alloc, &around, token)?;
+        if has(words, "cut") {
+            message.truncate(70);
+        }
+        self.heard(&around, message.as_slice())
+    }
+
+    fn first(&mut self, words: &[&str]) -> Result<(), Fault> {
+        let token = first_token(self.alloc)?;
+        self.setup(words, 0, token.as_slice())
+    }
+
+    // The answer to the last challenge, of `User` or of `user=NAME:PASSWORD`; the flag `flip` changes its last byte, of the MIC.
+    fn second(&mut self, words: &[&str]) -> Result<(), Fault> {
+        let named = option(words, "user").unwrap_or("User:Password");
+        let (user, password) = named.split_once(':').unwrap_or((named, ""));
+        let token = second_token(self.alloc, user, password, self.token.as_slice())?;
+        let mut token = token.into_vec();
+        if has(words, "flip") {
+            flip_last(token.as_mut_slice());
+        }
+        self.setup(words, self.session, token.as_slice())
+    }
+
+    fn request(&mut self, words: &[&str]) -> Result<(), Fault> {
+        let command = request(self.alloc, words)?;
+        let around = envelope_of(words, FIRST);
+        self.event(&around, around.event(command))
+    }
+
+    fn write(&mut self, words: &[&str]) -> Result<(), Fault> {
+        let bytes = payload(self.alloc, word(words, 3))?;
+        let around = envelope_of(words, FIRST);
+        self.event(&around, around.event(write(words, bytes.as_slice())))
+    }
+
+    fn log_on(&mut self, words: &[&str]) -> Result<(), Fault> {
+        self.first(words)?;
+        self.said.clear();
+        self.second(words)
+    }
+
+    fn of_words(&mut self, words: &[&str]) -> Result<(), Fault> {
+        match word(words, 0) {
+            "accept" => self.bare(ServerEvent::Accept {
+                connection: small(words, 1),
+            }),
+            "end" => self.bare(ServerEvent::End {
+                connection: small(words, 1),
+            }),
+            "stop" => self.bare(ServerEvent::Stop),
+            "first" => self.first(words),
+            "second" => self.second(words),
+            "bad" => self.setup(words, 0, &[0x60, 0]),
+            "logon" => self.log_on(words),
+            "write" => self.write(words),
+            _ => self.request(words),
+        }
+    }
+
+    // What is answered to one event.
+    fn single(&mut self, event: &str) -> Result<(), Fault> {
+        let words: Vec<&str> = event.split(' ').collect(self.alloc)?;
+        self.said.clear();
+        self.of_words(&words)
+    }
+
+    // An event with a number for `#`, behind another one, which succeeded.
+    fn numbered(&mut self, event: &str, number: &str) -> Result<(), Fault> {
+        if !self.is_done() {
+            return Err(Fault::Other);
+        }
+        let event = event.replace(self.alloc, "#", number)?;
+        self.single(event.as_str())
+    }
+
+    // Events with ` & ` between them.
+    fn once(&mut self, events: &str, number: u32) -> Result<(), Fault> {
+        let number = format!(in self.alloc; "{number}")?;
+        for event in events.split(" & ") {
+            self.numbered(event, number.as_str())?;
+        }
+        Ok(())
+    }
+
+    // `times COUNT EVENTS`: these, with ` & ` between them and the count from 1 on for `#`, so often. All but the last succeed.
+    fn repeated(&mut self, rest: &str) -> Result<(), Fault> {
+        let (count, events) = rest.split_once(' ').unwrap_or((rest, ""));
+        self.say("ok")?;
+        for i in 0..count.parse::<u32>().unwrap_or(0) {
+            self.once(events, i.saturating_add(1))?;
+        }
+        Ok(())
+    }
+
+    /// An event that succeeds.
+    pub fn prepare(&mut self, event: &str) -> Result<(), Fault> {
+        self.answer(event)?;
+        if self.is_done() {
+            Ok(())
+        } else {
+            Err(Fault::Other)
+        }
+    }
+
+    // `begin`: connection 1 with a session of `User` and a tree of the share.
+    fn first_tree(&mut self) -> Result<(), Fault> {
+        self.repeated("1 accept 1 & logon & connect data tree=0")
+    }
+
+    fn moment(&mut self, rest: &str) -> Result<(), Fault> {
+        self.now = rest.parse::<u64>().unwrap_or(0);
+        self.say("ok")
+    }
+
+    /// What is answered to an event: one of the server, `times`, `begin`, `at MOMENT`, a `restart`, the `files`, or the `disk`.
+    pub fn answer(&mut self, event: &str) -> Result<(), Fault> {
+        self.said.clear();
+        let (word, rest) = event.split_once(' ').unwrap_or((event, ""));
+        match word {
+            "at" => self.moment(rest),
+            "times" => self.repeated(rest),
+            "begin" => self.first_tree(),
+            "restart" => self.restart(),
+            "files" => self.files(),
+            "disk" => self.disk(),
+            _ => self.single(event),
+        }
+    }
+}

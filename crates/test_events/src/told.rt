@@ -1,0 +1,207 @@
+// The answer to an event: `ok` or the status, ` acts` where it acted, the ids that aren't its request's, and what a success tells.
+use crate::event_calls::{Envelope, Fault, check_last, kept, keys_behind};
+use server_effects::Answer;
+use std::alloc::{AllocError, Global};
+use std::fmt::Write;
+use wire_commands::{Body, CreateReply, Info, Named, Reply};
+
+/// Hexadecimal digits, `-` for no bytes.
+pub fn push_digits(said: &mut String, bytes: &[u8]) -> Result<(), AllocError> {
+    if bytes.is_empty() {
+        return said.push_str("-");
+    }
+    for byte in bytes {
+        write!(said, "{:02x}", *byte)?;
+    }
+    Ok(())
+}
+
+/// `EPOCH.COUNTER`, or 0.
+fn push_id(said: &mut String, id: u64) -> Result<(), AllocError> {
+    if id == 0 {
+        return said.push_str("0");
+    }
+    write!(said, "{}.{}", id >> 32, id & 0xffff_ffff)
+}
+
+// The four times stand with commas between them, or once where they are the same.
+fn push_times(said: &mut String, info: &Info) -> Result<(), AllocError> {
+    let b = info.times;
+    if b.accessed == b.created && b.written == b.created && b.changed == b.created {
+        return write!(said, "{}", b.created);
+    }
+    write!(
+        said,
+        "{},{},{},{}",
+        b.created, b.accessed, b.written, b.changed
+    )
+}
+
+// `FILE KIND SIZE TIMES ATTRIBUTES`, with `pending` where it goes with its last open.
+fn push_info(said: &mut String, info: &Info) -> Result<(), AllocError> {
+    let kind = if info.is_directory { "dir" } else { "file" };
+    write!(said, "{} {kind} {} at ", info.file, info.size)?;
+    push_times(said, info)?;
+    let pending = if info.is_delete_pending {
+        " pending"
+    } else {
+        ""
+    };
+    write!(said, " {:x}{pending}", info.times.attributes)
+}
+
+fn action_of(reply: &CreateReply) -> &'static str {
+    match reply.action {
+        0 => "superseded",
+        1 => "opened",
+        2 => "created",
+        _ => "overwritten",
+    }
+}
+
+// `timeout MS`, `maximal` and `disk`.
+fn push_contexts(said: &mut String, reply: &CreateReply) -> Result<(), AllocError> {
+    if let Some(timeout) = reply.timeout {
+        write!(said, " timeout {timeout}")?;
+    }
+    let maximal = if reply.maximal { " maximal" } else { "" };
+    let disk = if reply.disk_id { " disk" } else { "" };
+    write!(said, "{maximal}{disk}")
+}
+
+// `ID ACTION INFO`, and what its contexts tell.
+fn push_created(said: &mut String, reply: &CreateReply) -> Result<(), AllocError> {
+    push_id(said, reply.id)?;
+    write!(said, " {} ", action_of(reply))?;
+    push_info(said, &reply.info)?;
+    push_contexts(said, reply)
+}
+
+// `NAME:FILE` for each entry.
+fn push_listing(said: &mut String, class: u8, entries: &[Named]) -> Result<(), AllocError> {
+    write!(said, "class {class}")?;
+    for entry in entries {
+        write!(said, " {}:{}", entry.name.as_str(), entry.info.file)?;
+    }
+    Ok(())
+}
+
+fn path(path: &str) -> &str {
+    if path.is_empty() { "-" } else { path }
+}
+
+fn push_file_info(
+    said: &mut String,
+    class: u8,
+    name: &str,
+    about: &Info,
+    access: u32,
+    options: u32,
+) -> Result<(), AllocError> {
+    write!(said, "class {class} {} ", path(name))?;
+    push_info(said, about)?;
+    write!(said, " access {access:x} options {options:x}")
+}
+
+fn push_body(said: &mut String, body: &Body) -> Result<(), AllocError> {
+    match body {
+        Body::Empty => Ok(()),
+        Body::Created(reply) => push_created(said, reply),
+        Body::Closed { info } => push_info(said, info),
+        Body::Content { bytes } => push_digits(said, bytes.as_slice()),
+        Body::Count { count } => write!(said, "{count}"),
+        Body::Interfaces { address } => write!(said, "{:08x}:{}", address.ip, address.port),
+        Body::Listing { class, entries } => push_listing(said, *class, entries.as_slice()),
+        Body::FileInfo {
+            class,
+            path,
+            info,
+            access,
+            options,
+        } => push_file_info(said, *class, path.as_str(), info, *access, *options),
+        Body::VolumeInfo { class, room, used } => {
+            write!(said, "class {class} room {room} used {used}")
+        }
+        Body::SetUp { sealed, channel } => {
+            let kind = if *sealed { "sealed" } else { "signed" };
+            write!(said, "{kind} channel {channel}")
+        }
+        Body::Connected {
+            kind,
+            capabilities,
+            access,
+        } => write!(said, "share {kind} {capabilities:x} {access:x}"),
+    }
+}
+
+fn push_status(said: &mut String, reply: &Reply, acted: bool) -> Result<(), AllocError> {
+    if reply.status == 0 {
+        said.push_str("ok")?;
+    } else {
+        write!(said, "{:08x}", reply.status)?;
+    }
+    if acted {
+        said.push_str(" acts")?;
+    }
+    Ok(())
+}
+
+// The ids that aren't the request's.
+fn push_ids(said: &mut String, around: &Envelope, reply: &Reply) -> Result<(), AllocError> {
+    if reply.session_id != around.session {
+        said.push_str(" session ")?;
+        push_id(said, reply.session_id)?;
+    }
+    if reply.tree_id != around.tree {
+        write!(said, " tree {}", reply.tree_id)?;
+    }
+    Ok(())
+}
+
+fn push_reply(
+    said: &mut String,
+    around: &Envelope,
+    reply: &Reply,
+    acted: bool,
+) -> Result<(), AllocError> {
+    push_status(said, reply, acted)?;
+    push_ids(said, around, reply)?;
+    if let Body::Empty = reply.body {
+        return Ok(());
+    }
+    said.push_str(" ")?;
+    push_body(said, &reply.body)
+}
+
+// The number of a channel that a reply tells.
+fn channel_told(reply: &Reply) -> u32 {
+    match reply.body {
+        Body::SetUp { channel, .. } => channel,
+        _ => 0,
+    }
+}
+
+// A channel has the keys that its client has, the number that its reply tells, and a token that ends its logon.
+fn check_channel(alloc: Global, around: &Envelope, answer: &Answer) -> Result<(), Fault> {
+    let Some(keys) = answer.keys else {
+        return Ok(());
+    };
+    let Some(number) = answer.channel else {
+        return Err(Fault::Other);
+    };
+    if keys != keys_behind(around) || channel_told(&answer.reply) != number as u32 {
+        return Err(Fault::Other);
+    }
+    check_last(alloc, answer.token.as_slice())
+}
+
+/// Puts the answer to a request that came in such an envelope.
+pub fn push_answer(
+    said: &mut String,
+    alloc: Global,
+    around: &Envelope,
+    answer: &Answer,
+) -> Result<(), Fault> {
+    check_channel(alloc, around, answer)?;
+    kept(push_reply(said, around, &answer.reply, answer.acted))
+}

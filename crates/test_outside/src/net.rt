@@ -1,0 +1,103 @@
+use base_outside::{Address, Clock, Failed, Link, MemNet, Net, StdClock, StdNet, file_time};
+use std::net::{Ipv4Addr, SocketAddr, TcpListener};
+use std::sync::Wait;
+use std::test::Fail;
+use std::thread::{self, Threads};
+use std::time::Duration;
+use wire_bytes::Bytes;
+
+/// Writes a word and reads the answer to it, and then the end.
+fn ask<L: Link>(link: &mut L) -> Result<[u8; 4], Failed> {
+    let mut into = [0u8; 4];
+    link.write(b"ping")?;
+    link.read(&mut into)?;
+    Ok(into)
+}
+
+/// Reads a word, and writes it backwards.
+fn answer<L: Link>(link: &mut L) -> Result<[u8; 4], Failed> {
+    let mut into = [0u8; 4];
+    link.read(&mut into)?;
+    into.reverse();
+    link.write(&into)?;
+    Ok(into)
+}
+
+/// Accepts a link, answers on it and says what it gives then.
+fn serve<N: Net>(net: &mut N) -> Result<usize, Failed> {
+    let mut link = net.accept()?;
+    answer(&mut link)?;
+    link.read(&mut [0u8; 4])
+}
+
+fn call<N: Net>(net: &mut N, to: Address) -> Result<[u8; 4], Failed> {
+    let mut link = net.connect(to)?;
+    ask(&mut link)
+}
+
+const AT: Address = Address {
+    ip: 0x7f00_0001,
+    port: 4450,
+};
+
+fn in_two_threads<W: Wait + Threads + Sync>(
+    rt: &W,
+    mut first: MemNet<'_, W>,
+    mut second: MemNet<'_, W>,
+) -> (
+    (Result<usize, Failed>, Result<usize, Failed>),
+    Result<[u8; 4], Failed>,
+) {
+    thread::join(
+        rt,
+        move || (serve(&mut first), serve(&mut first)),
+        move || call(&mut second, AT),
+    )
+}
+
+#[test]
+fn a_net_joins_two_threads(rt: HostRuntime) -> Result<(), Fail> {
+    let alloc = rt.alloc();
+    let (first, second) = MemNet::new(&rt, alloc, 1, Bytes::new(alloc), Bytes::new(alloc))?;
+    let (served, called) = in_two_threads(&rt, first, second);
+    assert_eq!(rt; served, (Ok(0), Err(Failed)));
+    assert_eq!(rt; called, Ok(*b"gnip"));
+    Ok(())
+}
+
+#[test]
+fn the_machine_is_a_net(rt: HostRuntime) -> Result<(), Fail> {
+    let loopback = SocketAddr::new(Ipv4Addr::LOCALHOST.into(), 0);
+    let port = TcpListener::bind(&rt, loopback)?.local_addr()?.port();
+    let at = Address { ip: AT.ip, port };
+    let mut net = StdNet::new(&rt);
+    assert!(rt; net.accept().is_err(), "it doesn't listen yet");
+    assert_eq!(rt; net.listen(at), Ok(()));
+    let mut mine = net.connect(at)?;
+    let mut theirs = net.accept()?;
+    assert_eq!(rt; mine.write(b"ping"), Ok(4));
+    assert_eq!(rt; answer(&mut theirs), Ok(*b"gnip"));
+    drop(theirs);
+    let mut into = [0u8; 9];
+    assert_eq!(rt; mine.read(&mut into), Ok(4));
+    assert_eq!(rt; into, *b"gnip\0\0\0\0\0");
+    assert_eq!(rt; mine.read(&mut into), Ok(0));
+    assert_eq!(rt; mine.fault_count(), 0);
+    drop(net);
+    assert!(rt; StdNet::new(&rt).connect(at).is_err(), "nobody listens");
+    Ok(())
+}
+
+#[test]
+fn clocks_count_from_1601(rt: HostRuntime) -> Result<(), Fail> {
+    assert_eq!(rt; file_time(Duration::from_secs(0)), 116_444_736_000_000_000);
+    assert_eq!(rt;
+        file_time(Duration::new(1_172_163_600, 306_162_900)),
+        128_166_372_003_061_629
+    );
+    let mut clock = StdClock::new(&rt);
+    let then = clock.now();
+    assert!(rt; then > 133_000_000_000_000_000, "it is later than 2022");
+    assert!(rt; clock.now() >= then, "it doesn't go back");
+    Ok(())
+}

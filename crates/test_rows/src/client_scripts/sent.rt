@@ -1,0 +1,103 @@
+// What goes out at a push, as its request has it.
+use crate::client_scripts::plays::{Fault, Plays, kept};
+use client_events::Act;
+use client_steps::Head;
+use std::alloc::{AllocError, Global};
+use std::fmt::Write;
+use wire_commands::{Command, CreateRequest};
+
+/// The random bytes of a run, of which no row tells.
+const SALT: u64 = 7;
+
+/// Puts what a push came to, with what goes out.
+pub fn push_sent<P: Plays>(
+    said: &mut String,
+    alloc: Global,
+    played: &P,
+    act: Act,
+) -> Result<(), Fault> {
+    match act {
+        Act::Sends(index) => sends(said, alloc, played, index),
+        Act::Asks(index) => asks(said, alloc, played, index),
+        Act::Nothing => kept(said.push_str("nothing")),
+        Act::CloseChannels => kept(said.push_str("closes all")),
+        Act::AllSettled => kept(said.push_str("done")),
+        Act::CloseChannel => Err(Fault::Refused),
+    }
+}
+
+fn sends<P: Plays>(
+    said: &mut String,
+    alloc: Global,
+    played: &P,
+    index: usize,
+) -> Result<(), Fault> {
+    write!(said, "sends {index}")?;
+    push_request(said, alloc, played, index, false)
+}
+
+fn asks<P: Plays>(said: &mut String, alloc: Global, played: &P, index: usize) -> Result<(), Fault> {
+    write!(said, "asks {index}")?;
+    push_request(said, alloc, played, index, true)
+}
+
+fn push_request<P: Plays>(
+    said: &mut String,
+    alloc: Global,
+    played: &P,
+    index: usize,
+    asking: bool,
+) -> Result<(), Fault> {
+    let head = played.head_at(index, asking)?;
+    push_command(said, alloc, played, index, asking, head)?;
+    kept(said.push_str(if head.replay { " replay" } else { "" }))
+}
+
+fn push_command<P: Plays>(
+    said: &mut String,
+    alloc: Global,
+    played: &P,
+    index: usize,
+    asking: bool,
+    head: Head,
+) -> Result<(), Fault> {
+    let command = played.request_at(alloc, index, asking, SALT)?;
+    kept(push_named(said, &command, head))
+}
+
+/// The FileId that a request names, the ChannelSequence, and the lock slot.
+fn push_named(said: &mut String, command: &Command<'_>, head: Head) -> Result<(), AllocError> {
+    match command {
+        Command::Create(request) => push_create(said, request, head),
+        Command::Write { file, .. }
+        | Command::Read { file, .. }
+        | Command::SetInfo { file, .. }
+        | Command::Flush { file }
+        | Command::QueryFile { file, .. }
+        | Command::ListDirectory { file, .. }
+        | Command::Close { file, .. } => push_file(said, *file, head),
+        Command::Lock {
+            file,
+            index,
+            number,
+            ..
+        } => write!(
+            said,
+            " file {file} sequence {} slot {index} {number}",
+            head.sequence
+        ),
+        _ => said.push_str(" a request of no operation"),
+    }
+}
+
+fn push_file(said: &mut String, file: u64, head: Head) -> Result<(), AllocError> {
+    write!(said, " file {file} sequence {}", head.sequence)
+}
+
+/// A create names no open; a request to attach one does.
+fn push_create(said: &mut String, request: &CreateRequest, head: Head) -> Result<(), AllocError> {
+    match &request.reconnect {
+        Some(reconnect) => push_file(said, reconnect.file, head),
+        None => write!(said, " sequence {}", head.sequence),
+    }
+}

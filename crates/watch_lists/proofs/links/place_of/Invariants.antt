@@ -1,9 +1,0 @@
-use Rattle.std.proofs.Common.{◌≡◌, ◌<◌, length}
-use Rattle.watch_lists.specs.Listed.{watches}
-use Rattle.watch_lists.proofs.links.place_of.Given as goal
-
-abbrev pub invariant-loop-at : goal.invariant-loop-at
-invariant-loop-at l = record { watch : watches l.links l.at ≡ l.holder; higher : l.index < l.at; inside : l.at < length l.links }
-
-abbrev pub decreases-loop-at : goal.decreases-loop-at
-decreases-loop-at l = l.at

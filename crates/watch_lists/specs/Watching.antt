@@ -1,6 +1,0 @@
--- The table of whom each number watches, behind a change.
-use Rattle.std.specs.Prelude.{ℕ, ◌==◌, if◌then◌else◌}
-
--- the table with v at k
-abbrev pub put : (ℕ → ℕ) → ℕ → ℕ → ℕ → ℕ
-put f k v g = if g == k then v else f g

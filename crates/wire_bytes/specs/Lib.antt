@@ -1,0 +1,2 @@
+pub mod byte_lists
+pub mod frames

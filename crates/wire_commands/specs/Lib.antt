@@ -1,0 +1,3 @@
+pub mod values
+pub mod reply_shapes
+pub mod writing

@@ -1,0 +1,105 @@
+//! CREATE.
+ghost use Rattle.std.specs.Prelude.{◌≡◌, IfOk, option_map};
+ghost use Rattle.spec_commands.specs.CommandOf;
+ghost use Rattle.spec_commands.specs.Text.{text_in};
+ghost use Rattle.wire_commands.specs.values.Meaning;
+ghost use Rattle.wire_messages.specs.file_messages.Views.{message_create_request};
+
+use crate::reading::ids::{file_of, guid_of};
+use crate::reading::status::{INVALID_PARAMETER, OBJECT_NAME_INVALID, unreadable};
+use crate::reading::texts::text_in;
+use crate::values::{Command, CreateRequest, Durable, Reconnect};
+use law_commands::same_reading_law;
+use spec_wire::{CreateContexts, Dh2c, Dh2q};
+use std::alloc::{AllocError, Global};
+use wire_bytes::Text;
+use wire_messages::{read_chain, read_create_request};
+
+// What the contexts say, where none breaks.
+fn contexts_in(bytes: &[u8]) -> Option<CreateContexts>
+    ensures { CommandOf.contexts_in bytes.now ≡ result }
+{
+    same_reading_law();
+    match read_chain(bytes) {
+        Ok(contexts) => Some(contexts),
+        Err(_) => None,
+    }
+}
+
+fn durable_of(asked: Option<Dh2q>) -> Option<Durable>
+    ensures { option_map Meaning.durable_of result ≡ option_map CommandOf.durable_of asked }
+{
+    match asked {
+        Some(q) => Some(Durable {
+            timeout: q.timeout,
+            persistent: q.persistent,
+            guid: guid_of(&q.guid),
+        }),
+        None => None,
+    }
+}
+
+fn reconnect_of(asked: Option<Dh2c>) -> Option<Reconnect>
+    ensures { option_map Meaning.reconnect_of result ≡ option_map CommandOf.reconnect_of asked }
+{
+    match asked {
+        Some(q) => Some(Reconnect {
+            file: file_of(&q.file),
+            guid: guid_of(&q.guid),
+        }),
+        None => None,
+    }
+}
+
+// The command of a name and of contexts that read.
+fn named_create<'a>(
+    v: &wire_messages::CreateRequest<'_>,
+    path: Text,
+    c: &CreateContexts,
+) -> Command<'a>
+    ensures { Meaning.command_of result ≡ CommandOf.create_of (message_create_request v.now) (Some path) (Some c.now) }
+{
+    Command::Create(CreateRequest {
+        path,
+        access: v.desired_access,
+        share: v.share_access,
+        attributes: v.file_attributes,
+        disposition: v.create_disposition,
+        options: v.create_options,
+        durable: durable_of(c.dh2q),
+        reconnect: reconnect_of(c.dh2c),
+        maximal: c.mxac,
+        disk_id: c.qfid,
+    })
+}
+
+fn create_of<'a>(
+    alloc: Global,
+    v: &wire_messages::CreateRequest<'_>,
+) -> Result<Command<'a>, AllocError>
+    ensures { IfOk result (λ c. Meaning.command_of c ≡ CommandOf.create_of (message_create_request v.now) (text_in v.now.name.now)
+        (CommandOf.contexts_in v.now.contexts.now)) }
+{
+    match text_in(alloc, v.name) {
+        Ok(Some(path)) => match contexts_in(v.contexts) {
+            Some(contexts) => Ok(named_create(v, path, &contexts)),
+            None => Ok(Command::Unreadable {
+                status: INVALID_PARAMETER,
+            }),
+        },
+        Ok(None) => Ok(Command::Unreadable {
+            status: OBJECT_NAME_INVALID,
+        }),
+        Err(error) => Err(error),
+    }
+}
+
+#[tactic(auto, unfolding(spec_commands::specs::CommandOf::create_in), using(crate::proofs::reading::Unless::reads_or_breaks))]
+pub(crate) fn create_in(alloc: Global, m: &[u8]) -> Result<Command<'_>, AllocError>
+    ensures { IfOk result (λ c. Meaning.command_of c ≡ CommandOf.create_in m.now) }
+{
+    match read_create_request(m) {
+        Ok(v) => create_of(alloc, &v),
+        Err(error) => Ok(unreadable(error)),
+    }
+}

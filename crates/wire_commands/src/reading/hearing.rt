@@ -1,0 +1,242 @@
+//! The reply that a client hears of a response, as far as it looks (MS-SMB2 3.2.5).
+ghost use Rattle.std.specs.Prelude.{◌≡◌, ◌==◌, if◌then◌else◌, ℕ, Bool, List, Some, None, IfOk, option_map};
+ghost use Rattle.spec_exchange.specs.Status.{success};
+ghost use Rattle.spec_exchange.specs.Commands as asks;
+ghost use Rattle.spec_exchange.specs.State as says;
+ghost use Rattle.spec_commands.specs.ReplyOf;
+ghost use Rattle.wire_commands.specs.values.Meaning;
+
+use crate::reading::heard_names::listing_in;
+use crate::reading::ids::{file_of, has_bit};
+use crate::values::{Address, Body, Command, CreateReply, Info, Reply};
+use spec_exchange::values::Basic;
+use spec_wire::Header;
+use std::alloc::{AllocError, Global};
+use wire_bytes::{Bytes, Text};
+use wire_info::{
+    read_file_standard_information, read_query_directory_response, read_query_info_response,
+    read_set_info_response,
+};
+use wire_messages::{
+    read_close_response, read_create_response, read_flush_response, read_lock_response,
+    read_logoff_response, read_read_response, read_session_setup_response,
+    read_tree_connect_response, read_tree_disconnect_response, read_write_response,
+};
+
+// Of a file a client looks at its length alone.
+pub(crate) fn of_length(size: u64) -> Info
+    ensures { Meaning.info_of result ≡ ReplyOf.of_length size }
+{
+    Info {
+        file: 0,
+        is_directory: false,
+        size,
+        is_delete_pending: false,
+        times: Basic {
+            created: 0,
+            accessed: 0,
+            written: 0,
+            changed: 0,
+            attributes: 0,
+        },
+    }
+}
+
+#[tactic(auto, unfolding(spec_commands::specs::ReplyOf::body_in))]
+fn setup_in(m: &[u8]) -> Option<Body>
+    ensures { (r : asks.SetupRequest) → option_map Meaning.body_of result ≡ ReplyOf.body_in (asks.Setup r) m.now }
+{
+    match read_session_setup_response(m) {
+        Ok(v) => Some(Body::SetUp {
+            sealed: has_bit(v.session_flags as u32, 4),
+            channel: 0,
+        }),
+        Err(_) => None,
+    }
+}
+
+#[tactic(auto, unfolding(spec_commands::specs::ReplyOf::body_in))]
+fn tree_in(m: &[u8]) -> Option<Body>
+    ensures { (share : List ℕ) → option_map Meaning.body_of result ≡ ReplyOf.body_in (asks.TreeConnect share) m.now }
+{
+    match read_tree_connect_response(m) {
+        Ok(v) => Some(Body::Connected {
+            kind: v.share_type,
+            capabilities: v.capabilities,
+            access: v.maximal_access,
+        }),
+        Err(_) => None,
+    }
+}
+
+#[tactic(auto, unfolding(spec_commands::specs::ReplyOf::body_in))]
+fn created_in(m: &[u8]) -> Option<Body>
+    ensures { (r : asks.CreateRequest) → option_map Meaning.body_of result ≡ ReplyOf.body_in (asks.Create r) m.now }
+{
+    match read_create_response(m) {
+        Ok(v) => Some(Body::Created(CreateReply {
+            id: file_of(&v.file_id),
+            action: v.create_action,
+            info: of_length(v.end_of_file),
+            timeout: None,
+            maximal: false,
+            disk_id: false,
+        })),
+        Err(_) => None,
+    }
+}
+
+// A response that tells a client nothing.
+fn empty_if(reads: bool) -> Option<Body>
+    ensures { option_map Meaning.body_of result ≡ (if reads then Some says.Empty else None) }
+{
+    if reads { Some(Body::Empty) } else { None }
+}
+
+#[tactic(auto, unfolding(spec_commands::specs::ReplyOf::body_in))]
+fn content_in(alloc: Global, m: &[u8]) -> Result<Option<Body>, AllocError>
+    ensures { (file at size minimum channel : ℕ) → IfOk result
+        (λ found. option_map Meaning.body_of found ≡ ReplyOf.body_in (asks.Read file at size minimum channel) m.now) }
+{
+    match read_read_response(m) {
+        Ok(v) => match Bytes::from_slice(alloc, v.payload) {
+            Ok(bytes) => Ok(Some(Body::Content { bytes })),
+            Err(error) => Err(error),
+        },
+        Err(_) => Ok(None),
+    }
+}
+
+#[tactic(auto, unfolding(spec_commands::specs::ReplyOf::body_in))]
+fn count_in(m: &[u8]) -> Option<Body>
+    ensures { (file at : ℕ) (bytes : List ℕ) (channel : ℕ) → option_map Meaning.body_of result
+        ≡ ReplyOf.body_in (asks.Write file at bytes channel) m.now }
+{
+    match read_write_response(m) {
+        Ok(v) => Some(Body::Count { count: v.count }),
+        Err(_) => None,
+    }
+}
+
+// Of a QUERY_INFO this client asks the class 5 alone (MS-FSCC 2.4.41).
+fn standard_in(alloc: Global, output: &[u8]) -> Option<Body>
+    ensures { option_map Meaning.body_of result ≡ ReplyOf.standard_in output.now }
+{
+    match read_file_standard_information(output) {
+        Ok(v) => Some(Body::FileInfo {
+            class: 5,
+            path: Text::new(alloc),
+            info: of_length(v.end_of_file),
+            access: 0,
+            options: 0,
+        }),
+        Err(_) => None,
+    }
+}
+
+#[tactic(auto, unfolding(spec_commands::specs::ReplyOf::body_in, spec_commands::specs::ReplyOf::file_in))]
+fn file_in(alloc: Global, class: u8, m: &[u8]) -> Option<Body>
+    ensures { (file room : ℕ) → option_map Meaning.body_of result ≡ ReplyOf.body_in (asks.QueryFile file class room) m.now }
+{
+    match read_query_info_response(m) {
+        Ok(v) => {
+            if class == 5 {
+                return standard_in(alloc, v.output);
+            }
+            None
+        }
+        Err(_) => None,
+    }
+}
+
+#[tactic(auto, unfolding(spec_commands::specs::ReplyOf::body_in))]
+fn list_in(alloc: Global, class: u8, m: &[u8]) -> Result<Option<Body>, AllocError>
+    ensures { (file : ℕ) (restart single : Bool) (pattern : List ℕ) (room : ℕ) → IfOk result
+        (λ found. option_map Meaning.body_of found ≡ ReplyOf.body_in (asks.ListDirectory file class restart single pattern room)
+        m.now) }
+{
+    match read_query_directory_response(m) {
+        Ok(v) => listing_in(alloc, class, v.output),
+        Err(_) => Ok(None),
+    }
+}
+
+// What a success to a command says.
+#[tactic(auto, unfolding(spec_commands::specs::ReplyOf::body_in))]
+fn body_in(alloc: Global, command: &Command<'_>, m: &[u8]) -> Result<Option<Body>, AllocError>
+    ensures { IfOk result (λ found. option_map Meaning.body_of found ≡ ReplyOf.body_in (Meaning.command_of command.now) m.now) }
+{
+    match command {
+        Command::Setup(_) => Ok(setup_in(m)),
+        Command::Logoff => Ok(empty_if(read_logoff_response(m).is_ok())),
+        Command::TreeConnect { share: _ } => Ok(tree_in(m)),
+        Command::TreeDisconnect => Ok(empty_if(read_tree_disconnect_response(m).is_ok())),
+        Command::Create(_) => Ok(created_in(m)),
+        Command::Close { file: _, query: _ } => Ok(empty_if(read_close_response(m).is_ok())),
+        Command::Flush { file: _ } => Ok(empty_if(read_flush_response(m).is_ok())),
+        Command::Read { .. } => content_in(alloc, m),
+        Command::Write { .. } => Ok(count_in(m)),
+        Command::Lock { .. } => Ok(empty_if(read_lock_response(m).is_ok())),
+        Command::ListDirectory {
+            file: _,
+            class,
+            restart: _,
+            single: _,
+            pattern: _,
+            room: _,
+        } => list_in(alloc, *class, m),
+        Command::QueryFile {
+            file: _,
+            class,
+            room: _,
+        } => Ok(file_in(alloc, *class, m)),
+        Command::SetInfo { .. } => Ok(empty_if(read_set_info_response(m).is_ok())),
+        _ => Ok(None),
+    }
+}
+
+// The body of a success that doesn't read, which no operation's success has.
+fn other_body() -> Body
+    ensures { Meaning.body_of result ≡ ReplyOf.other_body }
+{
+    Body::Interfaces {
+        address: Address { ip: 0, port: 0 },
+    }
+}
+
+fn body_of(alloc: Global, command: &Command<'_>, status: u32, m: &[u8]) -> Result<Body, AllocError>
+    ensures { IfOk result (λ b. Meaning.body_of b
+        ≡ (if status == success then ReplyOf.or_other (ReplyOf.body_in (Meaning.command_of command.now) m.now) else says.Empty)) }
+{
+    if status != 0 {
+        return Ok(Body::Empty);
+    }
+    match body_in(alloc, command, m) {
+        Ok(Some(body)) => Ok(body),
+        Ok(None) => Ok(other_body()),
+        Err(error) => Err(error),
+    }
+}
+
+/// The reply that a client hears of the response `m`, which begins with this header, to its command (MS-SMB2 3.2.5).
+/// A success whose body doesn't read as the command's response has the body `Interfaces`, which no operation's
+/// success has. Of a file its length alone is told, of a listing the names. What a READ gave takes memory.
+#[tactic(auto, unfolding(spec_commands::specs::ReplyOf::reply_of))]
+pub fn reply_of(
+    alloc: Global,
+    command: &Command<'_>,
+    header: &Header,
+    m: &[u8],
+) -> Result<Reply, AllocError>
+    ensures { IfOk result (λ r. Meaning.reply_of r ≡ ReplyOf.reply_of (Meaning.command_of command.now) header.now m.now) }
+{
+    match body_of(alloc, command, header.status, m) {
+        Ok(body) => Ok(Reply {
+            status: header.status,
+            session_id: header.session,
+            tree_id: header.tree,
+            body,
+        }),
+        Err(error) => Err(error),
+    }
+}

@@ -1,0 +1,198 @@
+//! What a success tells of a file, as the bytes of an information class (MS-FSCC 2.4).
+ghost use Rattle.std.specs.Prelude.{◌≡◌, ◌/◌, ◌%◌, ◌<◌, ◌^◌, ◌∷◌, ℕ, List, length, IfOk, MatchResult};
+ghost use Rattle.spec_wire.specs.messages.Places.{le};
+ghost use Rattle.spec_wire.specs.messages.Utf16.{utf16};
+ghost use Rattle.spec_wire.specs.messages.FileClasses.{file_basic_information_spelling, file_standard_information_spelling};
+ghost use Rattle.spec_wire.specs.messages.FileClasses.{file_internal_information_spelling, file_all_information_spelling};
+ghost use Rattle.spec_wire.specs.messages.FileClasses.{file_network_open_information_spelling};
+ghost use Rattle.spec_commands.specs.Infos;
+ghost use Rattle.spec_commands.specs.Tables.{bit_if};
+ghost use Rattle.wire_commands.specs.values.Meaning;
+ghost use Rattle.wire_commands.specs.writing.Writing.{IsBodyRefused};
+
+use crate::values::Info;
+use crate::writing::fault::WriteError;
+use std::alloc::{AllocError, Global};
+use wire_bytes::{Bytes, Text, utf16_of};
+use wire_info::{
+    FileAllInformation, FileBasicInformation, FileInternalInformation, FileNetworkOpenInformation,
+    FileStandardInformation, write_file_all_information, write_file_basic_information,
+    write_file_internal_information, write_file_network_open_information,
+    write_file_standard_information,
+};
+
+// The AllocationSize of a length: whole units of 4,096 bytes, as far as 8 bytes hold it.
+#[tactic(auto, using(crate::proofs::writing::Sizes::allocation_told, crate::proofs::writing::Sizes::allocation_past))]
+pub(crate) fn allocation(size: u64) -> u64
+    ensures { le 8 result ≡ le 8 (Infos.allocation size) }
+{
+    let units = size / 4096;
+    if size % 4096 == 0 {
+        return units * 4096;
+    }
+    if units == 0xf_ffff_ffff_ffff {
+        return 0;
+    }
+    (units + 1) * 4096
+}
+
+// The attributes without NORMAL, 0x80.
+#[tactic(auto, unfolding(spec_commands::specs::Infos::without_bit, spec_exchange::specs::Commands::has_bit))]
+fn without_normal(attributes: u32) -> u32
+    ensures { result ≡ Infos.without_bit attributes 0x80 }
+{
+    if attributes / 0x80 % 2 == 1 {
+        return attributes - 0x80;
+    }
+    attributes
+}
+
+// The attributes without DIRECTORY, 0x10.
+#[tactic(auto, unfolding(spec_commands::specs::Infos::without_bit, spec_exchange::specs::Commands::has_bit))]
+fn without_directory(attributes: u32) -> u32
+    ensures others { result ≡ Infos.without_bit attributes 0x10 }
+    ensures no_directory { result / 16 % 2 ≡ 0 }
+{
+    if attributes / 0x10 % 2 == 1 {
+        return attributes - 0x10;
+    }
+    attributes
+}
+
+// FileAttributes: a directory alone is told as one, and NORMAL alone where there is no other.
+#[tactic(auto, unfolding(spec_commands::specs::Infos::attributes_of))]
+pub(crate) fn attributes_of(info: &Info) -> u32
+    ensures { result ≡ Infos.attributes_of (Meaning.info_of info.now) }
+{
+    let plain = without_directory(without_normal(info.times.attributes));
+    if info.is_directory {
+        return plain + 0x10;
+    }
+    if plain == 0 { 0x80 } else { plain }
+}
+
+#[tactic(auto, unfolding(spec_commands::specs::Tables::bit_if))]
+pub(crate) fn bit_if(wanted: bool, bit: u8) -> u8
+    ensures { result ≡ bit_if wanted bit }
+{
+    if wanted { bit } else { 0 }
+}
+
+fn basic(alloc: Global, info: &Info) -> Result<Bytes, AllocError>
+    ensures { IfOk result (λ b. b ≡ file_basic_information_spelling (Infos.basic_of (Meaning.info_of info.now))) }
+{
+    let value = FileBasicInformation {
+        creation_time: info.times.created,
+        last_access_time: info.times.accessed,
+        last_write_time: info.times.written,
+        change_time: info.times.changed,
+        file_attributes: attributes_of(info),
+    };
+    write_file_basic_information(alloc, &value)
+}
+
+fn standard(alloc: Global, info: &Info) -> Result<Bytes, AllocError>
+    ensures { IfOk result (λ b. b ≡ file_standard_information_spelling (Infos.standard_of (Meaning.info_of info.now))) }
+{
+    let value = FileStandardInformation {
+        allocation_size: allocation(info.size),
+        end_of_file: info.size,
+        number_of_links: 1,
+        delete_pending: bit_if(info.is_delete_pending, 1),
+        directory: bit_if(info.is_directory, 1),
+    };
+    write_file_standard_information(alloc, &value)
+}
+
+fn internal(alloc: Global, info: &Info) -> Result<Bytes, AllocError>
+    ensures { IfOk result (λ b. b ≡ file_internal_information_spelling (record { index_number = info.now.file })) }
+{
+    let value = FileInternalInformation {
+        index_number: info.file,
+    };
+    write_file_internal_information(alloc, &value)
+}
+
+fn network_open(alloc: Global, info: &Info) -> Result<Bytes, AllocError>
+    ensures { IfOk result (λ b. b ≡ file_network_open_information_spelling (Infos.network_open_of (Meaning.info_of info.now))) }
+{
+    let value = FileNetworkOpenInformation {
+        creation_time: info.times.created,
+        last_access_time: info.times.accessed,
+        last_write_time: info.times.written,
+        change_time: info.times.changed,
+        allocation_size: allocation(info.size),
+        end_of_file: info.size,
+        file_attributes: attributes_of(info),
+    };
+    write_file_network_open_information(alloc, &value)
+}
+
+// The path behind a `\`, in UTF-16.
+fn rooted(alloc: Global, path: &str) -> Result<Bytes, AllocError>
+    ensures { IfOk result (λ b. b ≡ utf16 (92 ∷ path.now)) }
+{
+    let mut text = Text::from_str(alloc, "\\")?;
+    text.push_str(path)?;
+    utf16_of(alloc, text.as_str())
+}
+
+// All that is told of a file, with the name of 2^32 bytes at most.
+fn all(
+    alloc: Global,
+    name: &[u8],
+    info: &Info,
+    access: u32,
+    options: u32,
+) -> Result<Bytes, AllocError>
+    requires { length name.now < 2 ^ 32 }
+    ensures { (path : List ℕ) → name.now ≡ utf16 (92 ∷ path) → IfOk result
+        (λ b. b ≡ file_all_information_spelling (Infos.all_of path (Meaning.info_of info.now) access options)) }
+{
+    let value = FileAllInformation {
+        creation_time: info.times.created,
+        last_access_time: info.times.accessed,
+        last_write_time: info.times.written,
+        change_time: info.times.changed,
+        file_attributes: attributes_of(info),
+        allocation_size: allocation(info.size),
+        end_of_file: info.size,
+        number_of_links: 1,
+        delete_pending: bit_if(info.is_delete_pending, 1),
+        directory: bit_if(info.is_directory, 1),
+        index_number: info.file,
+        access_flags: access,
+        mode: options & 0x103e,
+        name,
+    };
+    write_file_all_information(alloc, &value)
+}
+
+/// What a QUERY_INFO of a file answers by its class: 4, 5, 6, 34, and 18 for any other. `Unwritable` comes only where that
+/// is 2^32 bytes or more.
+#[tactic(auto, using(crate::proofs::writing::Contexts::all_long), unfolding(spec_commands::specs::Infos::file_bytes))]
+pub(crate) fn file_bytes(
+    alloc: Global,
+    class: u8,
+    path: &str,
+    info: &Info,
+    access: u32,
+    options: u32,
+) -> Result<Bytes, WriteError>
+    ensures { MatchResult result (λ b. b ≡ Infos.file_bytes class path.now (Meaning.info_of info.now) access options)
+        (λ e. IsBodyRefused (length (Infos.file_bytes class path.now (Meaning.info_of info.now) access options) < 2 ^ 32) e) }
+{
+    match class {
+        4 => Ok(basic(alloc, info)?),
+        5 => Ok(standard(alloc, info)?),
+        6 => Ok(internal(alloc, info)?),
+        34 => Ok(network_open(alloc, info)?),
+        _ => {
+            let name = rooted(alloc, path)?;
+            if name.len() >= 0x1_0000_0000 {
+                return Err(WriteError::Unwritable);
+            }
+            Ok(all(alloc, name.as_slice(), info, access, options)?)
+        }
+    }
+}

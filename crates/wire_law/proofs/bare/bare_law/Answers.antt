@@ -1,8 +1,0 @@
-use Rattle.std.proofs.Common.{arith}
-use Rattle.std.proofs.lemmas.Grind.{common_steps}
-use Rattle.wire_defs.specs.Bare.{bare_table}
-use Rattle.wire_law.proofs.Rows.{table_again}
-use Rattle.wire_law.proofs.bare.bare_law.Goals as goal
-
-pub returns-clause-again : goal.returns-clause-again
-returns-clause-again c = λ header rest e. table_again bare_table header rest 64 e (grind (arith, common_steps))

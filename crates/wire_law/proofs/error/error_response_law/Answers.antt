@@ -1,6 +1,0 @@
-use Rattle.wire_defs.specs.Error.{error_response_table}
-use Rattle.wire_law.proofs.Rows.{table_again}
-use Rattle.wire_law.proofs.error.error_response_law.Goals as goal
-
-pub returns-clause-again : goal.returns-clause-again
-returns-clause-again c = λ header rest v e fit. table_again (error_response_table v) header rest 64 e fit

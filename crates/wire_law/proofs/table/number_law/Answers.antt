@@ -1,8 +1,0 @@
-use Rattle.wire_defs.proofs.Numbers.{length-le, number_of-le}
-use Rattle.wire_law.proofs.table.number_law.Goals as goal
-
-pub returns-clause-width : goal.returns-clause-width
-returns-clause-width c = length-le
-
-pub returns-clause-again : goal.returns-clause-again
-returns-clause-again c = number_of-le

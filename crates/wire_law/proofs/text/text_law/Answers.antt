@@ -1,8 +1,0 @@
-use Rattle.wire_law.proofs.Characters.{one_text, text_holds}
-use Rattle.wire_law.proofs.text.text_law.Goals as goal
-
-pub returns-clause-one : goal.returns-clause-one
-returns-clause-one c = one_text
-
-pub returns-clause-whole : goal.returns-clause-whole
-returns-clause-whole c = text_holds

@@ -1,0 +1,4 @@
+pub mod session_messages
+pub mod negotiate_contexts
+pub mod file_messages
+pub mod create_contexts

@@ -1,2 +1,0 @@
-pub mod Starting
-pub use Rattle.world_ends.specs as WorldEnds

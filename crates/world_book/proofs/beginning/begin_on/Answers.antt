@@ -1,4 +1,0 @@
-use Rattle.world_book.proofs.beginning.begin_on.Goals as goal
-
-pub returns-in-Ok : goal.returns-in-Ok
-returns-in-Ok c = record { begins = c.in-Ok.ensures.holds; config = c.in-Ok.ensures.config }

@@ -1,4 +1,0 @@
-mod Entered
-mod Growing
-mod Adding
-pub use Rattle.world_ends.proofs.ClientCore

@@ -1,9 +1,0 @@
-use Rattle.world_ended.proofs.ending.end.Goals as goal
-
-pub returns : goal.returns
-returns c = λ z w h. record {
-  fits = c.end.ensures.fits;
-  client = c.end.ensures.shown w.values.client h.own.client;
-  server = h.server;
-  places = h.places;
-}

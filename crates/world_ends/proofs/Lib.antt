@@ -1,1 +1,0 @@
-pub use Rattle.client_played.proofs.ClientCore

@@ -1,5 +1,0 @@
-use Rattle.world_examples.proofs.Frames.{cancel_is}
-use Rattle.world_examples.proofs.cancel_example.Goals as goal
-
-pub returns : goal.returns
-returns c = record { frames = cancel_is.0; ends = cancel_is.1; held = cancel_is.2 }

@@ -1,5 +1,0 @@
-use Rattle.world_examples.proofs.Mishaps.{given}
-use Rattle.world_examples.proofs.given_example.Goals as goal
-
-pub returns : goal.returns
-returns c = record { too_few = given.0; too_many = given.1; behind_a_stop = given.2 }

@@ -1,5 +1,0 @@
-use Rattle.world_examples.proofs.Mishaps.{no_mishap}
-use Rattle.world_examples.proofs.no_mishap_example.Goals as goal
-
-pub returns : goal.returns
-returns c = record { frames = no_mishap.0; matches = no_mishap.1; lacked = no_mishap.2 }

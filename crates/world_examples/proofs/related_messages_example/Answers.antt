@@ -1,5 +1,0 @@
-use Rattle.world_examples.proofs.Frames.{related_are}
-use Rattle.world_examples.proofs.related_messages_example.Goals as goal
-
-pub returns : goal.returns
-returns c = record { goes = related_are.0; fails = related_are.1 }

@@ -1,5 +1,0 @@
-use Rattle.world_examples.proofs.Mishaps.{setups}
-use Rattle.world_examples.proofs.setups_example.Goals as goal
-
-pub returns : goal.returns
-returns c = record { last = setups.0; past = setups.1; status = setups.2; count = setups.3 }

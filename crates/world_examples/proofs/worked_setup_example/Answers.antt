@@ -1,5 +1,0 @@
-use Rattle.world_examples.proofs.Greetings.{first_setup_asked, interim_told, second_setup_asked, last_is_told}
-use Rattle.world_examples.proofs.worked_setup_example.Goals as goal
-
-pub returns : goal.returns
-returns c = record { first = first_setup_asked; interim = interim_told; second = second_setup_asked; last = last_is_told }

@@ -1,4 +1,0 @@
-use Rattle.world_opens.proofs.entering.tell_accept.Goals as goal
-
-pub returns-in-Some : goal.returns-in-Some
-returns-in-Some c = rw c.in-Some.is c.accept.ensures

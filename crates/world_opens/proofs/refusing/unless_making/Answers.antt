@@ -1,9 +1,0 @@
-use Rattle.std.proofs.Common.{ap}
-use Rattle.world_defs.specs.Notes.{making_error}
-use Rattle.world_opens.proofs.refusing.unless_making.Goals as goal
-
-pub returns-in-Some : goal.returns-in-Some
-returns-in-Some c = ap making_error c.in-Some.is
-
-pub returns-in-None : goal.returns-in-None
-returns-in-None c = ap making_error c.in-None.is

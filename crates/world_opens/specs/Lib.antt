@@ -1,8 +1,0 @@
-pub mod Opening
-pub mod Putting
-pub use Rattle.world_steps.specs.ClientCore
-pub use Rattle.world_steps.specs.ClientEvent
-pub use Rattle.world_steps.specs.ClientPlayed
-pub use Rattle.world_steps.specs.WorldBook
-pub use Rattle.world_steps.specs.WorldEnds
-pub use Rattle.world_steps.specs as WorldSteps

@@ -1,7 +1,0 @@
-use Rattle.world_run.proofs.stepping.step.Goals as goal
-
-pub returns-then-is_watched : goal.returns-then-is_watched
-returns-then-is_watched c = c.step_watched.ensures
-
-pub returns : goal.returns
-returns c = c.meet.ensures

@@ -1,6 +1,0 @@
-use Rattle.std.proofs.Common.{◌+◌, ap}
-use Rattle.world_script.proofs.Begun.{some_same}
-use Rattle.world_script.proofs.running.count_behind.Goals as goal
-
-pub returns : goal.returns
-returns c = some_same c.added.result _ _ (ap (λ k. c.args.before + k) c.operations_in-more.ensures) c.added.ensures

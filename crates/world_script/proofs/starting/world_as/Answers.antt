@@ -1,9 +1,0 @@
-use Rattle.drill_defs.specs.Scripts.{drill_settings}
-use Rattle.world_script.proofs.Begun.{begun_by, ok_with}
-use Rattle.world_script.proofs.starting.world_as.Goals as goal
-
-pub returns : goal.returns
-returns c =
-    ok_with c.begin.result (λ x shown first connects. shown (drill_settings c.args.settings.now c.args.seed)
-    (begun_by c.args.settings.now c.args.user.now c.in_ok-config.config c.in_ok-client.client c.args.seed first c.in_ok-config.ensures
-    c.in_ok-client.ensures connects)) c.begin.ensures

@@ -1,2 +1,0 @@
-pub mod Drives
-pub use Rattle.world_settles.specs.WorldEnds

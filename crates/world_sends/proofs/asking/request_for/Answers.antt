@@ -1,4 +1,0 @@
-use Rattle.world_sends.proofs.asking.request_for.Goals as goal
-
-pub request_under-requires : goal.request_under-requires
-request_under-requires c = c.in-Ok.ensures

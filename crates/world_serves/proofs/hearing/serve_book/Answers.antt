@@ -1,4 +1,0 @@
-use Rattle.world_serves.proofs.hearing.serve_book.Goals as goal
-
-pub returns-in-Some : goal.returns-in-Some
-returns-in-Some c = rw c.in-Some.is c.serve_frame.ensures

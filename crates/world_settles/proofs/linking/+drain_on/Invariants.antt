@@ -1,4 +1,0 @@
-use Rattle.world_settles.proofs.linking.+drain_on.Given as goal
-
-abbrev pub decreases-drain_on : goal.decreases-drain_on
-decreases-drain_on l = l.turns

@@ -1,4 +1,0 @@
-use Rattle.world_settles.proofs.linking.+link_on.Given as goal
-
-abbrev pub decreases-link_on : goal.decreases-link_on
-decreases-link_on l = l.turns

@@ -1,4 +1,0 @@
-use Rattle.world_settles.proofs.linking.+serve_on.Given as goal
-
-abbrev pub decreases-serve_on : goal.decreases-serve_on
-decreases-serve_on l = l.most

@@ -1,5 +1,0 @@
-use Rattle.std.proofs.Common.{◌∙◌}
-use Rattle.world_settles.proofs.linking.downs_of.Goals as goal
-
-pub returns : goal.returns
-returns c = c.len.ensures ∙ c.args.channel.now.down.ok.0

@@ -1,4 +1,0 @@
-use Rattle.world_settles.proofs.linking.drain.Goals as goal
-
-pub returns : goal.returns
-returns c = λ z d h. c.drain_on.ensures z d h

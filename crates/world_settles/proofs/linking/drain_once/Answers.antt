@@ -1,8 +1,0 @@
-use Rattle.world_defs.specs.Courses.{served_all}
-use Rattle.world_settles.proofs.linking.drain_once.Goals as goal
-
-pub returns-in-Ok : goal.returns-in-Ok
-returns-in-Ok c = λ z d h. c.take_all.ensures z (served_all z d c.args.k) (c.in-Ok.ensures z d h)
-
-pub returns-in-Err : goal.returns-in-Err
-returns-in-Err c = λ z d h. c.in-Err.ensures z d h

@@ -1,4 +1,0 @@
-use Rattle.world_settles.proofs.linking.open_one.Goals as goal
-
-pub returns : goal.returns
-returns c = λ z d h. c.go.ensures z d h

@@ -1,4 +1,0 @@
-use Rattle.world_settles.proofs.settling.+drain_each.Given as goal
-
-abbrev pub decreases-drain_each : goal.decreases-drain_each
-decreases-drain_each l = l.count

@@ -1,4 +1,0 @@
-use Rattle.world_settles.proofs.settling.+drop_each.Given as goal
-
-abbrev pub decreases-drop_each : goal.decreases-drop_each
-decreases-drop_each l = l.count

@@ -1,4 +1,0 @@
-use Rattle.world_settles.proofs.settling.+least_apart.Given as goal
-
-abbrev pub decreases-least_apart : goal.decreases-least_apart
-decreases-least_apart l = l.count

@@ -1,4 +1,0 @@
-use Rattle.world_settles.proofs.settling.+least_ready.Given as goal
-
-abbrev pub decreases-least_ready : goal.decreases-least_ready
-decreases-least_ready l = l.count

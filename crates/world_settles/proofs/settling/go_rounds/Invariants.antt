@@ -1,8 +1,0 @@
-use Rattle.world_settles.proofs.Rounds.{AreReached}
-use Rattle.world_settles.proofs.settling.go_rounds.Given as goal
-
-abbrev pub invariant-loop-left : goal.invariant-loop-left
-invariant-loop-left l = AreReached l.fn.world l.world l.left l.most
-
-abbrev pub decreases-loop-left : goal.decreases-loop-left
-decreases-loop-left l = l.left

@@ -1,8 +1,0 @@
-use Rattle.std.proofs.Common.{refl}
-use Rattle.world_settles.proofs.settling.keep_finish.Goals as goal
-
-pub returns-then-is_watched : goal.returns-then-is_watched
-returns-then-is_watched c = c.note.ensures
-
-pub returns : goal.returns
-returns c = refl

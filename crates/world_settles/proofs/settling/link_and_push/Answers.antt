@@ -1,8 +1,0 @@
-use Rattle.world_defs.specs.Courses.{linked}
-use Rattle.world_settles.proofs.settling.link_and_push.Goals as goal
-
-pub returns-in-Ok : goal.returns-in-Ok
-returns-in-Ok c = λ z d h. c.push_ready.ensures z (linked z 256 d) (c.in-Ok.ensures z d h)
-
-pub returns-in-Err : goal.returns-in-Err
-returns-in-Err c = λ z d h. c.in-Err.ensures z d h

@@ -1,0 +1,4 @@
+mod Refused
+mod Drawn
+mod Standing
+mod Opened

@@ -1,0 +1,4 @@
+mod Left
+mod Said
+mod Asked
+mod Pushed

@@ -1,0 +1,11 @@
+use Rattle.std.proofs.Common.{sym, refl}
+use Rattle.world_steps.proofs.taking.Read.{token_is}
+use Rattle.world_steps.proofs.taking.hearing.response_of.Goals as goal
+
+pub returns-in-Ok : goal.returns-in-Ok
+returns-in-Ok c = record {
+  place_is = refl;
+  header = refl;
+  message = refl;
+  token = λ own. token_is c.args.answer.token c.in-Ok.number (sym c.in-Ok.ensures.1) own;
+}

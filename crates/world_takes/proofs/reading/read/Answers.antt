@@ -1,9 +1,0 @@
-use Rattle.std.proofs.Common.{◌∙◌, List, ℕ, ap}
-use Rattle.command_defs.specs.ReplyOf.{reply_of}
-use Rattle.command_values.specs.Meaning.{command_of}
-use Rattle.world_takes.proofs.reading.read.Goals as goal
-
-pub returns-in-Ok : goal.returns-in-Ok
-returns-in-Ok c =
-    c.in-Ok.ensures
-    ∙ ap (λ (v : List ℕ). reply_of (command_of c.args.command.now) c.args.response.now.header v) c.as_slice.ensures

@@ -1,5 +1,0 @@
-use Rattle.std.proofs.Common.{refl}
-use Rattle.world_talks.proofs.ending.refuse_by.Goals as goal
-
-pub returns-in-Ok : goal.returns-in-Ok
-returns-in-Ok c = record { refuses = c.in-Ok.ensures; making_is = c.made_without-world.ensures; others = refl }

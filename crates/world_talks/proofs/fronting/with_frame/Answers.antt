@@ -1,5 +1,0 @@
-use Rattle.std.proofs.Common.{refl}
-use Rattle.world_talks.proofs.fronting.with_frame.Goals as goal
-
-pub returns-in-Ok : goal.returns-in-Ok
-returns-in-Ok c = (c.in-Ok.ensures, refl, refl, refl, refl)

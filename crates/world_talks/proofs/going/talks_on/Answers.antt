@@ -1,5 +1,0 @@
-use Rattle.std.proofs.Common.{refl}
-use Rattle.world_talks.proofs.going.talks_on.Goals as goal
-
-pub returns-in-Ok : goal.returns-in-Ok
-returns-in-Ok c = record { client = refl; server = refl; up = c.in-Ok.ensures; down = refl }

@@ -1,4 +1,0 @@
-use Rattle.world_talks.proofs.hearing.hear_short.Goals as goal
-
-pub returns-in-Ok : goal.returns-in-Ok
-returns-in-Ok c = c.in-Ok.ensures.heard

@@ -1,5 +1,0 @@
-use Rattle.world_talks.proofs.Refused.{filled_by}
-use Rattle.world_talks.proofs.refusing.comes_down.Goals as goal
-
-pub returns : goal.returns
-returns c = filled_by c.args.down.now.items _ c.is_empty.result c.args.down.now.ok.0 c.is_empty.ensures
