@@ -11,6 +11,8 @@ use std::alloc::{AllocError, Global};
 /// Numbers from 0 on, and which of them are members. Each call but `reserve` and `push` takes a few steps and no memory.
 #[derive(Drop)]
 pub struct Members {
+    // Two lists, each the inverse of the other, in place of flags or a hash set: the members are a slice, and a swap
+    // in both moves a number in or out without memory.
     /// All numbers, the members first.
     order: Vec<u32>,
     /// By number, where it stands there.

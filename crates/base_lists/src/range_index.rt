@@ -17,6 +17,8 @@ use std::collections::BTreeMap;
 /// number that covers each byte last (`top`); 0 is none.
 #[derive(Drop)]
 pub struct RangeIndex {
+    // What shows is kept, not each range: a write hides those that it covers, so all writes list each other a few
+    // times at most.
     /// By a byte, the number of the range that covers it, and how far: one key for a range that no other follows.
     tops: BTreeMap<u64, Reach>,
 }
@@ -78,6 +80,7 @@ impl RangeIndex {
         if size == 0 {
             return Ok(());
         }
+        // Both keys before anything changes: they leave each byte its number, and what follows takes no memory.
         divide(&mut self.tops, at)?;
         divide_behind(&mut self.tops, at, size)?;
         let last = at.saturating_add(size - 1);

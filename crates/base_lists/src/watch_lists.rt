@@ -18,6 +18,7 @@ pub struct Link {
 /// watches (`watches`).
 #[derive(Drop)]
 pub struct Watchers {
+    // Lists threaded through one table, three numbers each: settling lets watchers go, and so takes no memory.
     links: Vec<Link>,
 }
 

@@ -14,6 +14,7 @@ use base_lists::{Prices, Watchers};
 fn unanswered_behind(row: &Row) -> bool
     ensures { result ≡ (if row.now.asking then row.now.unanswered else true) }
 {
+    // A lost request to attach is no copy of the operation.
     if row.asking { row.unanswered } else { true }
 }
 

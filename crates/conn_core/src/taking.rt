@@ -156,6 +156,7 @@ pub fn take_frame<S: Serve>(
         Ok(asked) => asked,
         Err(why) => return Err(at_once(why)),
     };
+    // Before the first event, so that there is a place for the answer to each one that acts.
     let mut dealt = match dealt_for(conn.alloc, asked.len()) {
         Ok(dealt) => dealt,
         Err(AllocError) => return Err(at_once(ConnEnd::Memory)),

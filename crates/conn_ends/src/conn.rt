@@ -23,6 +23,7 @@ pub struct Logon {
     pub greeting: Option<Greeting>,
     /// The chain behind an interim response.
     pub making: Option<Chain>,
+    // A session's end leaves these keys, since refusals are signed by them.
     /// The keys of the session or channel that was made here.
     pub keys: Option<Keys>,
     pub encrypts: bool,

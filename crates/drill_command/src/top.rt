@@ -96,6 +96,7 @@ fn drilled<S: Source, O: Sink>(
     ensures { top.Drills seed (S.left source.old) (S.left source.new) (O.written sink.old) (O.written sink.new)
         (S.faults source.old) (S.faults source.new) (O.faults sink.old) (O.faults sink.new) result }
 {
+    // To its end before a line is judged, so that a fault of the source comes before a bad line.
     match read_script(alloc, source) {
         Ok(script) => answered(alloc, script.as_slice(), sink, seed),
         Err(ReadError::Failed) => Ending::SourceFailed,
@@ -107,6 +108,7 @@ fn drilled<S: Source, O: Sink>(
 fn answered<O: Sink>(alloc: Global, script: &[u8], sink: &mut O, seed: [u8; 32]) -> Ending
     ensures { top.CommandAnswers script.now seed (O.written sink.old) (O.written sink.new) (O.faults sink.old) (O.faults sink.new) result }
 {
+    // All text before a byte is printed, so that where memory runs out nothing is.
     match drill(alloc, script, seed) {
         Ok(text) => done(sink, text.as_str()),
         Err(Fault::Refused(refusal)) => refused(alloc, &refusal, sink),

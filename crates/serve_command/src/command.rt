@@ -91,6 +91,7 @@ where
         (O.written sink.new) (O.faults sink.old) (O.faults sink.new) net result.net result.disk result.ending }
 {
     let before = disk.fault_count();
+    // Before it listens, so that nobody connects to a server that can't begin.
     match Server::recover(alloc, disk, config) {
         Ok(server) => serve_at(rt, alloc, said, sink, server, before, net, clock, random),
         Err(error) => {

@@ -175,6 +175,8 @@ impl Tables {
             → s.standing id ≡ true → IfOk result (λ v. verdict_of (command_of m.now.command) v
             ≡ open_command s (message_of m.now) id (command_of m.now.command)) }
     {
+        // All commands on an open in one place, where the open is known to stand in this session. Each call has its
+        // command's own checks.
         match &m.command {
             Command::Close { query, .. } => Ok(self.check_close(id, *query)),
             Command::Flush { .. } => Ok(self.check_flush(id)),

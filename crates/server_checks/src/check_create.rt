@@ -95,6 +95,8 @@ impl Tables {
             → verdict_of (Create (create_of request.now)) result
             ≡ guid_check s (message_of m.now) (create_of request.now) (durable_of durable) (s.by_guid m.now.client_guid durable.guid) }
     {
+        // What became of the CreateGuid is asked before counts, names and sharing, so that a create that comes again
+        // doesn't act twice.
         match self.opens.by_guid(m.client_guid, durable.guid) {
             Some(id) => self.check_live(m, request, id),
             None => self.check_kept(m, request, durable),
@@ -159,6 +161,7 @@ impl Tables {
         if lacks_delete(request) {
             return refuse(ACCESS_DENIED);
         }
+        // Not kept as the guid's refusal, since keeping it would count one more.
         if self.has_no_guid_left(m, request) {
             return refuse(INSUFFICIENT_RESOURCES);
         }

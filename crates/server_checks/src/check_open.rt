@@ -140,6 +140,7 @@ impl Tables {
             → IfOk result (λ v. verdict_of (command_of m.now.command) v
             ≡ write_check s (message_of m.now) id at bytes.now) }
     {
+        // A newer sequence has reached the open, and an older write must not act after what came with that.
         if self.opens.is_stale(id, m.channel_sequence) {
             return Ok(refuse(FILE_NOT_AVAILABLE));
         }
@@ -165,6 +166,8 @@ impl Tables {
         if self.tree.is_directory(file) {
             return Ok(turn_down(id, INVALID_DEVICE_REQUEST));
         }
+        // After the access, so that an open without it learns nothing. Before ranges, room and journal, so that a
+        // write that acted isn't refused at its second copy for what has changed since.
         if self.is_written(m, file, at, bytes)? {
             return Ok(told(id, count_of(bytes)));
         }
@@ -231,6 +234,7 @@ impl Tables {
             → is_filled elements.now ≡ true → elements_in c ≡ elements.now → IfOk result (λ v. verdict_of c v
             ≡ lock_check s id index number elements.now) }
     {
+        // A LOCK that comes again hears its first answer, and doesn't act twice.
         match self.kept_lock(id, index, number) {
             Some(status) => {
                 if status == SUCCESS {

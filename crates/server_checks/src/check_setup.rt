@@ -113,6 +113,7 @@ impl Tables {
         ensures { (s : Server) → Fits s → TablesShown self.now s → shows_of request.now.shows ≡ Logon user.now
             → verdict_of (Setup (setup_of request.now)) result ≡ granted_session s (message_of m.now) (setup_of request.now) user.now }
     {
+        // Not at the first SESSION_SETUP: it is judged where the logon would succeed (MS-SMB2 3.3.5.5.3).
         if self.lacks_cipher(request) {
             return refuse(ACCESS_DENIED);
         }

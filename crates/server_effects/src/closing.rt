@@ -25,6 +25,7 @@ pub fn close_open(t: &mut Tables, m: &Message<'_>, id: u64, body: Body) -> Answe
     ensures logons { LogonsStay t.old.sessions t.new.sessions }
 {
     let file = t.opens.file_of(id);
+    // In this order: the open's row tells whether it deletes on close, and its file goes only when no open is left.
     mark_behind(t, id);
     shut(t, id);
     drop_gone(t, file);

@@ -20,6 +20,7 @@ pub fn opening_records(state: &Durable) -> Result<Records, AllocError>
         return Err(AllocError);
     }
     let mut records = versions(state.alloc, state.version)?;
+    // The epoch is the upper half of each id, so that a restart gives none a second time.
     records.push(Record::Epoch { number: epoch + 1 })?;
     Ok(records)
 }

@@ -99,6 +99,7 @@ fn is_sound(one: &Record) -> bool
     ensures { result ≡ is_sound (record_of one.now) }
 {
     match one {
+        // No server writes such a record. A fold that passed it over would narrow a definition below everything else.
         Record::Create { file, opened, .. } => keeps_root(*file, opened),
         _ => true,
     }

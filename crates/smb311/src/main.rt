@@ -55,6 +55,7 @@ where
 {
     let mut source = StdSource::new(host.stdin());
     let mut sink = StdSink::new(host.stdout());
+    // It opens nothing yet, so `drill`, `gen` and refused words make no file.
     let disk = JournalFile::new(host);
     let (net, clock) = (StdNet::new(rt), StdClock::new(rt));
     let random = ChaCha20Rng::from_seed(seed);

@@ -104,6 +104,8 @@ fn push_file_info(
 }
 
 fn push_body(said: &mut String, body: &Body) -> Result<(), AllocError> {
+    // A body of several parts has a function of its own; short ones stay here, because a function costs the same to
+    // prove whatever its length.
     match body {
         Body::Empty => Ok(()),
         Body::Created(reply) => push_created(said, reply),

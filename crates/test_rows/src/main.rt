@@ -29,6 +29,7 @@ struct Tables<P: Plays> {
 /// What is answered to a row.
 fn said_of<P: Plays>(rt: &HostRuntime, tables: &mut Tables<P>, given: &str) -> Result<String> {
     let (table, row) = given.split_once(' ').context("no table")?;
+    // One program for all tables, because its proof and its two builds are paid once.
     match table {
         "cipher" => crate::cipher_rows::answer(rt.alloc(), row),
         "client" => client_scripts::answer(rt.alloc(), &mut tables.client, row),

@@ -37,6 +37,7 @@ impl Error for Outside {}
 /// taken by `new`.
 #[derive(Drop)]
 pub struct Window {
+    // A ring of ids in order and not a bitmap over a stretch of them, because a client may hold an old id forever.
     ids: VecDeque<u64>,
     next: u64,
 }

@@ -16,6 +16,7 @@ pub enum ClientSide {
 /// A frame on its way to the server, and whose it is, as a line counts tokens.
 #[derive(Drop)]
 pub struct Up {
+    // Beside the frame, which may be sealed: by it is noted whose message the server took.
     pub token: u64,
     pub bytes: Vec<u8>,
 }

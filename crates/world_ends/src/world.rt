@@ -16,6 +16,7 @@ pub struct Marks {
     pub birth: u64,
 }
 
+// In place of a log of all messages: one walk over these tells the order of each open.
 /// The messages that the server took.
 #[derive(Drop)]
 pub struct Places {

@@ -5,6 +5,8 @@ ghost use Rattle.base_lists.specs.price_table.Prices.{AllAbove, IsFirstPrice};
 /// The price that nothing pays.
 pub const NEVER: u8 = 255;
 
+// With two levels of this size a search among a million prices reads a few hundred entries. In a plain list a million
+// searches would take hours.
 /// How many prices a block has.
 pub const BLOCK: usize = 128;
 

@@ -14,6 +14,7 @@ const NAME: &str = "smb311.journal";
 #[derive(Drop)]
 pub struct JournalFile<R> {
     rt: R,
+    // Opened by the first call, so that a server that refuses its words or settings makes no file.
     disk: Option<StdDisk>,
     faults: u64,
 }

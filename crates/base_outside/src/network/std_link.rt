@@ -24,6 +24,7 @@ impl StdLink {
     pub(crate) fn new(stream: TcpStream) -> StdLink
         ensures { (result.ended ≡ false) × (result.faults ≡ 0) }
     {
+        // Requests and replies alternate, so a small piece should not wait for more. A refused option is no fault.
         let _ = stream.set_nodelay(true);
         StdLink {
             stream,

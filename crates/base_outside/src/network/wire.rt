@@ -92,6 +92,7 @@ impl Wires {
 #[derive(Drop)]
 pub(crate) struct Lane {
     wires: Mutex<Wires>,
+    // Both ends wait on this one, so all are woken: a single wake could go to the end that has nothing to read.
     moved: Condvar,
 }
 

@@ -40,6 +40,7 @@ fn size(file: &File) -> io::Result<u64> {
 }
 
 fn shorten(file: &File, length: u64) -> io::Result<()> {
+    // `set_len` would lengthen a shorter file, and a cut never does.
     if length < size(file)? {
         file.set_len(length)?;
     }

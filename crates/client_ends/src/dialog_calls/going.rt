@@ -48,6 +48,7 @@ pub(crate) fn say_setup(d: &mut Dialog, token: &[u8], stage: Stage) -> Result<He
     ensures { IfOk result (λ h. DialogSays d.old token.now stage d.new h) }
 {
     d.line.reserve()?;
+    // Spent before the frame has its memory: a dialog that finds none isn't used again.
     let id = d.line.spend(1, 0);
     let setup = Setup {
         bound: d.bound.is_some(),

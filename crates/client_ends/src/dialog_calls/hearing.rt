@@ -43,6 +43,8 @@ fn take_greeting(d: &mut Dialog, told: &Greeted, m: &[u8]) -> Result<Heard, Allo
     chain_law();
     note(d, &told.header, m);
     d.chosen = told.chosen;
+    // An attacker may zero the credits of this unsigned response: without the test the client would send a message id
+    // that the server doesn't hold.
     let some = has_credit(d);
     if some {
         let token = first_token(d.line.alloc)?;
@@ -116,6 +118,8 @@ fn take_end(d: &mut Dialog, told: &Ended, m: &[u8], channel: u16) -> Result<Hear
         → JudgesFinal d.old.config n (is_some d.old.bound) d.old.session m.now (Ok told.now)
         → IfOk result (λ h. HearsMessage (SaidSecond (is_some d.old.bound)) d.old n (response_in (Some m.now)) channel d.new h) }
 {
+    // Not hashed as the responses before it: the keys are of the chain up to the last request, and sign this
+    // response.
     d.line.pay_in(&told.header);
     let bound = d.bound.is_some();
     if bound {

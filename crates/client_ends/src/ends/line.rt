@@ -50,6 +50,8 @@ impl From<AllocError> for LineError {
 pub struct Line {
     pub alloc: Global,
     pub purse: Purse,
+    // A list, because an ordered map has no reserve: room is made before a credit is spent, and to add then can't
+    // fail.
     pub awaited: Vec<Outstanding>,
     pub keys: Keys,
     pub encrypts: bool,

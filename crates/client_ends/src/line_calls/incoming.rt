@@ -134,6 +134,7 @@ fn answered_by(line: &Line, header: Header) -> Option<Found>
         → MatchOption result (LineUnanswered (response_due header) (n.awaited header.message))
         (λ a. (response_due header ≡ true) × Waits n header a.header a.token) }
 {
+    // Without this test the client's own request, sent back to it, would verify.
     let responds = is_response(&header);
     if responds {
         awaited(line, header)
@@ -177,6 +178,7 @@ pub fn hear(line: &mut Line, frame: &[u8]) -> Result<Answer, LineError>
     requires { length frame.now < 2 ^ 60 }
     ensures { (n : ClientEnd) → ShowsLine line.old n → LineHears n (line_response n frame.now) line.new result }
 {
+    // Opened or verified before anything in it is believed, its credits too.
     match text_of(line, frame) {
         Ok(message) => take_reply(line, message),
         Err(why) => Err(why),

@@ -192,6 +192,8 @@ fn send_under(line: &mut Line, request: &Request) -> Result<Bytes, LineError>
     let Ok(frame) = room(line.alloc, &[0; 116], request.body.as_slice()) else {
         return Err(LineError::Memory);
     };
+    // Taken only when the memory is there: nothing fails from here on, so that no nonce and no id is spent for a
+    // request that doesn't go out.
     match next_nonce(line) {
         Some(nonce) => {
             let id = line.spend(request.header.charge, request.token);

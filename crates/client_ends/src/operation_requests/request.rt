@@ -27,6 +27,8 @@ pub struct Heading {
 pub fn number_of(command: &Command<'_>) -> u16
     ensures { result ≡ number_of_command (command_of command.now) }
 {
+    // Long by its commands alone: an arm is an equation that the checker computes, and a function costs the same to
+    // prove whatever its length.
     match command {
         Command::TreeConnect { share: _ } => 3,
         Command::Create(_) => 5,

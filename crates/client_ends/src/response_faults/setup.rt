@@ -200,6 +200,7 @@ fn judge_keys(keys: Keys, header: Header, flags: u16, m: &[u8]) -> Result<Ended,
     requires short { length m.now < 2 ^ 60 }
     ensures { IsResponseKey keys header flags m.now result }
 {
+    // Before SessionFlags, which could be anybody's without it.
     let signed = verify(&keys.signing, m);
     if signed {
         judge_flags(keys, header, flags)

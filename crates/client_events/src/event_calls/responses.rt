@@ -138,6 +138,7 @@ pub(crate) fn hear(
     ensures lacks { OnErr result (ClientEventLacks client.old (events.Hear channel number asking status body)) }
 {
     let index = number as usize;
+    // Asked before the body is read, because the names of a listing take memory.
     if !is_awaited(&client.table, channel, index, asking) {
         return Ok(Act::Nothing);
     }

@@ -85,6 +85,8 @@ fn may_come(client: &Client, event: &Event) -> bool
             ..
         } => !is_again(client, *channel, *session),
         Event::Refused { .. } => true,
+        // With a live session, a change that was given up could act after a later one, and the order would not be
+        // legal.
         Event::Finish { .. } => !is_live(client),
     }
 }
@@ -159,6 +161,7 @@ impl Played {
         look(&mut self.client)
     }
 
+    // By value, because a `Played` gives up only where no session is live: nothing happens to this client any more.
     /// The client ends, in a live session too: all that was taken and is unsettled is given up, and no event happens to it any more.
     pub fn end(self, why: Why) -> Client
         ensures fits { FitsClient result }

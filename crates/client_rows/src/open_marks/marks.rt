@@ -7,6 +7,8 @@ ghost use Rattle.client_rows.specs.open_marks.Marks.{AreMarksBelow, Heights, is_
 
 use client_values::Kind;
 
+// The highest of each kind is enough: a new operation costs a few looks, and lower ones are found from these by
+// links.
 /// The highest of an open's operations; of its changes; of its writes of a byte or more; its highest close; end; and end, time,
 /// rename or removal. 0 is none.
 #[derive(Clone, Copy, Debug, PartialEq, Eq)]

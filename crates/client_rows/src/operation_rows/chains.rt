@@ -62,6 +62,8 @@ pub fn first_unsettled(rows: &mut [Row], chain: Chain, from: u32) -> u32
             return next;
         }
         let behind = link(&rows[next as usize], chain);
+        // What settled stays settled, so the longer link is kept: else each search would walk over all settled ones
+        // again.
         rows[at as usize] = relinked(rows[at as usize], chain, behind);
         at = behind;
     }

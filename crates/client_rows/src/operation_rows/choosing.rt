@@ -42,6 +42,7 @@ pub fn find_from(
         if holder == 0 {
             return Some(index);
         }
+        // Noted under one holder and priced out of reach, so that it isn't looked at again before that one settles.
         watchers.watch(index, holder as usize);
         prices.set(index, NEVER);
         from = index + 1;

@@ -61,6 +61,8 @@ pub fn holder_of(rows: &mut [Row], holders: &[u32], index: usize) -> u32
     ensures fits { (holds : ℕ → ℕ → Bool) (fills : ℕ → Bool) → FitsRows holds fills rows.old holders.now
         → AreFirst holds (owner rows.old) (stands rows.old) → FitsRows holds fills rows.new holders.now }
 {
+    // Any holder will do, so the cheapest look comes first: to walk down to the create from each operation is
+    // quadratic.
     if waits_for_create(rows, index) {
         return rows[index].create;
     }

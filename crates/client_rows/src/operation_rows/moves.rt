@@ -75,6 +75,7 @@ pub fn settle(
         → StandsRows holds fills rows.old holders prices.old watchers.old → IsSettled holds rows.old index
         → StandsRows holds fills rows.new holders prices.new watchers.new }
 {
+    // What waited is let go without a look: the next search finds whether something else holds it up.
     wake(rows, prices, watchers, index);
     rows[index] = Row {
         unsettled: false,

@@ -31,6 +31,7 @@ pub struct Row {
     /// Where its holders begin, and where those end that aren't known to be settled.
     pub holders: u32,
     pub holders_end: u32,
+    // Links are numbers of rows and stand in the rows, so that settling, a cut and a session's end take no memory.
     /// The next lower one of its open; the next lower change; the next lower write of a byte or more.
     pub lower: u32,
     pub change: u32,

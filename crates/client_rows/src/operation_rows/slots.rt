@@ -20,6 +20,8 @@ fn may_be_taken(rows: &[Row], slot: &Slot, session: u32) -> bool
     requires { slot.now.user < length rows.now }
     ensures { result ≡ is_free_slot rows.now session slot.now }
 {
+    // Settled as Ok or Refused: a lock that was given up may never have reached the server. After sixteen of them the
+    // server could still keep that slot's number, and would answer the next lock with an old result.
     rows[slot.user as usize].firm && slot.retried != session && !slot.full
 }
 

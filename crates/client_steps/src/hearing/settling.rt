@@ -179,6 +179,8 @@ pub fn settle_heard(
         × ShowsAttached table.new.rows.items attached.new (settle c index asking r place (outcome_of outcome))
         × ShowsOpened table.new.rows.items opened.new (settle c index asking r place (outcome_of outcome)) }
 {
+    // Noted, settled and then given up: whether the open is gone is judged by what was noted and by how its create
+    // settled.
     note_reply(
         table, attached, opened, index, last, &outcome, asking, status, file,
     );

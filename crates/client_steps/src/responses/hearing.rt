@@ -256,6 +256,7 @@ pub fn hear(
         file,
     } = response;
     let hearing = weigh_at(table, index, asking, status, reply);
+    // Before the rest: the end of a session would else count the copy that was answered as a lost one.
     answer_at(table, index);
     carry_out(
         table, attached, opened, later, index, last, asking, status, file, hearing,

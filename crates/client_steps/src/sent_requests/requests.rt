@@ -16,6 +16,7 @@ use client_values::{Ids, OpKind, reconnect_of, request_of};
 use std::alloc::{AllocError, Global};
 use wire_commands::Command;
 
+// By the number, so that each copy of a create has the same CreateGuid and none has to be kept.
 /// A CreateGuid: the number of an operation, and the eight random bytes of a run.
 fn guid_of(salt: u64, number: u64) -> u128
     ensures { result ≡ salt * 0x1_0000_0000_0000_0000 + number }

@@ -43,6 +43,7 @@ pub fn make_room(table: &mut Table) -> Result<(), AllocError>
     ensures shown { (c : Client) → ShowsTable table.old c → ShowsTable table.new c }
 {
     let count = count_of(table);
+    // Made at the submit, because sending, settling and a cut take no memory.
     table.ops.reserve(1)?;
     table.settled.reserve(1)?;
     table.order.reserve(count + 1)?;

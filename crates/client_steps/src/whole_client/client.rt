@@ -44,6 +44,8 @@ pub struct Client {
     pub attached: Vec<Attached>,
     pub opened: Vec<Opened>,
     pub marks: Vec<Open>,
+    // Upwards and never shortened, unlike the links of rows: by it all that hangs on an open is found when the open
+    // is gone.
     /// By operation, the next higher one of its open; 0 where there is none.
     pub later: Vec<u32>,
 }

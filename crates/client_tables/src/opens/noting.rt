@@ -87,6 +87,7 @@ fn list_and_cover(
     ensures stays { OnErr result (OpenStays (top opened.old.written) (top opened.new.written) × OpenStays (top opened.old.locked)
         (top opened.new.locked)) }
 {
+    // Listed first: once its own bytes are covered, it would find itself.
     let stretch = list(rows, opened, shape, holders)?;
     cover(
         shape.kind,

@@ -15,6 +15,8 @@ use std::alloc::Global;
 #[derive(Drop)]
 pub struct Open {
     pub marks: Marks,
+    // By the number that covers each byte last: a write hides what it covers, so that all writes together list each
+    // other a few times at most.
     pub written: RangeIndex,
     pub locked: RangeIndex,
 }

@@ -42,6 +42,7 @@ pub fn sweep(rows: &[Row], out: &mut Members)
     ensures { HoldsOut rows.now out.new }
 {
     let mut place = out.count();
+    // Downwards, because the last member comes to the place of one that leaves: it was seen already.
     while place > 0 {
         place -= 1;
         sweep_one(rows, out, place);

@@ -167,6 +167,7 @@ pub fn end_from(
 {
     detach_from(rows, prices, watchers, from);
     let mut at = from;
+    // Upwards: what settles has to wait for nothing, and only lower ones hold it up.
     while at < rows.len() {
         leave_one(rows, prices, watchers, settled, ops, at, number);
         at += 1;

@@ -133,6 +133,8 @@ fn rename_of<'a>(file: u64, path: &Text) -> Result<Command<'a>, AllocError>
 pub fn request_of<'a>(alloc: Global, kind: &'a OpKind, ids: Ids) -> Result<Command<'a>, AllocError>
     ensures { IfOk result (λ c. command_of c ≡ request_of (op_of kind.now) ids.guid ids.file ids.slot ids.number) }
 {
+    // What takes memory (a path, a range, a pattern) is a function of its own, because each `?` costs the proof of
+    // what it leaves; the other arms are plain values.
     let file = ids.file;
     match kind {
         OpKind::Create {
@@ -143,6 +145,8 @@ pub fn request_of<'a>(alloc: Global, kind: &'a OpKind, ids: Ids) -> Result<Comma
             persist,
             directory,
         } => {
+            // For a plain open too: the server remembers a CreateGuid, so that a create which is sent again doesn't
+            // act twice.
             let durable = Durable {
                 timeout: 0,
                 persistent: *persist,

@@ -37,6 +37,8 @@ pub enum Verdict {
 fn refuses_all(op: &OpKind, status: u32) -> bool
     ensures { result ≡ refuses_all (op_of op.now) status }
 {
+    // A CreateGuid or a lock slot keeps one answer for all copies, but never NO_MEMORY or a lock's DISK_FULL. A write
+    // that had acted would succeed now: the check on replays comes before those on ranges and room.
     if op.is_create() {
         status != NO_MEMORY
     } else if op.is_lock() {
@@ -76,6 +78,8 @@ pub fn judge(op: &OpKind, asking: bool, unanswered: bool, is_older: bool, status
         ≡ (if not asking && (is_change (op_of op.now) && ((status == file_not_available) && is_older)) then GoesAgain
         else refused (op_of op.now) asking unanswered status) }
 {
+    // The order counts. With no copy unanswered, a status speaks of the only copy that there was. An expired
+    // CreateGuid comes before what refuses all copies, among which it would count.
     if !asking && op.is_change() && status == FILE_NOT_AVAILABLE && is_older {
         Verdict::GoesAgain
     } else if !unanswered {

@@ -105,6 +105,7 @@ impl OpKind {
     pub fn copy(&self) -> Result<OpKind, AllocError>
         ensures { IfOk result (λ o. o ≡ self.now) }
     {
+        // Only an arm of a kind that owns bytes or a path takes memory; all others are one call that can't fail.
         match self {
             OpKind::Create {
                 path,
@@ -143,6 +144,7 @@ impl OpKind {
         }
     }
 
+    // Arm by arm, because a type that owns bytes in any of its kinds isn't `Copy`.
     /// A copy of one that owns no bytes.
     fn plain_copy(&self) -> OpKind
         ensures { IsOperationPlain self.now → result ≡ self.now }
@@ -184,6 +186,7 @@ impl OpKind {
             OpKind::Stat { create } => OpKind::Stat { create: *create },
             OpKind::List { create } => OpKind::List { create: *create },
             OpKind::Close { create } => OpKind::Close { create: *create },
+            // These own bytes, and `copy` never brings them here: the arm only has to give a value.
             OpKind::Create { .. } | OpKind::Write { .. } | OpKind::Rename { .. } => {
                 OpKind::Close { create: 0 }
             }

@@ -38,6 +38,7 @@ pub(crate) struct Joining {
 #[derive(Clone, Copy)]
 struct Walk<'a> {
     place: usize,
+    // It waits because its NextCommand and padding, which are signed with it, hang on the next one.
     waiting: Option<Said<'a>>,
 }
 

@@ -36,6 +36,7 @@ fn go_on(conn: &mut Conn, behind: &Behind)
     ensures nonces { (f : ServerEnd) → NoncesBehind conn.old.nonces behind.now.channel f
         → (f.channel ≡ conn.new.nonces.channel) × (f.counter ≡ conn.new.nonces.counter) }
 {
+    // After all replies: those after a SESSION_SETUP in its frame are signed by the keys from before the frame.
     conn.logon = behind.logon;
     match behind.channel {
         Some(channel) => {

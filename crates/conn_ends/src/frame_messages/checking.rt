@@ -160,6 +160,7 @@ fn admit(conn: &mut Conn, header: &Header) -> Result<(), ConnEnd>
     if negotiates && conn.asked {
         return Err(ConnEnd::SecondNegotiate);
     }
+    // A CANCEL names the request that it cancels, and has no id of its own.
     if header.command != CANCEL {
         if let Err(outside) = conn.window.take(header.message, header.charge) {
             return Err(ConnEnd::OutsideWindow(outside.id));
@@ -304,6 +305,7 @@ pub fn check(conn: &mut Conn, frame: &[u8], now: u64) -> Result<CheckedFrame, Co
     if frame.len() > MOST {
         return Err(ConnEnd::BadFrame);
     }
+    // A copy, since it is opened in place, and FileIds are written into its related messages.
     let mut bytes = Vec::from_slice(conn.alloc, frame)?;
     let sealed = begins_sealed(frame);
     let from = match text_at(conn.logon.keys.as_ref(), sealed, bytes.as_mut_slice()) {

@@ -28,6 +28,7 @@ fn after_pairs(words: &[[u8; 4]], block: &[u8; 16], pairs: usize) -> Columns
     ensures { state result.a result.b result.c result.d ≡ after words.now block.now (2 * pairs) }
 {
     let mut s = sum_of(columns_of(block), key_of(words, 0));
+    // All rounds in a row would be quicker, but the toolchain drops `inline(always)` from so large a function.
     for i in 0..pairs {
         let between = next_of(words, s, 2 * i + 1);
         s = next_of(words, between, 2 * i + 2);

@@ -230,6 +230,7 @@ pub fn ccm_open_in_place(aes: &Aes, nonce: &[u8], added: &[u8], tag: &[u8], text
     requires { IsFit nonce.now (length text.old) (length tag.now) }
     ensures { OpensInPlace (λ o. Opens aes.now nonce.now added.now (text.old ++ tag.now) (length tag.now) o) text.old text.new result }
 {
+    // CCM's tag is over the text, which has to stand there before the tag is compared; masking again takes it away.
     mask(aes, nonce, text);
     let block = tag_block_of(aes, nonce, added, text, tag.len());
     if !is_same(&block[..tag.len()], tag) {

@@ -141,6 +141,7 @@ pub fn gcm_seal_in_place(aes: &Aes, nonce: &[u8; 12], added: &[u8], text: &mut [
     ensures hidden { text.new ≡ ciphertext aes.now nonce.now text.old }
     ensures tag { result ≡ tag_of aes.now nonce.now added.now text.new }
 {
+    // Masked first, because the tag is over the ciphertext. One pass that masks and hashes was no quicker than two.
     mask(aes, nonce, text);
     tag_of_sealed(aes, nonce, added, text)
 }
@@ -158,6 +159,8 @@ pub fn gcm_open_in_place(
     requires text { length text.old < 2 ^ 36 - 31 }
     ensures { OpensInPlace (λ o. Opens aes.now nonce.now added.now (text.old ++ tag.now) o) text.old text.new result }
 {
+    // The tag is over the ciphertext, so it is compared before anything is deciphered: a wrong one leaves nothing to
+    // undo.
     let own = tag_of_sealed(aes, nonce, added, text);
     if !is_same(&own, tag) {
         return false;

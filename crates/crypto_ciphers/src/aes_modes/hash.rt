@@ -53,6 +53,7 @@ fn shifted_by_four(z: u128) -> u128
 fn row_of(v: u128) -> [u128; 16]
     ensures { IsProductRow result v }
 {
+    // Written out, because the rows are made anew for each tag: so one costs three doublings and eleven sums.
     let eight = v;
     let four = shifted_of(eight);
     let two = shifted_of(four);
@@ -98,6 +99,8 @@ fn rows_of(h: u128) -> [[u128; 16]; 32]
 #[derive(Drop)]
 pub(crate) struct Table {
     h: u128,
+    // A row for each four bits of a factor, 8 KiB: one row for all places waits at each step, and rows for eight bits
+    // would take 64 KiB and longer to make.
     rows: [[u128; 16]; 32],
     ghost rows_are: { AreProductRows rows h },
 }

@@ -16,6 +16,7 @@ fn low_byte(n: usize, k: u32) -> u8
     ((n >> (8 * k)) % 256) as u8
 }
 
+// Ten bytes and a count in place of a list, because sealing in place takes no memory.
 /// The length's bytes, and how many they are.
 #[tactic(auto, unfolding(spec_crypto::specs::ciphers::Ccm::length_prefix))]
 fn length_prefix_of(count: usize) -> ([u8; 10], usize)

@@ -298,6 +298,7 @@ impl Acceptor {
             None => return Err(LogonError::WrongProof),
             Some(key) => key,
         };
+        // After the proof, because the MIC is under the exported key, which comes from the proof.
         let has_mic = self.has_its_mic(alloc, &key, t3, m)?;
         if !has_mic {
             return Err(LogonError::WrongMic);

@@ -160,6 +160,7 @@ pub fn answer_to(
     if !has_room_for(&response) {
         return Ok(None);
     }
+    // Written twice, because the MIC is over the message with zeros in its place.
     let unsigned = write_answer(alloc, &response, [0; 16])?;
     let code = mic(alloc, &client.key, first, second_bytes, unsigned.as_slice())?;
     let answer = write_answer(alloc, &response, code)?;

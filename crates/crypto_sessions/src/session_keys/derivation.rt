@@ -53,6 +53,8 @@ fn known_of(cipher: u16) -> u16
     }
 }
 
+// A free function: as a constructor of `Keys` it would stand in `spec_crypto`, and a change of it would have each
+// definition and law above proved anew.
 /// The keys of a session on its first channel, from the exported key of its logon and the value of the chain behind the
 /// second SESSION_SETUP request (MS-SMB2 3.2.5.3, 3.3.5.5.3). It takes no memory.
 pub fn derive(base: &[u8; 16], chain: &[u8; 64], chosen: &Chosen, session: u64) -> Keys

@@ -9,6 +9,7 @@ use wire_bytes::FixedOut;
 /// A channel's number, and how many nonces were given. It takes no memory.
 #[derive(Drop, Debug)]
 pub struct Nonces {
+    // A part of each nonce, because all channels of a session seal under the same keys.
     channel: u16,
     counter: u64,
 }

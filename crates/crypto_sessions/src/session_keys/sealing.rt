@@ -22,6 +22,8 @@ const HEADER: usize = 52;
 /// The most bytes of a message that is sealed.
 const MOST: u32 = 1_114_060;
 
+// Expanded at each call, because keys are kept as plain values without their schedules. Short messages pay some tenth
+// for it.
 #[tactic(auto, unfolding(spec_crypto::specs::sessions::Sealing::words_of))]
 fn aes_of(cipher: u16, key: &[u8; 32]) -> Aes
     ensures { result ≡ words_of cipher key.now }
@@ -173,6 +175,8 @@ fn transform_in(frame: &[u8]) -> Result<Transform, Short>
     let nonce = cursor.get_array::<16>()?;
     let size = cursor.get_u32()?;
     let _reserved = cursor.get_u16()?;
+    // Passed over, though MS-SMB2 drops the connection at values other than 1: the tag covers them, and the keys tell
+    // the algorithm.
     let _flags = cursor.get_u16()?;
     let session = cursor.get_u64()?;
     Ok(Transform {
@@ -252,6 +256,7 @@ pub fn unseal(
     let transform = transform_of(frame, keys.session)?;
     let key = key_of(keys, from_client);
     let added = added_in(frame);
+    // Copied only after the header was judged: a frame that isn't this session's takes no memory.
     let mut text = Vec::from_slice(alloc, &frame[HEADER..])?;
     let shows = show(keys.cipher, key, &transform, &added, text.as_mut_slice());
     if shows {

@@ -90,6 +90,7 @@ pub fn sign(signer: &Signer, message: &[u8]) -> [u8; 16]
     ensures { result ≡ signature signer.now message.now }
 {
     let aes = Aes::new_128(&signer.key);
+    // Only the header is copied, to have zeros for its signature; the rest is read where it stands.
     let header = unsigned_header(message);
     let rest = &message[64..];
     if signer.algorithm == 2 {

@@ -31,6 +31,7 @@ fn drive_settle(world: &mut World) -> Result<(), WorldError>
 pub fn drive_event(world: &mut World, event: ScriptEvent) -> Result<(), WorldError>
     ensures { Drives world.old (event_line event) world.new result }
 {
+    // An arm for each event of a script, since these aren't a world's: `link` and `settle` are many of those.
     match event {
         ScriptEvent::Open(k) => drive_step(world, WorldEvent::Open(k)),
         ScriptEvent::Push(k) => drive_step(world, WorldEvent::Push(k)),

@@ -157,6 +157,7 @@ fn finish_after(world: &mut World, is_new: bool, refusals: usize) -> Result<(), 
     ensures { FinishesAfter is_new refusals world.old world.new result }
 {
     let now = refusals_of(&world.client);
+    // Then no session is live. With a live one, a change that was given up could act a second time after a later one.
     if both(is_new, refusals != now) {
         return finish_last(world);
     }

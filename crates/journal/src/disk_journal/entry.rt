@@ -21,6 +21,8 @@ pub(crate) fn write_entry<D: Disk>(disk: &mut D, gate: u64, behind: &[u8]) -> Re
         → LeavesOnly D.moment D.left_since disk.old disk.new (IsClosedOrOpened front behind.now) }
     ensures cause { CountsFault (D.faults disk.old) (D.faults disk.new) result }
 {
+    // The entry and the next closed gate are synced before this gate opens. A crash until then leaves it closed, with
+    // the bodies before it, and no half entry is ever read.
     disk.write_at(gate + 1, behind)?;
     disk.sync()?;
     disk.write_at(gate, &[1])?;
@@ -39,6 +41,7 @@ pub(crate) fn cut_behind<D: Disk>(disk: &mut D, gate: u64) -> Result<(), Failed>
         → LeavesOnly D.moment D.left_since disk.old disk.new (StaysClosed front) }
     ensures cause { CountsFault (D.faults disk.old) (D.faults disk.new) result }
 {
+    // The closed gate stays as it is, and the cut comes after it: nothing is written, so no gate can be torn.
     disk.cut(gate + 1)?;
     disk.sync()?;
     Ok(())

@@ -20,6 +20,7 @@ use thiserror::Error;
 use wire_bytes::{Bytes, FixedOut};
 
 // Entries that begin no epoch leave this much of the journal free.
+// So a server whose journal is full can still start: each start adds an epoch.
 const EPOCH_ROOM: u64 = 134_217_728;
 
 const LIMIT: u64 = 1_073_741_824;
@@ -202,6 +203,7 @@ impl<D: Disk> Journal<D> {
         fill(&mut self.buffer, body)?;
         if write_entry(&mut self.disk, self.gate, &self.buffer).is_err() {
             let count = self.disk.fault_count();
+            // What the disk has of the entry is unknown, so each later call is refused until a recovery has read it.
             self.stopped = Some(count);
             return Err(JournalError::DiskFault(count));
         }

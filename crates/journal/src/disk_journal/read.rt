@@ -77,6 +77,7 @@ fn judge(head: &[u8], left: u64) -> Look
         return Look::EndsEarly;
     }
     let length = length_of(head[1], head[2], head[3], head[4]);
+    // The next gate has to be there too: it was synced with the entry, before this gate opened.
     if 5 + length as u64 >= left {
         return Look::EndsEarly;
     }

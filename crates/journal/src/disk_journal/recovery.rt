@@ -19,6 +19,7 @@ fn or_new(found: Found, end: u64) -> Option<Found>
     ensures bound { IsWithin end found → MayBeWithin end result }
 {
     match found {
+        // A crash in `prepare` may leave any 9 bytes. More bytes that are no journal are never overwritten.
         Found::Broken(_) if end <= 9 => None,
         _ => Some(found),
     }
@@ -32,6 +33,7 @@ fn examine<D: Disk>(disk: &mut D) -> Result<Option<Found>, Failed>
     ensures quiet { Quiet D.told D.seen D.may_leave D.moment D.left_since disk.old disk.new }
     ensures cause { CountsFault (D.faults disk.old) (D.faults disk.new) result }
 {
+    // Before the first read, since a read may give bytes that a crash would still take away.
     disk.sync()?;
     let end = disk.length()?;
     if end < 9 {

@@ -43,6 +43,7 @@ pub fn prepare<D: Disk>(disk: &mut D) -> Result<(), Failed>
     ensures any_moment { D.told → LeavesOnly D.moment D.left_since disk.old disk.new (λ c. StandsFor c []) }
     ensures cause { CountsFault (D.faults disk.old) (D.faults disk.new) result }
 {
+    // The disk never has more than 9 bytes here, and so few stand for no bodies whatever they are.
     blank(disk)?;
     write_magic(disk)
 }

@@ -193,6 +193,7 @@ fn read_record(alloc: Global, m: &[u8], version: u32) -> Result<Found, Fault>
     ensures { ReadsRecord version m.now result }
 {
     let kind = Cursor::new(m).get_u8()?;
+    // All twelve kinds in one function, since a proof costs by the function and hardly by its lines.
     match kind {
         1 => Ok(Found {
             record: read_epoch(m)?,

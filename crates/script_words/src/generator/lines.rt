@@ -104,6 +104,7 @@ fn push_event(out: &mut String, event: MadeEvent) -> Result<(), AllocError>
     }
 }
 
+// Beside `push_line`, because `gen` makes its lines twice, to write them and to run them, and keeps none.
 /// What a line says.
 pub fn statement_of(alloc: Global, line: &MadeLine) -> Result<Statement, AllocError>
     ensures { IfOk result (λ says. says ≡ lines.line_said line.now) }

@@ -48,6 +48,8 @@ fn push_outcome(
     writeln!(out, "{number} {shown}")
 }
 
+// A further choice within an arm is a function of its own, because a long literal beside a deep match passes a limit
+// of the prover.
 fn outcome_text(alloc: Global, outcome: &Outcome) -> Result<String, AllocError>
     ensures { IfOk result (λ shown. string_bytes shown ≡ text.outcome_text (outcome_of outcome.now)) }
 {

@@ -24,6 +24,7 @@ pub fn run_text(
     ensures { IfOk result (λ shown. string_bytes shown
         ≡ text.run_text (map dialog_of dialogs.now) (map outcome_of settled.now) orders.now files.now) }
 {
+    // All text is made before a byte is printed, so that nothing is printed where memory runs out.
     let mut out = String::new(alloc);
     push_dialogs(alloc, &mut out, dialogs)?;
     push_outcomes(alloc, &mut out, settled)?;

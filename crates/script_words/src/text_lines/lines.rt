@@ -174,6 +174,8 @@ fn judged(
     ensures lines_fit { OnOk result (lines < 4194304) }
     ensures operations_fit { IfOk result (λ says. length creates.now + length (script.creates_said says) ≤ 1048576) }
 {
+    // Limits on the text come before the words, so such a line is too long whatever it says. One operation too many
+    // is told only of a line that is well formed.
     if past || lines >= SCRIPT_LINES {
         return Err(Fault::Refused(Code::TooLong));
     }

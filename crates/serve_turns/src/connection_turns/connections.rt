@@ -65,6 +65,7 @@ where
     ensures served { OnLink L.told L.given L.written L.faults L.ended number (view_of seat.old) link.old result (view_of seat.new)
         link.new }
 {
+    // Before the server hears of the connection: where memory runs out, it hears nothing.
     match Conn::new(outside.alloc, number, outside.guid, outside.salt(rt)) {
         Ok(conn) => serve_made(rt, outside, link, book, seat, conn),
         Err(_) => by(ConnEnd::Memory),

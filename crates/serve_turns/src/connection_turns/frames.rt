@@ -36,6 +36,7 @@ where
     ensures same { IsSameSeat seat.old seat.new }
     ensures turn { AddsTurn (view_of seat.old) conn what result (view_of seat.new) }
 {
+    // Before the turn, so that no other lock is waited for while the server is held.
     let now = outside.now(rt);
     let fresh = outside.fresh(rt);
     let turn = Turn {

@@ -7,6 +7,7 @@ use wire_bytes::Bytes;
 pub enum What {
     /// The connection was made (MS-SMB2 3.3.5.1).
     Accept,
+    // Opened, checked and sealed in one turn, so that the history says from which state each frame was taken.
     /// A whole frame came, without its length (3.3.5.2).
     Frame(Bytes),
     /// The connection is lost (3.3.7.1).

@@ -148,6 +148,7 @@ where
     ensures covered { OnOk result (AreCovered (λ c. c.place) place crew.old.roll.ends.items crew.old.running.items
         → AreCovered (λ c. c.place) (place + 1) crew.new.roll.ends.items crew.new.running.items) }
 {
+    // Before the thread begins, since one without a handle could not be joined.
     crew.running.reserve(1)?;
     let seat = book.seat(rt, &mut crew.roll.seat);
     match begun(rt, scope, service, link, book, seat, place, ended) {

@@ -77,9 +77,11 @@ where
         let Ok(link) = net.accept() else {
             return Halt::NetFault;
         };
+        // Looked at only here, since `accept` waits: one more peer is accepted and dropped.
         if ended.is_halted(rt) {
             return Halt::Ended;
         }
+        // With each link, so that what ended threads leave doesn't add up while the server runs.
         join_ended(rt, book, service, crew, ended);
         match begin(rt, scope, book, service, crew, ended, link, place) {
             Ok(()) => {}

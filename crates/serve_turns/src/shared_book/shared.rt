@@ -47,6 +47,8 @@ pub struct TurnTable<S, V, K, P: TableRule<S, V, K>> {
     ghost sizes: { (table.shared.table_id.words ≡ 4) × (table.shared.table_id.slots ≡ 1) },
 }
 
+// The slot's type is named, because the check finds no proof that a struct may cross threads whose slot's type it has
+// to work out.
 /// A book that several threads change in turn, each by a seat of its own.
 pub type SharedBook<B> = TurnTable<
     Slot<B, <B as Book>::Event, <B as Book>::Reply>,
@@ -89,6 +91,7 @@ impl<B: Book> SharedBook<B> {
     {
         for _ in rt.forever() {
             let next = self.table.shared.peek(0);
+            // Compared and exchanged, not added to: after its last ticket the word must not begin anew.
             if next < u64::MAX {
                 let found = self
                     .table
@@ -159,10 +162,12 @@ impl<B: Book> SharedBook<B> {
         ensures applied { Applied B.steps (view_of seat.old) event result.0 result.1.place (view_of seat.new) }
     {
         let mine = &mut seat.seat;
+        // A ticket lock: that one seat alone has the book follows from the number that the seat's view holds.
         let ticket = self.draw(rt, mine);
         self.wait(rt, mine, ticket);
         let place = self.table.shared.load::<TakeBook>(mine, 2);
         let reply = self.work(mine, event);
+        // Before the turn is passed, so that whoever comes next finds this entry in the history.
         self.table.shared.store::<AdvanceFront>(mine, 2, place + 1);
         self.table.shared.store::<PassTurn>(mine, 1, ticket + 1);
         (reply, Receipt { place })

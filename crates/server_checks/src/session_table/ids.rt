@@ -251,6 +251,7 @@ fn draw(row: &mut SessionRow, connection: u32) -> u32
     ensures { DrawsChannel (Some row.old) (Some row.new) connection result }
 {
     put_connection(&mut row.channels, connection);
+    // Never given back: a channel's nonces have its number, and none may come twice.
     row.drawn = row.drawn.saturating_add(1);
     row.drawn
 }

@@ -121,6 +121,8 @@ pub enum Verdict {
 pub fn without_room(m: &Message<'_>, verdict: Verdict) -> Verdict
     ensures { verdict_of (command_of m.now.command) result ≡ without_room (verdict_of (command_of m.now.command) verdict) }
 {
+    // An arm for each verdict that owes a record. A change is refused, since a restart would forget it. A session's
+    // end never is: without its records files stay as they are.
     match verdict {
         Verdict::Make { .. } => create_without_room(m),
         Verdict::KeepSlot { id, .. } => Verdict::TurnDown {

@@ -62,6 +62,8 @@ pub fn commit<D: Disk>(
 {
     carried_law();
     let used = used_behind(server.tables.journal, body.len());
+    // First, so that an answer is given only where its records stand. Where the disk fails the tables follow all the
+    // same: a path that was taken must not stay without its file.
     let written = write(server, body);
     let answer = carry_dated(&mut server.tables, asked, prepared, now);
     match written {

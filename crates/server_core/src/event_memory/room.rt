@@ -52,6 +52,7 @@ pub fn make_room<D: Disk>(
     ensures journal { OnlyRoom server.old.journal server.new.journal × (server.new.stopped ≡ server.old.stopped) }
     ensures sure { length body.now ≡ 0 → wants_memory_by (ruling_of (event_of asked.now) ruling) ≡ false → IsOk result }
 {
+    // Before `prepare`, which may take a path: room for the body needn't be given back.
     match reserve_body(&mut server.journal, body.len()) {
         Ok(()) => match prepare(&mut server.tables, asked, ruling, now) {
             Ok(prepared) => Ok(prepared),

@@ -80,6 +80,8 @@ fn behind_front<D: Disk>(
     if !fits(&server.tables, front.len()) {
         return Ok(Behind::NoneExpires);
     }
+    // While the open still stands: where later neither the event nor the way back finds memory, the expiry can be
+    // written alone.
     match reserve_body(&mut server.journal, front.len()) {
         Ok(()) => take_out(server, asked, now, id, front),
         Err(error) => Err(error),

@@ -44,6 +44,8 @@ pub fn carry_dated(t: &mut Tables, asked: &Asked<'_>, prepared: Prepared, now: u
     making_law();
     progress_law();
     are_eight(asked);
+    // A restart has no clock, so the first event gives the moment. It does so here, since an event that finds no
+    // memory changes nothing.
     t.opens.date(now);
     carry_event(t, asked, prepared, now)
 }

@@ -36,6 +36,7 @@ pub fn due(opens: &mut Opens, now: u64) -> Option<u64>
     ensures shows { (s : Server) → ShowsOpens opens.old s → ShowsOpens opens.new s }
     ensures rest { opens.new ≡ record opens.old { deadlines = opens.new.deadlines } }
 {
+    // Better that none expires than that a guid is forgotten, by which a create could act twice.
     if has_all_guids(opens) {
         return None;
     }

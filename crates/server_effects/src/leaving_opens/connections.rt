@@ -33,6 +33,7 @@ pub fn all_end_records(
     let mut records = Records::new(alloc);
     let mut leaving = Leaving::new(alloc);
     let connections = sessions.connections();
+    // Into one list in the order in which they end, so that all of a stop's records stand or none.
     for i in 0..connections.len() {
         let session = ends_behind(sessions, connections, i);
         end_with(opens, tree, &mut leaving, &mut records, session)?;

@@ -87,6 +87,7 @@ fn leave_row(
         × (records_of records.new ≡ records_of records.old ++ leave_records u origin id)) }
 {
     let step = step_of(opens, tree, leaving, row)?;
+    // The open's record before its file's, since a fold removes no file that has an open.
     push_left(records, origin, id, row, step.marks)?;
     push_gone(records, origin, row.file, step.goes)?;
     leaving.put(row.file, step.left, step.goes)
@@ -103,6 +104,7 @@ fn push_left(
     ensures { OnOk result (records_of records.new
         ≡ records_of records.old ++ left_records row.now.persistent origin id row.now.file marks) }
 {
+    // No record tells of a plain open, so only the mark that it leaves on its file is told.
     if row.persistent {
         return push_record(records, Record::Shut { origin, id });
     }

@@ -18,6 +18,7 @@ pub fn end_session(t: &mut Tables, session: u64, now: u64, is_quiet: bool) -> bo
     ensures kept { SessionsKeep t.old t.new }
 {
     let acted = t.opens.plain_of(session, 0).is_some();
+    // Before `detach`, which forgets the row by which they are found.
     leave_all(t, session, is_quiet);
     t.opens.detach(session, now);
     let _ = t.sessions.remove(session);

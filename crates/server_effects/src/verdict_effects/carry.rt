@@ -29,6 +29,7 @@ pub fn carry_out(t: &mut Tables, m: &Message<'_>, ready: Ready, now: u64) -> Ans
     ensures beside { Beside t.old t.new result (message_of m.now) ready }
     ensures config { t.new.config ≡ t.old.config }
 {
+    // Each arm is one call, since what the prover knows within an arm is lost where arms join.
     match ready {
         Ready::Refuse { status } => quiet(t.alloc, m, status, Body::Empty),
         Ready::Give { body } => quiet(t.alloc, m, SUCCESS, body),

@@ -29,6 +29,8 @@ pub fn set_up(t: &mut Tables, m: &Message<'_>, step: SetupReady, now: u64) -> An
     ensures beside { EffectSetsUp t.old t.new result (message_of m.now) step }
     ensures config { t.new.config ≡ t.old.config }
 {
+    // Each arm is one call, as in `carry_out`. A previous session ends in the same event, so that the new one can
+    // attach its persistent opens at once.
     match step {
         SetupReady::Challenge {
             list,

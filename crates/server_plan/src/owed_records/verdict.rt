@@ -46,6 +46,8 @@ pub fn owed(
         → IfOk result (λ rs. records_of rs ≡ (apply s (message_of m.now) now (verdict_of (command_of m.now.command) verdict.now)).records) }
     ensures sure { may_owe (verdict_of (command_of m.now.command) verdict.now) ≡ false → IsOk result }
 {
+    // An arm for each verdict that owes records. They are told before it is carried out, since the journal comes
+    // first.
     match verdict {
         Verdict::Make { found, action } => {
             create_records(alloc, opens, tree, sessions, m, *found, *action, now)

@@ -65,6 +65,8 @@ fn plain_ready(verdict: Verdict) -> Result<Ready, AllocError>
     ensures sure { (c : Command) → MatchResult result (λ _. wants_memory (verdict_of c verdict) ≡ false)
         (λ _. wants_memory (verdict_of c verdict) ≡ true) }
 {
+    // Apart from `ready`, so that a clause can say which verdicts never lack memory. `Ready` is a type of its own, so
+    // that no verdict is carried out whose memory wasn't taken.
     match verdict {
         Verdict::Refuse { status } => Ok(Ready::Refuse { status }),
         Verdict::Give { body } => Ok(Ready::Give { body }),

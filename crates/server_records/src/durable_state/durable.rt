@@ -17,6 +17,7 @@ use std::collections::BTreeSet;
 use store_files::Tree;
 use store_opens::Opens;
 
+// The most that a configuration gives: what was written has to fold, whatever room the next server has.
 /// The room for all files while records are folded, in bytes.
 pub const FULL_ROOM: u64 = 268_435_456;
 
@@ -111,6 +112,7 @@ impl Durable {
     pub(crate) fn mark(&mut self, file: u64, marked: bool) -> Result<(), AllocError>
         ensures { (s : Server) → DurableShown self.old s → OnOk result (DurableShown self.new (set_delete_pending s file marked)) }
     {
+        // First, since the set may find no memory: a marked file that it lacks would stay at the next sweep.
         self.note(file, marked)?;
         self.tree.mark(file, marked);
         Ok(())

@@ -89,6 +89,7 @@ fn opened(alloc: Global, state: &mut Durable) -> Result<Bytes, AllocError>
 {
     let records = opening_records(state)?;
     let body = spelled(alloc, &records)?;
+    // Before the write, so that nothing takes memory after it.
     state.with_records(records.as_slice())?;
     Ok(body)
 }

@@ -71,6 +71,7 @@ pub fn cut_piece(piece: &mut Vec<u8>, count: usize) -> u64
     let before = piece.len();
     piece.truncate(count);
     let after = piece.len();
+    // Not against the length before: a file that is halved again and again would keep all of its memory.
     if after < piece.capacity() / 2 {
         piece.shrink_to_fit();
     }

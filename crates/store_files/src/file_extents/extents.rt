@@ -15,6 +15,8 @@ use std::collections::BTreeMap;
 /// The bytes of a file: pieces by the place where each begins. Where none lies the bytes are 0.
 #[derive(Drop)]
 pub struct Extents {
+    // Ordered, since each look-up asks for the piece at or before a place. Each piece is owned, because sharing would
+    // look no different to a caller.
     pieces: BTreeMap<u64, Vec<u8>>,
     len: u64,
     held: u64,
@@ -71,6 +73,7 @@ impl Extents {
         ensures shown { (c : List ℕ) → IsContent self.old c → IsContent self.new (ended n c) }
         ensures held { (h : ℕ) → IsHeld self.old h → (k : ℕ) × (k ≤ h) × IsHeld self.new k }
     {
+        // At once, since bytes of a piece past the end would come back when the file grows again.
         let removed = remove_from(&mut self.pieces, n);
         let trimmed = trim_last(&mut self.pieces, n);
         self.held = self.held.saturating_sub(removed).saturating_sub(trimmed);
@@ -102,6 +105,8 @@ impl Extents {
     {
         let end = at + bytes.len() as u64;
         let plan = plan_of(&self.pieces, at, end);
+        // All memory is taken here, so that `finish` can follow the journal. An empty piece changes no byte, so it
+        // may stay where the write is given up.
         let middle = middle_of(self.alloc, plan, at, bytes)?;
         mark(&mut self.pieces, plan, self.alloc)?;
         Ok(Prepared { plan, middle })

@@ -80,6 +80,7 @@ pub fn put_middle(pieces: &mut BTreeMap<u64, Vec<u8>>, from: u64, until: u64, by
     if from >= until {
         return 0;
     }
+    // First, so that pieces never overlap. The one at `from` stays, since its key is what `fill` needs.
     let removed = remove_inside(pieces, from, until);
     let replaced = fill(pieces, from, bytes);
     removed.saturating_add(replaced)

@@ -28,6 +28,7 @@ impl Tree {
         if path.len() > MAX_BYTES {
             return self.find_long(path);
         }
+        // On the stack: a look-up takes no memory, so the checks of a CREATE never lack any.
         let mut buffer = [0; MAX_BYTES];
         self.find_folded(path, &mut buffer[..path.len()])
     }

@@ -275,6 +275,7 @@ fn start_behind(alloc: Global, front: &String, name: &str) -> Result<String, All
     if is_name(name) {
         let key = key_of(alloc, name)?;
         start.push_str(key.as_str())?;
+        // No name has a zero byte, so this is the least key above the name's own.
         start.push('\0')?;
         return Ok(start);
     }
@@ -369,6 +370,7 @@ fn behind(alloc: Global, directory: &str) -> Result<String, AllocError>
     ensures { IfOk result (λ k. string_bytes k ≡ directory.now ++ 93 ∷ []) }
 {
     let mut key = String::from_str(alloc, directory)?;
+    // In byte order `]` follows `\`, so this key is above all that begin with the directory and `\`.
     key.push(']')?;
     Ok(key)
 }

@@ -150,6 +150,8 @@ impl Tree {
         let row = new_row(self.alloc, path, directory, attributes, now)?;
         let key = key_of(self.alloc, path)?;
         make_room(&mut self.rows)?;
+        // Last, since an ordered map has no reserve: after this insert nothing may fail, or the path would have to be
+        // given back.
         name_path(&mut self.paths, key, self.next)?;
         Ok(NewFile { row })
     }

@@ -128,6 +128,7 @@ pub fn move_keys(paths: &mut BTreeMap<String, u64>, rows: &HashMap<u64, Row>, na
 fn move_key(paths: &mut BTreeMap<String, u64>, rows: &HashMap<u64, Row>, name: &NewName)
     ensures { (q : List ℕ) → get_by_text paths.new q ≡ moved_to (λ f. get nat_eq rows.now f) name.now q (get_by_text paths.old q) }
 {
+    // A rename that changes case alone keeps its key, which must not be forgotten.
     if has_key(rows, name) {
         set_path(paths, name.key.as_str(), name.file);
         return;

@@ -120,6 +120,7 @@ impl Tree {
             → ShowsFiles self.new (rename_file s file (target_of file (find s to)) to) }
         ensures held { self.new.held ≤ self.old.held }
     {
+        // Before the names, since a row still has the key that is to be forgotten.
         move_keys(&mut self.paths, &self.rows, &moved.names);
         self.drop_row(moved.replaced);
         put_names(&mut self.rows, moved.names);

@@ -23,6 +23,7 @@ pub struct Info {
 #[derive(Drop)]
 pub struct Row {
     pub path: Text,
+    // Both are kept beside the path, so that removing a file and looking below it take no memory.
     pub key: String,
     pub below: String,
     pub directory: bool,

@@ -16,6 +16,8 @@ use wire_bytes::Text;
 #[derive(Drop)]
 pub struct Tree {
     pub(crate) rows: HashMap<u64, Row>,
+    // Ordered, so that what stands below a directory is one run of keys: for a listing, a rename, and whether it is
+    // empty.
     pub(crate) paths: BTreeMap<String, u64>,
     pub(crate) root: Row,
     pub(crate) next: u64,

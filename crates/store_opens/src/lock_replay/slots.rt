@@ -18,6 +18,7 @@ impl Slots {
     pub fn new(alloc: Global) -> Result<Slots, AllocError>
         ensures { IfOk result (λ s. SlotsShown s (λ i. None)) }
     {
+        // All at once, so that keeping an answer takes no memory.
         let items = vec![in alloc; None; 64]?;
         Ok(Slots { items })
     }

@@ -10,10 +10,12 @@ use std::collections::BTreeSet;
 /// Deadlines, each with its open; perhaps with some that are over.
 #[derive(Drop)]
 pub struct Deadlines {
+    // Two sets: deadlines are met in their order, but among those that were met the least id expires first.
     /// Those that were not met yet.
     pub pending: BTreeSet<(u64, u64)>,
     /// Opens whose deadline was met once.
     pub overdue: BTreeSet<u64>,
+    // A set has no reserve. Where a deadline finds no memory, `due` looks through the rows, and no event fails by it.
     /// No deadline is missing for want of memory.
     pub is_whole: bool,
 }

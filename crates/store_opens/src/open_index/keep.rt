@@ -30,6 +30,8 @@ pub struct SessionOpens {
     /// How many CreateGuids it used; the count stands still at its end.
     pub guids: u64,
     pub results: HashMap<u128, KeptResult>,
+    // A set has no reserve, so an id is listed before it is sure that its open stands. Too many do no harm: the rows
+    // are asked at use.
     /// Each open that is attached to it, and perhaps some that are not.
     pub opens: BTreeSet<u64>,
     /// Each plain one of these, and perhaps some that are not.

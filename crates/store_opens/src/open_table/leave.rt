@@ -135,6 +135,7 @@ impl Opens {
         let deadline = row.deadline;
         self.place(id, row);
         self.index_again(deadline, id);
+        // Last: the file's row went with its last open, and `place` makes it again.
         self.put_ranges(file, ranges);
     }
 

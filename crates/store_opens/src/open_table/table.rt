@@ -14,7 +14,9 @@ pub struct Opens {
     /// Ids are this times 2^32 and a count from 1.
     pub(crate) epoch: u32,
     pub(crate) given: u32,
+    // Hash maps have a reserve: after it these inserts can't fail, so they may follow the journal.
     pub(crate) rows: HashMap<u64, Row>,
+    // Indexes beside the rows, so that no CREATE, lock or session's end looks through all opens.
     /// By ClientGuid and CreateGuid.
     pub(crate) guids: HashMap<(u128, u128), u64>,
     pub(crate) files: HashMap<u64, FileOpens>,
@@ -23,6 +25,7 @@ pub struct Opens {
     pub(crate) expired: HashSet<(u128, u128)>,
     pub(crate) expired_count: u32,
     pub(crate) deadlines: Deadlines,
+    // A list of its own, so that no later event looks through all opens for one without a deadline.
     /// Opens that recovery found, before their first event.
     pub(crate) undated: Vec<u64>,
 }

@@ -5,6 +5,8 @@ ghost use Rattle.wire_bytes.specs.byte_lists.Widths.{total};
 
 use crate::byte_lists::Short;
 
+// Asked once for a whole fixed part, so that each field is then read by a call that can't fail. With a `?` for each
+// field these rooms took two to five times as long to prove.
 /// Whether fields of these widths stand in `m`, the first at its beginning and each behind the one before. The refusal
 /// tells the place of the first field for which there are too few bytes.
 pub fn fields_fit(m: &[u8], widths: &[usize]) -> Result<(), Short>

@@ -11,6 +11,8 @@ fn copy_at(bytes: &mut [u8], at: usize, v: &[u8])
     bytes[at..at + v.len()].copy_from_slice(v);
 }
 
+// Beside `Out`, whose puts may find no memory: a fixed part is filled here without a `?`, and then put into an `Out`
+// by one call. Each `?` costs the proof of what it leaves.
 /// `N` bytes that are filled from the front, field by field, without memory. Numbers are little-endian.
 #[derive(Drop)]
 pub struct FixedOut<const N: usize> {

@@ -76,6 +76,7 @@ impl Deframer {
             Ok(None) => Ok(None),
             Ok(Some(length)) => {
                 let start = self.at + 4;
+                // Copied before the place moves on: where memory runs out the frame is still there.
                 let bytes = Bytes::from_slice(self.alloc, &self.bytes[start..start + length])?;
                 self.at = start + length;
                 Ok(Some(Frame { bytes }))

@@ -30,6 +30,7 @@ pub(crate) fn front_of(stream: &[u8]) -> Result<Option<usize>, FrameError>
         return Ok(None);
     }
     let length = length_of(stream);
+    // Judged before the message is there, so that no peer makes this end wait for more than a frame may have.
     if length > 1_114_112 {
         return Err(FrameError::TooLong(length));
     }

@@ -166,6 +166,8 @@ fn list_in(alloc: Global, class: u8, m: &[u8]) -> Result<Option<Body>, AllocErro
 fn body_in(alloc: Global, command: &Command<'_>, m: &[u8]) -> Result<Option<Body>, AllocError>
     ensures { IfOk result (λ found. option_map Meaning.body_of found ≡ ReplyOf.body_in (Meaning.command_of command.now) m.now) }
 {
+    // Long by its commands alone: an arm names the reader of a response. This client sends none of the commands
+    // without an arm.
     match command {
         Command::Setup(_) => Ok(setup_in(m)),
         Command::Logoff => Ok(empty_if(read_logoff_response(m).is_ok())),

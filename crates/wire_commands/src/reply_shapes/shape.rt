@@ -41,6 +41,8 @@ fn no_create(alloc: Global) -> CreateRequest {
 pub fn shape_of<'a>(alloc: Global, command: &Command<'a>) -> Command<'a>
     ensures { (token : List ℕ) (r : Reply) → reply_body token (command_of result) r ≡ reply_body token (command_of command.now) r }
 {
+    // The server takes the command itself, and its reply is written afterwards: this is what the writer then asks of
+    // it. Texts and lists stay empty, because they would take memory.
     match command {
         Command::Unreadable { status } => Command::Unreadable { status: *status },
         Command::Aside { status } => Command::Aside { status: *status },

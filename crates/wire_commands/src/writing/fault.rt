@@ -1,6 +1,7 @@
 use std::alloc::AllocError;
 use thiserror::Error;
 
+// An answer in place of a `requires`, so that no caller owes one and no length is cut.
 /// Why a body wasn't written.
 #[derive(Clone, Copy, Debug, PartialEq, Eq, Error)]
 pub enum WriteError {

@@ -60,6 +60,8 @@ fn without_directory(attributes: u32) -> u32
 }
 
 // FileAttributes: a directory alone is told as one, and NORMAL alone where there is no other.
+// By what the file is and not by what was asked, because clients make directories with NORMAL, and take a file with
+// DIRECTORY for a directory.
 #[tactic(auto, unfolding(spec_commands::specs::Infos::attributes_of))]
 pub(crate) fn attributes_of(info: &Info) -> u32
     ensures { result ≡ Infos.attributes_of (Meaning.info_of info.now) }

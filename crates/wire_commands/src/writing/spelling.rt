@@ -403,6 +403,8 @@ fn set(alloc: Global, file: u64, setting: &Setting) -> Result<Bytes, WriteError>
 pub fn body_of(alloc: Global, command: &Command<'_>) -> Result<Bytes, WriteError>
     ensures { BodyWrites (FitsAsked (Meaning.command_of command.now)) (BodyOf.body_of (Meaning.command_of command.now)) result }
 {
+    // Long by its commands alone: an arm picks a writer, which is a function of its own because each `?` costs the
+    // proof of what it leaves.
     match command {
         Command::TreeConnect { share } => tree_connect(alloc, share.as_str()),
         Command::Create(request) => create(alloc, request),

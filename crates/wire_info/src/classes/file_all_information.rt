@@ -13,6 +13,8 @@ use wire_bytes::{
 pub fn read_file_all_information(m: &[u8]) -> Result<FileAllInformation<'_>, MessageError>
     ensures { Reads (file_all_information_fault m.now) (SpellsFileAllInformation m.now) file_all_information result }
 {
+    // Long by its fields alone: after this one check each of them is a line that can't fail. Booleans stay bytes, so
+    // that a value reads back as it was written.
     fields_fit(
         m,
         &[8, 8, 8, 8, 4, 4, 8, 8, 4, 1, 1, 2, 8, 4, 4, 8, 4, 4, 4],

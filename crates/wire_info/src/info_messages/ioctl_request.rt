@@ -14,6 +14,7 @@ use wire_bytes::{
 pub fn read_ioctl_request(m: &[u8]) -> Result<IoctlRequest<'_>, MessageError>
     ensures { Reads (ioctl_request_fault m.now) (SpellsIoctlRequest m.now) ioctl_request result }
 {
+    // Long by its fields alone: after this one check each of them is a line that can't fail.
     fields_fit(m, &[64, 2, 2, 4, 16, 4, 4, 4, 4, 4, 4, 4, 4])?;
     let size = u16_at(m, 64);
     let ctl_code = u32_at(m, 68);

@@ -14,6 +14,7 @@ use wire_bytes::{
 pub fn read_ioctl_response(m: &[u8]) -> Result<IoctlResponse<'_>, MessageError>
     ensures { Reads (ioctl_response_fault m.now) (SpellsIoctlResponse m.now) ioctl_response result }
 {
+    // Long by its fields alone: after this one check each of them is a line that can't fail.
     fields_fit(m, &[64, 2, 2, 4, 16, 4, 4, 4, 4, 4, 4])?;
     let size = u16_at(m, 64);
     let ctl_code = u32_at(m, 68);

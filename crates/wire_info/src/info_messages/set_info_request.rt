@@ -14,6 +14,7 @@ use wire_bytes::{
 pub fn read_set_info_request(m: &[u8]) -> Result<SetInfoRequest<'_>, MessageError>
     ensures { Reads (set_info_request_fault m.now) (SpellsSetInfoRequest m.now) set_info_request result }
 {
+    // Long by its fields alone: after this one check each of them is a line that can't fail.
     fields_fit(m, &[64, 2, 1, 1, 4, 2, 2, 4, 16])?;
     let size = u16_at(m, 64);
     let info_type = u8_at(m, 66);
@@ -25,6 +26,7 @@ pub fn read_set_info_request(m: &[u8]) -> Result<SetInfoRequest<'_>, MessageErro
     if size != 33 {
         return Err(MessageError::BadSize(size));
     }
+    // Before the payload is looked at: an unknown class is INVALID_INFO_CLASS, whatever stands after it.
     check_class(is_set_class(info_type, file_info_class), file_info_class)?;
     let payload = part_of(
         m,

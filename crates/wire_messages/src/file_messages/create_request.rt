@@ -15,6 +15,7 @@ use wire_bytes::{
 pub fn read_create_request(m: &[u8]) -> Result<CreateRequest<'_>, MessageError>
     ensures { Reads (create_request_fault m.now) (SpellsCreateRequest m.now) message_create_request result }
 {
+    // Long by its fields alone: after this one check each of them is a line that can't fail.
     fields_fit(m, &[64, 2, 1, 1, 4, 8, 8, 4, 4, 4, 4, 4, 2, 2, 4, 4])?;
     let size = u16_at(m, 64);
     let requested_oplock_level = u8_at(m, 67);
@@ -67,6 +68,7 @@ fn place_of(v: &CreateRequest<'_>) -> u32
     requires { length v.now.name.now < 2 ^ 16 }
     ensures { result ≡ contexts_place (message_create_request v.now) }
 {
+    // Not the canonical place, because some servers refuse an offset that isn't a multiple of 8 even with length 0.
     if v.contexts.is_empty() {
         return 0;
     }

@@ -14,6 +14,7 @@ use wire_bytes::{
 pub fn read_create_response(m: &[u8]) -> Result<CreateResponse<'_>, MessageError>
     ensures { Reads (create_response_fault m.now) (SpellsCreateResponse m.now) create_response result }
 {
+    // Long by its fields alone: after this one check each of them is a line that can't fail.
     fields_fit(m, &[64, 2, 1, 1, 4, 8, 8, 8, 8, 8, 8, 4, 4, 16, 4, 4])?;
     let size = u16_at(m, 64);
     let oplock_level = u8_at(m, 66);

@@ -13,6 +13,8 @@ use wire_bytes::{
 pub fn read_write_request(m: &[u8]) -> Result<WriteRequest<'_>, MessageError>
     ensures { Reads (write_request_fault m.now) (SpellsWriteRequest m.now) write_request result }
 {
+    // Long by its fields alone: after this one check each of them is a line that can't fail. Channel information
+    // (RDMA) is passed over, so its place and its length aren't read.
     fields_fit(m, &[64, 2, 2, 4, 8, 16, 4, 4, 2, 2, 4])?;
     let size = u16_at(m, 64);
     let payload_at = u16_at(m, 66);

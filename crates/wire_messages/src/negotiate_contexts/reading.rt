@@ -109,6 +109,8 @@ pub fn read_contexts(
 ) -> Result<Result<Offer, CtxError>, AllocError>
     ensures { IfOk result (λ r. ReadsOffer bytes.now count r) }
 {
+    // All contexts are measured before one is read: `Short` comes before `Doubled`, and no later walk finds too few
+    // bytes.
     if !all_fit(bytes, count) {
         return Ok(Err(CtxError::Short));
     }

@@ -15,6 +15,7 @@ use wire_bytes::{
 pub fn read_negotiate_response(m: &[u8]) -> Result<NegotiateResponse<'_>, MessageError>
     ensures { Reads (negotiate_response_fault m.now) (SpellsNegotiateResponse m.now) negotiate_response result }
 {
+    // Long by its fields alone: after this one check each of them is a line that can't fail.
     fields_fit(m, &[64, 2, 2, 2, 2, 16, 4, 4, 4, 4, 8, 8, 2, 2, 4])?;
     let size = u16_at(m, 64);
     let security_mode = u16_at(m, 66);

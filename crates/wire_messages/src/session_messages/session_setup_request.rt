@@ -14,6 +14,7 @@ use wire_bytes::{
 pub fn read_session_setup_request(m: &[u8]) -> Result<SessionSetupRequest<'_>, MessageError>
     ensures { Reads (session_setup_request_fault m.now) (SpellsSessionSetupRequest m.now) session_setup_request result }
 {
+    // Long by its fields alone: after this one check each of them is a line that can't fail.
     fields_fit(m, &[64, 2, 1, 1, 4, 4, 2, 2, 8])?;
     let size = u16_at(m, 64);
     let flags = u8_at(m, 66);

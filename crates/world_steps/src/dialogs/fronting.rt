@@ -70,6 +70,7 @@ pub(crate) fn take_out(
     let at = k as usize;
     let within = at < channels.len();
     if within {
+        // Taken out and put back later: a closed one stands in, so that each state in between shows its connections.
         let channel = mem::replace(&mut channels[at], Channel::new(alloc));
         talk_of(channel)
     } else {

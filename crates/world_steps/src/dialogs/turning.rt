@@ -52,6 +52,7 @@ fn turn_by(
         heard,
         rest,
     } = turn;
+    // Each arm ends the event by itself, because facts of a call in an arm are lost where arms join.
     match heard {
         Heard::Say(frame) => say_on(&mut world.channels, k, rest, dialog, frame),
         Heard::Accepted {

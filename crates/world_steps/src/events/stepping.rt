@@ -27,6 +27,8 @@ pub fn take(world: &mut World, k: u32) -> Result<(), WorldError>
 fn meet(world: &mut World, event: WorldEvent) -> Result<(), WorldError>
     ensures { WorldSteps world.old event world.new result }
 {
+    // Long by its events alone: only the function of an event has the whole world, and its parts the fields that they
+    // change.
     match event {
         WorldEvent::Submit { number, kind } => submit(world, number, kind),
         WorldEvent::Open(k) => open(world, k),
