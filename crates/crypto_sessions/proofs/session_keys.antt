@@ -1,3 +1,3 @@
-mod Halves
+pub mod Halves
 mod InPlace
 mod Repeats

@@ -41,3 +41,9 @@ abbrev pub IsLogonPlace : List (List ℕ × List ℕ) → List ℕ → Option �
 IsLogonPlace users name None = user_named name (map user_of users) ≡ None
 IsLogonPlace users name (Some k) = (k < length users) × ((d : List ℕ × List ℕ) → user_named name (map user_of users) ≡ Some
     (user_of (get_or users k d)))
+
+-- the first place that was found, once place k was looked at
+abbrev pub first_found : Option ℕ → Bool → ℕ → Option ℕ
+first_found (Some j) found k = Some j
+first_found None true k = Some k
+first_found None false k = None

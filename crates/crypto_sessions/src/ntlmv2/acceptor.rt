@@ -1,10 +1,11 @@
 //! The server's side: a challenge, and whether the answer is a user's logon.
-ghost use Rattle.std.specs.Prelude.{◌≡◌, ◌≤◌, ◌<◌, ◌+◌, ◌++◌, true, Some, length, take, drop, IfOk};
+ghost use Rattle.std.specs.Prelude.{◌≡◌, ◌≤◌, ◌<◌, ◌+◌, ◌++◌, true, Some, Err, length, take, drop, IfOk};
 ghost use Rattle.std.specs.Str.{bytes_eq};
 ghost use Rattle.spec_crypto.specs.tokens.Formulas.{utf16, upper, proof};
 ghost use Rattle.spec_crypto.specs.tokens.Pairs.{pair};
-ghost use Rattle.crypto_sessions.specs.ntlmv2.Judging.{user_of, exported_by, IsLogonKey, IsLogonPlace};
-ghost use Rattle.crypto_sessions.specs.ntlmv2.Views.{type3_view};
+ghost use Rattle.crypto_sessions.specs.ntlmv2.Judging.{user_of, exported_by, first_found, IsLogonKey, IsLogonPlace};
+ghost use Rattle.crypto_sessions.specs.ntlmv2.Views.{type3_view, Judges};
+ghost use Rattle.spec_crypto.specs.declared.tokens.ntlm.LogonError.TheVariants.{UnknownUser};
 ghost use Rattle.spec_crypto.specs.tokens.Acceptor.{challenge_flags, server_info, ascii_byte, is_ascii_utf16, has_form};
 ghost use Rattle.spec_crypto.specs.tokens.Acceptor.{exchanges, has_mic_bit, owes_mic};
 
@@ -13,6 +14,7 @@ use crate::ntlmv2::messages::{Type2, Type3, read_type1, read_type3, write_type2}
 use crate::ntlmv2::pairs::pair_of;
 use crate::ntlmv2::text::{raised_of, upper_of, utf16_of};
 use crate::ntlmv2::users::Users;
+use crypto_ciphers::is_same;
 use spec_crypto::{LogonError, NtlmError};
 use std::alloc::{AllocError, Global};
 use std::marker::Model;
@@ -22,6 +24,9 @@ use wire_bytes::{Bytes, FixedOut, Text};
 const LARGE_NAME: [u8; 12] = [b'S', 0, b'M', 0, b'B', 0, b'3', 0, b'1', 0, b'1', 0];
 
 const SMALL_NAME: [u8; 12] = [b's', 0, b'm', 0, b'b', 0, b'3', 0, b'1', 0, b'1', 0];
+
+/// The password that is tried where no user has the told name. It opens nothing: what its trial gives is thrown away.
+const STAND_IN: &str = "a password";
 
 /// A logon in the making: its first two messages and the challenge.
 #[derive(Debug, Drop)]
@@ -109,19 +114,29 @@ fn is_name(alloc: Global, told: &[u8], name: &str) -> Result<bool, AllocError>
     Ok(told == spelled.as_slice())
 }
 
-/// The place of the first user of a name in UTF-16.
+/// The first place that was found, once place k was looked at.
+fn first_found(place: Option<usize>, found: bool, k: usize) -> Option<usize>
+    ensures { result ≡ first_found place found k }
+{
+    match place {
+        Some(first) => Some(first),
+        None => { if found { Some(k) } else { None } }
+    }
+}
+
+/// The place of the first user of a name in UTF-16. All users are looked at, also behind the one that was found, so that
+/// the time doesn't tell whether there is one.
 fn place_of(alloc: Global, users: &[(Text, Text)], name: &[u8]) -> Result<Option<usize>, AllocError>
     ensures { IfOk result (λ place. IsLogonPlace users.now name.now place) }
 {
     let raised = raised_of(alloc, name)?;
     let told = raised.as_slice();
+    let mut place = None;
     'users: for k in 0..users.len() {
         let found = is_name(alloc, told, users[k].0.as_str())?;
-        if found {
-            return Ok(Some(k));
-        }
+        place = first_found(place, found, k);
     }
-    Ok(None)
+    Ok(place)
 }
 
 #[tactic(auto, unfolding(spec_crypto::specs::tokens::Acceptor::exchanges))]
@@ -171,12 +186,22 @@ fn sixteen_of(bytes: &[u8]) -> [u8; 16]
     front
 }
 
+/// Whether two pieces of one length are the same. All of their bytes are looked at, because the time till a first
+/// difference would tell a peer how many bytes of a guess were right.
+#[tactic(auto, using(crate::proofs::session_keys::Halves::tested))]
+fn is_equal(a: &[u8], b: &[u8]) -> bool
+    requires { length a.now ≡ length b.now }
+    ensures { result ≡ bytes_eq a.now b.now }
+{
+    is_same(a, b)
+}
+
 /// Whether a response begins with the proof of this key.
 fn is_shown(key: &[u8; 16], server: &[u8; 8], nt: &[u8]) -> bool
     requires { 16 ≤ length nt.now }
     ensures { result ≡ bytes_eq (take 16 nt.now) (proof key.now server.now (drop 16 nt.now)) }
 {
-    &nt[..16] == proof(key, server, &nt[16..]).as_slice()
+    is_equal(&nt[..16], &proof(key, server, &nt[16..]))
 }
 
 /// The exported key behind a response with this key's proof.
@@ -211,6 +236,43 @@ fn key_of(
         return Ok(None);
     }
     Ok(Some(exported_key_of(&key, m)))
+}
+
+/// A name as it was told, each unit by its low byte.
+fn told_name(alloc: Global, told: &[u8]) -> Result<Text, AllocError> {
+    let mut name = Text::new(alloc);
+    for k in 0..told.len() / 2 {
+        name.push(told[2 * k] as char)?;
+    }
+    Ok(name)
+}
+
+/// The work of `key_of` where the password is wrong. No key comes of it, also where the stand-in's proof was sent.
+fn try_stand_in(
+    alloc: Global,
+    name: &str,
+    server: &[u8; 8],
+    m: &Type3<'_>,
+) -> Result<bool, AllocError> {
+    if !is_formed(m) {
+        return Ok(false);
+    }
+    let key = ntowf_with(alloc, STAND_IN, name, m.domain)?;
+    Ok(is_shown(&key, server, m.nt))
+}
+
+/// The refusal of a name that no user has. It takes the work that a user's wrong password takes, so that the time
+/// doesn't tell who is a user.
+fn refuse_stranger(
+    alloc: Global,
+    name: &str,
+    server: &[u8; 8],
+    m: &Type3<'_>,
+) -> Result<Logon, LogonError>
+    ensures { Judges result (Err UnknownUser) }
+{
+    let _shown = try_stand_in(alloc, name, server, m)?;
+    Err(LogonError::UnknownUser)
 }
 
 impl Model for Acceptor {
@@ -280,7 +342,7 @@ impl Acceptor {
             self.second.as_slice(),
             t3,
         )?;
-        Ok(m.mic.as_slice() == code.as_slice())
+        Ok(is_equal(&m.mic, &code))
     }
 
     fn judge(
@@ -324,9 +386,11 @@ impl Acceptor {
             return Err(LogonError::NotAscii);
         }
         let items = users.as_slice();
+        // Before the search, because it is to be made of each name, also of a user's.
+        let name = told_name(alloc, m.user)?;
         let found = place_of(alloc, items, m.user)?;
         match found {
-            None => Err(LogonError::UnknownUser),
+            None => refuse_stranger(alloc, name.as_str(), &self.server, &m),
             Some(place) => self.judge(alloc, &items[place], t3, &m),
         }
     }

@@ -18,12 +18,13 @@ pub returns-in-None : goal.returns-in-None
 returns-in-None c =
     let n = rw c.in-None.is at c.in_ok-found.ensures in
     let ascii : is_ascii_utf16 c.in-Ok.m.user.now ≡ true = sym c.is_ascii.ensures ∙ c.if-not-is_ascii.false in
-    of_user c.args.users.now c.args.self.now.server c.args.self.now.first c.args.self.now.second c.args.t3.now
+    let e = of_user c.args.users.now c.args.self.now.server c.args.self.now.first c.args.self.now.second c.args.t3.now
     (type3_view c.in-Ok.m) None c.in-Ok.ensures ascii
-    (subst (λ (us : List User). user_named c.in-Ok.m.user.now us ≡ None) c.as_slice-items.ensures n)
+    (subst (λ (us : List User). user_named c.in-Ok.m.user.now us ≡ None) c.as_slice-items.ensures n) in
+    subst (λ x. Judges c.refuse_stranger.result x) (sym e) c.refuse_stranger.ensures
 
-pub returns-in-Some : goal.returns-in-Some
-returns-in-Some c =
+pub returns : goal.returns
+returns c =
     let n = rw c.in-Some.is at c.in_ok-found.ensures in
     let item = c.index-items-place.result in
     let ascii : is_ascii_utf16 c.in-Ok.m.user.now ≡ true = sym c.is_ascii.ensures ∙ c.if-not-is_ascii.false in
