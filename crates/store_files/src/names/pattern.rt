@@ -1,45 +1,22 @@
-ghost use Rattle.std.specs.Prelude.{◌≡◌, ◌+◌, ◌≤◌, ◌<◌, ◌&&◌, nat_le, nat_lt, ℕ, List, Bool, true, false, [], ◌∷◌, ◌++◌};
-ghost use Rattle.std.specs.Prelude.{length, drop, replicate, IfOk};
-ghost use Rattle.spec_exchange.specs.Listing.{accepts, matches, any_tail, one_character, after_character, one_byte};
+ghost use Rattle.std.specs.Prelude.{◌≡◌, ◌+◌, ◌-◌, ◌*◌, ◌≤◌, ◌<◌, ◌&&◌, nat_le, nat_lt, ℕ, List, Bool, true, false, [], ◌∷◌, ◌==◌};
+ghost use Rattle.std.specs.Prelude.{length, drop, IfOk, IfSome, IfNone};
+ghost use Rattle.spec_exchange.specs.Listing.{accepts, matches, after_character};
 ghost use Rattle.spec_exchange.specs.Texts.{upper};
-ghost use Rattle.store_files.specs.names.Rows.{AreFor};
+ghost use Rattle.store_files.specs.names.Walks.{IsUnderWay, LeadsBehind, turns};
 
 use std::alloc::{AllocError, Global};
 
 /// Whether a pattern accepts a name: `*` stands for any characters, `?` for one, and letters count as the same in both
-/// cases (MS-FSA 2.1.4.4). An empty pattern accepts all. It takes time as the product of the two lengths, and for an
-/// empty pattern and `*` none.
-pub fn accepts(alloc: Global, pattern: &[u8], name: &[u8]) -> Result<bool, AllocError>
+/// cases (MS-FSA 2.1.4.4). An empty pattern accepts all. It ends at the first character that doesn't fit where no `*`
+/// stood before, takes time as the sum of the two lengths for usual patterns and as their product at most, and takes no
+/// memory, so no error comes.
+pub fn accepts(_alloc: Global, pattern: &[u8], name: &[u8]) -> Result<bool, AllocError>
     ensures { IfOk result (λ b. b ≡ accepts pattern.now name.now) }
 {
     if is_any(pattern) {
         return Ok(true);
     }
-    let mut fits = first_row(alloc, name)?;
-    Ok(accepts_by_rows(pattern, name, &mut fits))
-}
-
-// The row for the pattern's end: only nothing is left to accept.
-fn first_row(alloc: Global, name: &[u8]) -> Result<Vec<bool>, AllocError>
-    ensures { IfOk result (λ v. v.items ≡ replicate (length name.now) false ++ true ∷ []) }
-{
-    let mut fits = Vec::new(alloc);
-    fits.resize(name.len(), false)?;
-    fits.push(true)?;
-    Ok(fits)
-}
-
-// Goes through the pattern from its end.
-fn accepts_by_rows(pattern: &[u8], name: &[u8], fits: &mut [bool]) -> bool
-    requires { AreFor fits.old (matches []) name.now }
-    ensures { result ≡ matches pattern.now name.now }
-{
-    let mut i = pattern.len();
-    while i > 0 {
-        i -= 1;
-        step(pattern[i], name, fits);
-    }
-    fits[0]
+    Ok(fits(pattern, name))
 }
 
 // The patterns that accept each name: the empty one and `*`.
@@ -54,44 +31,111 @@ fn is_any(pattern: &[u8]) -> bool
     }
 }
 
-// The row for the pattern's rest becomes the one for the rest with this character before it.
-fn step(character: u8, name: &[u8], fits: &mut [bool])
-    requires { length fits.old ≡ length name.now + 1 }
-    ensures len { length fits.new ≡ length fits.old }
-    ensures is { (ps : List ℕ) → AreFor fits.old (matches ps) name.now → AreFor fits.new (matches (character ∷ ps)) name.now }
+// How far a pattern and a name are compared. What an earlier `*` could take more needs no look: where the part between
+// two `*` fits, the later one can take that too.
+#[derive(Clone, Copy)]
+struct Walk {
+    // The place in the pattern, and that in the name.
+    i: usize,
+    j: usize,
+    // The place behind the last `*`, 0 before the first, and the one in the name where it was last tried from there.
+    behind: usize,
+    from: usize,
+}
+
+fn fits(pattern: &[u8], name: &[u8]) -> bool
+    ensures { result ≡ matches pattern.now name.now }
 {
+    let mut walk = Walk {
+        i: 0,
+        j: 0,
+        behind: 0,
+        from: 0,
+    };
+    while (walk.i < pattern.len()) | (walk.j < name.len()) {
+        let Some(next) = step(pattern, name, walk) else {
+            return false;
+        };
+        walk = next;
+    }
+    true
+}
+
+// One step: onward where what comes next fits, else back to the last `*`, which takes one byte more. None where nothing
+// is left to try, as at the name's end: what doesn't fit there fits at no later place.
+fn step(pattern: &[u8], name: &[u8], walk: Walk) -> Option<Walk>
+    requires stands { IsUnderWay pattern.now name.now walk.i walk.j walk.behind walk.from }
+    requires rest { walk.i ≡ length pattern.now → walk.j < length name.now }
+    ensures some { IfSome result (λ w. IsUnderWay pattern.now name.now w.i w.j w.behind w.from
+        × (turns pattern.now name.now w.i w.from < turns pattern.now name.now walk.i walk.from)) }
+    ensures none { IfNone result (matches pattern.now name.now ≡ false) }
+{
+    if let Some(next) = onward(pattern, name, walk) {
+        return Some(next);
+    }
+    let ends = (walk.behind == 0) | (walk.j == name.len());
+    if ends {
+        return None;
+    }
+    let from = walk.from + 1;
+    Some(Walk {
+        i: walk.behind,
+        j: from,
+        behind: walk.behind,
+        from,
+    })
+}
+
+// The step onward, None where what is left of the name doesn't fit.
+fn onward(pattern: &[u8], name: &[u8], walk: Walk) -> Option<Walk>
+    requires stands { IsUnderWay pattern.now name.now walk.i walk.j walk.behind walk.from }
+    requires rest { walk.i ≡ length pattern.now → walk.j < length name.now }
+    ensures some { IfSome result (λ w. IsUnderWay pattern.now name.now w.i w.j w.behind w.from
+        × (turns pattern.now name.now w.i w.from < turns pattern.now name.now walk.i walk.from)) }
+    ensures none { IfNone result (matches (drop walk.i pattern.now) (drop walk.j name.now) ≡ false) }
+{
+    if walk.i == pattern.len() {
+        return None;
+    }
+    let i = walk.i + 1;
+    let character = pattern[walk.i];
     if character == b'*' {
-        any_characters(name, fits);
-    } else if character == b'?' {
-        one_character(name, fits);
-    } else {
-        this_byte(character, name, fits);
+        return Some(Walk {
+            i,
+            j: walk.j,
+            behind: i,
+            from: walk.j,
+        });
+    }
+    if walk.j == name.len() {
+        return None;
+    }
+    match behind_one(character, name, walk.j) {
+        Some(j) => Some(Walk {
+            i,
+            j,
+            behind: walk.behind,
+            from: walk.from,
+        }),
+        None => None,
     }
 }
 
-fn any_characters(name: &[u8], fits: &mut [bool])
-    requires { length fits.old ≡ length name.now + 1 }
-    ensures len { length fits.new ≡ length fits.old }
-    ensures is { (f : List ℕ → Bool) → AreFor fits.old f name.now → AreFor fits.new (any_tail f) name.now }
+// The place behind what a character of the pattern, other than `*`, accepts at a place. None where it doesn't fit.
+fn behind_one(character: u8, name: &[u8], at: usize) -> Option<usize>
+    requires letter { (character == 42) ≡ false }
+    requires range { at < length name.now }
+    ensures some { IfSome result (λ n. (at < n) × (n ≤ length name.now) × LeadsBehind character name.now at n) }
+    ensures none { IfNone result ((ps : List ℕ) → matches (character ∷ ps) (drop at name.now) ≡ false) }
 {
-    let mut i = name.len();
-    while i > 0 {
-        i -= 1;
-        fits[i] = fits[i] | fits[i + 1];
+    if character == b'?' {
+        return Some(next_character(name, at + 1));
     }
-}
-
-fn one_character(name: &[u8], fits: &mut [bool])
-    requires { length fits.old ≡ length name.now + 1 }
-    ensures len { length fits.new ≡ length fits.old }
-    ensures is { (f : List ℕ → Bool) → AreFor fits.old f name.now → AreFor fits.new (one_character f) name.now }
-{
-    let mut i = 0;
-    while i < name.len() {
-        fits[i] = fits[next_character(name, i + 1)];
-        i += 1;
+    let same = upper(character) == upper(name[at]);
+    if same {
+        return Some(at + 1);
     }
-    fits[name.len()] = false;
+    None
 }
 
 // Where the next character begins, from a place on.
@@ -127,18 +171,4 @@ fn upper(byte: u8) -> u8
     } else {
         byte
     }
-}
-
-fn this_byte(character: u8, name: &[u8], fits: &mut [bool])
-    requires { length fits.old ≡ length name.now + 1 }
-    ensures len { length fits.new ≡ length fits.old }
-    ensures is { (f : List ℕ → Bool) → AreFor fits.old f name.now → AreFor fits.new (one_byte character f) name.now }
-{
-    let mut i = 0;
-    while i < name.len() {
-        let same = upper(character) == upper(name[i]);
-        fits[i] = same & fits[i + 1];
-        i += 1;
-    }
-    fits[name.len()] = false;
 }
