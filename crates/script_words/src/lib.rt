@@ -14,6 +14,8 @@ mod pieces;
 mod settings;
 pub mod text_lines;
 mod texts;
+mod user_list;
+mod user_names;
 mod values;
 mod words;
 
@@ -23,7 +25,8 @@ pub use outcome_lines::{CreateOrder, NumberList, has_order, refusal_line, run_te
 pub use pieces::Pieces;
 pub use text_lines::{Line, Refusal, SCRIPT_BYTES, SCRIPT_LINES, SCRIPT_OPERATIONS, with_defaults};
 pub use texts::is_text;
+pub use user_list::UserList;
 pub use values::{
-    Cipher, Code, Command, Fault, Given, ScriptEvent, Setting, Signing, Statement, User, UserList,
+    Cipher, Code, Command, Fault, Given, ScriptEvent, Setting, Signing, Statement, User,
 };
 pub use words::statement;

@@ -140,7 +140,8 @@ pub(crate) fn short_text(alloc: Global, word: &[u8]) -> Reading<Text>
     Ok(short)
 }
 
-fn text_in(word: &[u8]) -> Option<&str>
+/// A word that is UTF-8.
+pub(crate) fn text_in(word: &[u8]) -> Option<&str>
     ensures { MatchOption result (is_utf8 word.now ≡ false) (λ text. (is_utf8 word.now ≡ true) × (text.now ≡ word.now)) }
 {
     match std::str::from_utf8(word) {

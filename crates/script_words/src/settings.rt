@@ -7,8 +7,9 @@ ghost use Rattle.script_words.specs.Settings as settings;
 ghost use Rattle.script_words.specs.declared.values.Code.TheVariants.{BadLine};
 ghost use Rattle.script_words.specs.declared.values.Fault.TheVariants.{Refused};
 
-use crate::parts::{Reading, is, is_ascii, number, short_text, word};
+use crate::parts::{Reading, is, is_ascii, number, short_text, text_in, word};
 use crate::pieces::Pieces;
+use crate::user_list::UserList;
 use crate::values::{Cipher, Code, Command, Fault, Given, Setting, Signing, User};
 use std::alloc::Global;
 use wire_bytes::Text;
@@ -59,7 +60,7 @@ pub(crate) fn setting(
         room(line)
     } else if is(name, "user") {
         unless(given.begun || (!given.users.is_empty() && !command.serves()))?;
-        user(alloc, given.users.as_slice(), line)
+        user(alloc, &given.users, line)
     } else if is(name, "share") {
         unless(given.begun || given.share.is_some())?;
         share(alloc, line)
@@ -124,7 +125,7 @@ fn room(line: &mut Pieces<'_>) -> Reading<Setting>
 }
 
 #[tactic(auto, unfolding(crate::specs::Settings::user))]
-fn user(alloc: Global, users: &[User], line: &mut Pieces<'_>) -> Reading<Setting>
+fn user(alloc: Global, users: &UserList, line: &mut Pieces<'_>) -> Reading<Setting>
     ensures { OutcomeGives (λ s. (s, line.new)) result (settings.user users.now line.old) }
 {
     let first = word(line)?;
@@ -134,22 +135,20 @@ fn user(alloc: Global, users: &[User], line: &mut Pieces<'_>) -> Reading<Setting
     Ok(Setting::User(User { name, password }))
 }
 
-fn user_name(alloc: Global, users: &[User], word: &[u8]) -> Reading<Text>
+fn user_name(alloc: Global, users: &UserList, word: &[u8]) -> Reading<Text>
     ensures { OutcomeGives (λ t. t) result (settings.user_name users.now word.now) }
 {
-    if !is_ascii(word) || is_named(word, users) {
+    if !is_ascii(word) {
+        return Err(Fault::Refused(Code::BadLine));
+    }
+    let Some(name) = text_in(word) else {
+        return Err(Fault::Refused(Code::BadLine));
+    };
+    let taken = users.is_taken(alloc, name)?;
+    if taken {
         return Err(Fault::Refused(Code::BadLine));
     }
     short_text(alloc, word)
-}
-
-// Whether an earlier user has this name, but for the case of ASCII letters.
-fn is_named(name: &[u8], users: &[User]) -> bool
-    ensures { result ≡ settings.is_name_taken name.now users.now }
-{
-    users
-        .iter()
-        .any(|user| same_name(user.name.as_bytes(), name))
 }
 
 fn same_name(a: &[u8], b: &[u8]) -> bool

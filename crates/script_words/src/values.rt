@@ -1,7 +1,7 @@
 // What a line may say.
 ghost use Rattle.std.specs.Prelude.{◌≡◌};
 
-use base_lists::ListOf;
+use crate::user_list::UserList;
 use client_values::OpKind;
 use std::alloc::{AllocError, AllocFailed};
 use wire_bytes::{Bytes, Text};
@@ -56,8 +56,6 @@ pub struct User {
     pub name: Text,
     pub password: Text,
 }
-
-pub type UserList = ListOf<User>;
 
 #[derive(Drop, Debug)]
 pub enum Setting {
