@@ -15,6 +15,7 @@ mod first_deadlines;
 mod logon_progress;
 mod server;
 mod signing;
+mod standing;
 
 pub use behind_expiry::{Both, front_body, ready_behind};
 pub use commit_event::commit;

@@ -19,7 +19,8 @@ ghost use Rattle.spec_world.specs.Ends.{Logons};
 
 use crate::event_step::{ServerState, answer_event};
 use crate::signing::signer_of;
-use base_outside::Disk;
+use crate::standing::standing_of;
+use base_outside::{Disk, Standing};
 use journal::JournalError;
 use server_checks::{Config, EventError, ServerEvent};
 use server_effects::Answer;
@@ -120,6 +121,17 @@ impl<D: Disk> Server<D> {
             Ok(files) => Ok(files),
             Err(error) => Err(error),
         }
+    }
+
+    /// What a connection has here, for whoever waits for its peer. No contract rests on it.
+    pub fn standing(&self, connection: u32) -> Standing {
+        standing_of(&self.state.tables, connection)
+    }
+
+    /// How many files and directories there are, and how many bytes all files have.
+    pub fn size(&self) -> (u64, u64) {
+        let tree = &self.state.tables.tree;
+        (tree.count() as u64, tree.held())
     }
 
     /// Hands back the disk.

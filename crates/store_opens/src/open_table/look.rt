@@ -36,6 +36,27 @@ impl Opens {
         self.rows.contains_key(&id)
     }
 
+    /// Whether an open is attached to a session. No contract rests on it: whoever waits for a silent peer asks it. It looks at one open
+    /// mostly, and at most at each that the session listed.
+    pub fn has_attached(&self, session: u64) -> bool {
+        let Some(listed) = self.sessions.get(&session) else {
+            return false;
+        };
+        for id in &listed.opens {
+            if self.is_attached(*id, session) {
+                return true;
+            }
+        }
+        false
+    }
+
+    fn is_attached(&self, id: u64, session: u64) -> bool {
+        match self.rows.get(&id) {
+            Some(row) => row.session == Some(session),
+            None => false,
+        }
+    }
+
     /// The row of an open.
     pub fn row(&self, id: u64) -> Option<&Row>
         ensures { (s : Server) → ShowsOpens self.now s → OpenRowFound (option_copied result) s id }
