@@ -21,7 +21,7 @@ def main():
         names += [it for it in below[name].split(":")[1].split() if it in below and it not in names]
         shutil.copytree(f"{top}/crates/{name}", f"{folder}/crates/{name}")
     lines = [line for name, line in below.items() if name in names]
-    lines.append("journal_figures: base_outside wire_bytes journal anyhow\n")
+    lines.append("journal_figures: base_machine base_outside wire_bytes journal anyhow\n")
     with open(f"{folder}/crates.txt", "w", encoding="utf-8") as out:
         out.writelines(lines)
     shutil.copy(f"{top}/HANDLES", folder)

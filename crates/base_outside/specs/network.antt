@@ -1,3 +1,2 @@
-pub mod FileTime
 pub mod Link
 pub mod Memory

@@ -1,19 +1,14 @@
-//! Sources, sinks, disks, links, nets and clocks as traits, with forms in memory and adapters over the standard
-//! library, and the file of a journal. It is a room because all that the program shares with its machine is here. The
-//! journal, serving, the programs and the tests stand on it.
+//! Sources, sinks, disks, links, nets and clocks as traits, with forms in memory. It is a room because contracts name what the
+//! program shares with its machine by these traits. The journal, serving, the programs and the tests stand on it.
 #![tactic(auto)]
 
-mod journal_file;
 mod network;
 pub mod streams;
 mod whole_texts;
 
-pub use journal_file::JournalFile;
 pub use network::{
-    Clock, Link, MemClock, MemEnd, MemLink, MemNet, Net, StdClock, StdLink, StdNet, file_time,
+    Clock, Link, MemClock, MemEnd, MemLink, MemNet, Net, News, Printed, SentName, Standing, Watch,
+    is_end,
 };
-pub use streams::{
-    Address, Disk, Failed, MemDisk, MemSink, MemSource, Plan, Sink, Source, StdDisk, StdSink,
-    StdSource,
-};
+pub use streams::{Address, Disk, Failed, MemDisk, MemSink, MemSource, Plan, Sink, Source};
 pub use whole_texts::{ReadError, SCRIPT_BYTES, read_script, write_all};

@@ -1,5 +1,5 @@
 //! The outside of what runs in threads: links to peers, nets that links come from, and clocks, as traits
-//! with memory forms and adapters over the standard library's sockets and clock.
+//! with memory forms.
 //!
 //! Each link and each net counts its faults in a ghost member that code over the traits cannot raise,
 //! and tells its bytes where it knows them.
@@ -11,17 +11,14 @@ mod mem_end;
 mod mem_link;
 mod mem_net;
 mod net;
-mod std_clock;
-mod std_link;
-mod std_net;
+mod standing;
 mod wire;
 
 pub use clock::{Clock, MemClock};
+pub use end::is_end;
 pub use link::Link;
 pub use mem_end::MemEnd;
 pub use mem_link::MemLink;
 pub use mem_net::MemNet;
 pub use net::Net;
-pub use std_clock::{StdClock, file_time};
-pub use std_link::StdLink;
-pub use std_net::StdNet;
+pub use standing::{News, Printed, SentName, Standing, Watch};

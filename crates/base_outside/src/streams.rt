@@ -1,5 +1,5 @@
 //! The outside of the program: where its input comes from and where its output goes, as traits with
-//! memory fakes and adapters over the standard library's readers and writers.
+//! memory fakes.
 //!
 //! Each object counts its faults in a ghost member that code over the traits cannot raise, and tells
 //! its bytes where it knows them.
@@ -13,9 +13,6 @@ mod mem_source;
 mod plan;
 mod sink;
 mod source;
-mod std_disk;
-mod std_sink;
-mod std_source;
 
 pub use address::Address;
 pub use disk::Disk;
@@ -26,6 +23,3 @@ pub use mem_source::MemSource;
 pub use plan::Plan;
 pub use sink::Sink;
 pub use source::Source;
-pub use std_disk::StdDisk;
-pub use std_sink::StdSink;
-pub use std_source::StdSource;

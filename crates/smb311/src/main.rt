@@ -8,12 +8,12 @@
 mod command;
 
 use crate::command::smb311;
-use base_outside::{JournalFile, StdClock, StdNet, StdSink, StdSource};
+use base_machine::{JournalFile, Shared, StdClock, StdNet, StdSink, StdSource};
 use rand_chacha::ChaCha20Rng;
 use rand_core::SeedableRng;
 use std::alloc::AllocError;
 use std::env;
-use std::io::ErrorKind;
+use std::io::{Eprint, ErrorKind};
 use std::net::{Net, TcpListener, TcpStream};
 use std::process::ExitCode;
 use std::random::RandomSource;
@@ -51,15 +51,16 @@ fn words<R: Env + AllocGlobal>(rt: &R) -> Result<Vec<String>, AllocError> {
 // What the one call answers that does all.
 fn status<W>(rt: &W, host: &HostRuntime, words: &[String], seed: [u8; 32]) -> u8
 where
-    W: Wait + Threads + Sync + Net<Listener = TcpListener, Stream = TcpStream> + Clock,
+    W: Wait + Threads + Sync + Net<Listener = TcpListener, Stream = TcpStream> + Clock + Eprint,
 {
     let mut source = StdSource::new(host.stdin());
     let mut sink = StdSink::new(host.stdout());
+    let shared = Shared::new(host.alloc());
     // It opens nothing yet, so `drill`, `gen` and refused words make no file.
-    let disk = JournalFile::new(host);
-    let (net, clock) = (StdNet::new(rt), StdClock::new(rt));
+    let disk = JournalFile::new(rt, host, &shared);
+    let (net, clock) = (StdNet::new(rt, &shared), StdClock::new(rt));
     let random = ChaCha20Rng::from_seed(seed);
-    smb311(
+    let status = smb311(
         rt,
         host.alloc(),
         words,
@@ -69,5 +70,7 @@ where
         net,
         clock,
         random,
-    )
+    );
+    shared.tell_end(rt, status);
+    status
 }

@@ -1,5 +1,6 @@
 // The library's readers and writers as sources and sinks, and a file as a disk.
-use base_outside::{Disk, Failed, Sink, Source, StdDisk, StdSink, StdSource};
+use base_machine::{StdDisk, StdSink, StdSource};
+use base_outside::{Disk, Failed, Sink, Source};
 use std::fs::OpenOptions;
 use std::io;
 use std::io::{ErrorKind, Read, Write};

@@ -1,6 +1,9 @@
 // A file that refuses a call is a fault of the disk, one for each call, and never an end or a success.
-use base_outside::{Disk, Failed, StdDisk};
-use std::fs::OpenOptions;
+use base_machine::{JournalFile, Shared, StdDisk};
+use base_outside::{Disk, Failed};
+use std::fs;
+use std::fs::{File, OpenOptions};
+use std::os::unix::fs::{FileExt, PermissionsExt};
 use std::test::Fail;
 
 fn disk(rt: &HostRuntime, name: &str, read: bool, write: bool) -> Result<StdDisk, Fail> {
@@ -60,5 +63,54 @@ fn a_write_that_fits_in_part_is_no_success(rt: HostRuntime) -> Result<(), Fail> 
         Err(Failed) => assert_eq!(rt; file.fault_count(), 1),
     }
     assert_eq!(rt; file.cut(0), Ok(()));
+    Ok(())
+}
+
+// The second of two has failed and has changed nothing, until the first has gone.
+#[test]
+fn one_server_has_the_journal(rt: HostRuntime) -> Result<(), Fail> {
+    let (here, there) = (Shared::new(rt.alloc()), Shared::new(rt.alloc()));
+    let mut first = JournalFile::new(&rt, &rt, &here);
+    let mut second = JournalFile::new(&rt, &rt, &there);
+    assert_eq!(rt; first.write_at(0, b"abc"), Ok(()));
+    assert_eq!(rt; second.cut(0), Err(Failed));
+    assert_eq!(rt; second.write_at(0, b"xyz"), Err(Failed));
+    assert_eq!(rt; second.fault_count(), 2);
+    assert_eq!(rt;
+        fs::metadata(&rt, "smb311.journal")?.permissions().mode() % 0o1000,
+        0o600
+    );
+    assert_eq!(rt;
+        fs::metadata(&rt, "smb311.lock")?.permissions().mode() % 0o1000,
+        0o600
+    );
+    drop(first);
+    let mut into = [0u8; 4];
+    assert_eq!(rt; second.read(0, &mut into), Ok(3));
+    assert_eq!(rt; into, *b"abc\0");
+    assert_eq!(rt; second.cut(0), Ok(()));
+    Ok(())
+}
+
+// What is cut is kept where it is more than 2 MiB, by the first number that no file has.
+#[test]
+fn a_long_end_is_kept(rt: HostRuntime) -> Result<(), Fail> {
+    let shared = Shared::new(rt.alloc());
+    let mut disk = JournalFile::new(&rt, &rt, &shared);
+    assert_eq!(rt; disk.write_at(3_000_000, b"end"), Ok(()));
+    assert_eq!(rt; disk.cut(2_900_000), Ok(()));
+    assert!(rt;
+        !fs::exists(&rt, "smb311.cut-1")?,
+        "little is cut without a copy"
+    );
+    assert_eq!(rt; disk.write_at(3_000_000, b"end"), Ok(()));
+    assert_eq!(rt; disk.cut(100), Ok(()));
+    let kept = File::open(&rt, "smb311.cut-1")?;
+    assert_eq!(rt; kept.metadata()?.len(), 2_999_903);
+    let mut into = [0u8; 3];
+    assert_eq!(rt; kept.read_at(&mut into, 2_999_900)?, 3);
+    assert_eq!(rt; into, *b"end");
+    assert_eq!(rt; disk.length(), Ok(100));
+    assert_eq!(rt; disk.cut(0), Ok(()));
     Ok(())
 }

@@ -13,3 +13,5 @@ mod book;
 mod files;
 #[cfg(test)]
 mod net;
+#[cfg(test)]
+mod turns;

@@ -1,4 +1,7 @@
-use base_outside::{Address, Clock, Failed, Link, MemNet, Net, StdClock, StdNet, file_time};
+use base_machine::{Shared, StdClock, StdNet, file_time};
+use base_outside::{
+    Address, Clock, Failed, Link, MemNet, Net, News, Printed, SentName, Standing, Watch,
+};
 use std::net::{Ipv4Addr, SocketAddr, TcpListener};
 use std::sync::Wait;
 use std::test::Fail;
@@ -70,7 +73,8 @@ fn the_machine_is_a_net(rt: HostRuntime) -> Result<(), Fail> {
     let loopback = SocketAddr::new(Ipv4Addr::LOCALHOST.into(), 0);
     let port = TcpListener::bind(&rt, loopback)?.local_addr()?.port();
     let at = Address { ip: AT.ip, port };
-    let mut net = StdNet::new(&rt);
+    let shared = Shared::new(rt.alloc());
+    let mut net = StdNet::new(&rt, &shared);
     assert!(rt; net.accept().is_err(), "it doesn't listen yet");
     assert_eq!(rt; net.listen(at), Ok(()));
     let mut mine = net.connect(at)?;
@@ -84,7 +88,10 @@ fn the_machine_is_a_net(rt: HostRuntime) -> Result<(), Fail> {
     assert_eq!(rt; mine.read(&mut into), Ok(0));
     assert_eq!(rt; mine.fault_count(), 0);
     drop(net);
-    assert!(rt; StdNet::new(&rt).connect(at).is_err(), "nobody listens");
+    assert!(rt;
+        StdNet::new(&rt, &shared).connect(at).is_err(),
+        "nobody listens"
+    );
     Ok(())
 }
 
@@ -99,5 +106,62 @@ fn clocks_count_from_1601(rt: HostRuntime) -> Result<(), Fail> {
     let then = clock.now();
     assert!(rt; then > 133_000_000_000_000_000, "it is later than 2022");
     assert!(rt; clock.now() >= then, "it doesn't go back");
+    Ok(())
+}
+
+fn standing(has_session: bool, has_opens: bool) -> Standing {
+    Standing {
+        has_session,
+        has_opens,
+        used: 0,
+        room: 0,
+    }
+}
+
+// A peer that sends nothing is waited for as its connection stands, and one that was refused ten times is heard no more.
+#[test]
+fn a_silent_peer_is_not_waited_for(rt: HostRuntime) -> Result<(), Fail> {
+    let loopback = SocketAddr::new(Ipv4Addr::LOCALHOST.into(), 0);
+    let port = TcpListener::bind(&rt, loopback)?.local_addr()?.port();
+    let at = Address { ip: AT.ip, port };
+    let shared = Shared::new(rt.alloc());
+    let mut net = StdNet::new(&rt, &shared);
+    net.watch(&Watch {
+        printed: Printed::Nothing,
+        logon: 1,
+        idle: 1,
+        peers: 2,
+    });
+    assert_eq!(rt; net.listen(at), Ok(()));
+    let mut into = [0u8; 4];
+    let silent = net.connect(at)?;
+    let mut link = net.accept()?;
+    assert!(rt;
+        link.read(&mut into).is_err(),
+        "it has no session after a second"
+    );
+    link.note(&standing(true, false), &News::Nothing);
+    assert!(rt;
+        link.read(&mut into).is_err(),
+        "it has no open and sends nothing"
+    );
+    assert_eq!(rt; link.fault_count(), 2);
+    drop(silent);
+    link.note(&standing(true, true), &News::Nothing);
+    assert_eq!(rt; link.read(&mut into), Ok(0));
+    let mut peer = net.connect(at)?;
+    let mut refused = net.accept()?;
+    let name = SentName {
+        units: [0; 64],
+        length: 0,
+    };
+    assert_eq!(rt; peer.write(b"ping"), Ok(4));
+    for _ in 0..9 {
+        refused.note(&standing(false, false), &News::Refused(name));
+    }
+    assert_eq!(rt; refused.read(&mut into), Ok(4));
+    refused.note(&standing(false, false), &News::Refused(name));
+    assert_eq!(rt; peer.write(b"ping"), Ok(4));
+    assert!(rt; refused.read(&mut into).is_err(), "ten logons were refused");
     Ok(())
 }

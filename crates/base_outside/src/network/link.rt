@@ -3,6 +3,7 @@ ghost use Rattle.std.specs.Prelude.{◌≡◌, ◌++◌, ℕ, ◌<◌, ◌≤◌
 ghost use Rattle.base_outside.specs.streams.Faults.{CountsFault};
 ghost use Rattle.base_outside.specs.network.Link.{LinkGives, ended_after};
 
+use crate::network::{News, Standing};
 use crate::streams::Failed;
 
 /// A stream of bytes from a peer and one to it, as a TCP connection.
@@ -53,4 +54,13 @@ pub trait Link {
         ensures given { told → (left self.new ≡ left self.old) × (given self.new ≡ given self.old) }
         ensures end { ended self.new ≡ ended self.old }
         ensures cause { CountsFault (faults self.old) (faults self.new) result };
+
+    /// Hears how its connection stands, so that it may limit how long a read waits for a peer that holds nothing. It gives and takes no
+    /// byte and does not fail.
+    fn note(&mut self, _standing: &Standing, _news: &News)
+        ensures bytes { told → (left self.new ≡ left self.old) × (given self.new ≡ given self.old)
+            × (written self.new ≡ written self.old) }
+        ensures end { ended self.new ≡ ended self.old }
+        ensures calm { faults self.new ≡ faults self.old }
+    {}
 }

@@ -4,7 +4,7 @@ ghost use Rattle.base_outside.specs.declared.streams.address.Address.{Address};
 ghost use Rattle.base_outside.specs.streams.Faults.{CountsFault};
 ghost use Rattle.base_outside.specs.network.Link.{IsLinkUnused};
 
-use crate::network::Link;
+use crate::network::{Link, Watch};
 use crate::streams::{Address, Failed};
 
 /// What peers connect with, as the network of a machine.
@@ -47,4 +47,18 @@ pub trait Net {
         ensures accepted { accepted self.new ≡ accepted self.old }
         ensures place { listens_at self.new ≡ listens_at self.old }
         ensures cause { CountsFault (faults self.old) (faults self.new) result };
+
+    /// Hears how to watch over the links that it accepts.
+    fn watch(&mut self, _watch: &Watch)
+        ensures place { listens_at self.new ≡ listens_at self.old }
+        ensures accepted { accepted self.new ≡ accepted self.old }
+        ensures calm { faults self.new ≡ faults self.old }
+    {}
+
+    /// Hears that a server is ready, and how many files with how many bytes it found.
+    fn ready(&mut self, _files: u64, _bytes: u64)
+        ensures place { listens_at self.new ≡ listens_at self.old }
+        ensures accepted { accepted self.new ≡ accepted self.old }
+        ensures calm { faults self.new ≡ faults self.old }
+    {}
 }

@@ -1,5 +1,0 @@
-use Rattle.base_outside.proofs.streams.Written.{uncut}
-use Rattle.base_outside.proofs.journal_file.disk.JournalFileDisk.cut.Goals as goal
-
-pub returns-clause-crash : goal.returns-clause-crash
-returns-clause-crash g c = λ left now. (left, tt, uncut c.args.length left)

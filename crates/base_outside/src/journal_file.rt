@@ -1,5 +1,0 @@
-//! The file of a server's journal, as a disk.
-
-mod disk;
-
-pub use disk::JournalFile;
