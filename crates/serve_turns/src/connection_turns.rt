@@ -3,6 +3,7 @@
 mod connections;
 mod ending;
 mod frames;
+mod news;
 mod turn;
 mod writing;
 

@@ -9,7 +9,7 @@ pub mod shared_book;
 
 pub use connection_turns::{Connections, Told, Turn, What, serve_connection};
 pub use link_serving::{
-    ConnEnd, Ended, Roll, Service, SharedClock, entered, push_lines, serve_here,
+    ConnEnd, Ended, Roll, Service, SharedClock, entered, push_lines, serve_briefly,
 };
 pub use link_threads::{Halt, Served, serve_links};
 pub use shared_book::{BookSeat, Receipt, SharedBook, shared, view};

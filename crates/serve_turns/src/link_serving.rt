@@ -9,4 +9,5 @@ mod serving;
 pub use clock::SharedClock;
 pub use ended::{ConnEnd, Ended};
 pub use lines::push_lines;
-pub use serving::{Roll, Service, entered, serve_here};
+pub(crate) use lines::word_of;
+pub use serving::{Roll, Service, entered, serve_briefly};

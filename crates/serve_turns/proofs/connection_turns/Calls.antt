@@ -78,6 +78,20 @@ module _ {K : Type 0} (told : Type 0) (given written : K → List ℕ) where
     record { given_is = λ t. k t ∙ h.given_is t; written_is = λ t. w t ∙ h.written_is t },
   )
 
+  -- what it took behind a call that neither gave nor took a byte
+  pub written_behind : (l m n : K) (wrote : List ℕ) → (told → given m ≡ given l) → (told → written m ≡ written l)
+      → HasWritten told given written m n wrote → HasWritten told given written l n wrote
+  written_behind l m n wrote g w h =
+      record {
+        given_is = λ t. h.given_is t ∙ ap (λ (z : List ℕ). z ++ []) (g t);
+        written_is = λ t. h.written_is t ∙ ap (λ (z : List ℕ). z ++ wrote) (w t);
+      }
+
+  pub front_behind : (l m n : K) (text : List ℕ) → (told → given m ≡ given l) → (told → written m ≡ written l)
+      → ((wrote : List ℕ) × (lost : List ℕ) × (wrote ++ lost ≡ text) × HasWritten told given written m n wrote)
+      → (wrote : List ℕ) × (lost : List ℕ) × (wrote ++ lost ≡ text) × HasWritten told given written l n wrote
+  front_behind l m n text g w (wrote, lost, joined, passed) = (wrote, lost, joined, written_behind l m n wrote g w passed)
+
 module _ {K : Type 0} (told : Type 0) (given written : K → List ℕ) (faults : K → ℕ) where
   -- an answer of which a front was written
   pub put_fails : (l n : K) (answer : Result (List ℕ) ConnEnd) (bytes text : List ℕ) (count : ℕ) → answer ≡ Ok bytes → text ≡ bytes

@@ -1,5 +1,5 @@
 -- A connection that was served, from its parts.
-use Rattle.std.proofs.Common.{◌≡◌, ℕ, Bool, List, [], Option, Ok, Err, inl, inr, refl}
+use Rattle.std.proofs.Common.{◌≡◌, ℕ, Bool, false, List, [], Option, Ok, Err, inl, inr, refl}
 use Rattle.serve_turns.specs.declared.shared_book.view.View.{View}
 use Rattle.conn_ends.specs.Shown.{ShowsEnd}
 use Rattle.conn_ends.specs.declared.conn.Conn.{Conn}
@@ -105,4 +105,17 @@ module _ {B K : Type 0} (told : Type 0) (given written : K → List ℕ) (faults
         faults' = faults n;
         ended = ended n;
         served = h.served;
+      }
+
+module _ {B : Type 0} where
+  -- a link that was let go with no turn
+  pub serves_none : (number : ℕ) (v : View B Turn Told) (end : Ended) → end ≡ ended_by Memory → Serves number v end v
+  serves_none number v end is =
+      record {
+        came = [];
+        wrote = [];
+        faults = 0;
+        faults' = 0;
+        ended = false;
+        served = inl (record { same = refl; idle = idle 0; end_is = is });
       }

@@ -5,9 +5,9 @@ ghost use Rattle.serve_turns.specs.connection_turns.Serving.{OnLink, OnLinkMade,
 use crate::connection_turns::ending::{by, ended, stops_behind};
 use crate::connection_turns::frames::{read_frames, take_turn};
 use crate::connection_turns::turn::{Told, Turn, What};
-use crate::link_serving::{Ended, Service};
+use crate::link_serving::{Ended, Service, word_of};
 use crate::shared_book::{Book, BookSeat, SharedBook};
-use base_outside::{Clock, Link};
+use base_outside::{Clock, Link, News, Standing};
 use conn_ends::{Conn, ConnEnd};
 use rand_core::Rng;
 use std::alloc::Global;
@@ -45,7 +45,7 @@ impl<C: Clock, R: Rng> Connections<C, R> {
 
 /// Serves one connection until it ends: a turn when it is made, one for each frame that the link gives, in order, and one when it has
 /// ended, but where it was not taken in. Each answer goes onto the link before the next frame is taken. What was written are the answers,
-/// or a front of them where the link failed.
+/// or a front of them where the link failed. Served briefly, it ends as soon as it was taken in, as where no memory was left to read into.
 pub fn serve_connection<W, L, B, C, R>(
     rt: &W,
     outside: &Connections<C, R>,
@@ -53,6 +53,7 @@ pub fn serve_connection<W, L, B, C, R>(
     book: &SharedBook<B>,
     seat: &mut BookSeat<B>,
     number: u32,
+    briefly: bool,
 ) -> Ended
 where
     W: Wait,
@@ -67,7 +68,7 @@ where
 {
     // Before the server hears of the connection: where memory runs out, it hears nothing.
     match Conn::new(outside.alloc, number, outside.guid, outside.salt(rt)) {
-        Ok(conn) => serve_made(rt, outside, link, book, seat, conn),
+        Ok(conn) => serve_made(rt, outside, link, book, seat, conn, briefly),
         Err(_) => by(ConnEnd::Memory),
     }
 }
@@ -80,6 +81,7 @@ fn serve_made<W, L, B, C, R>(
     book: &SharedBook<B>,
     seat: &mut BookSeat<B>,
     conn: Conn,
+    briefly: bool,
 ) -> Ended
 where
     W: Wait,
@@ -94,7 +96,7 @@ where
 {
     let told = take_turn(rt, outside, book, seat, conn, What::Accept);
     match told.answer {
-        Ok(_) => serve_taken(rt, outside, link, book, seat, told.conn),
+        Ok(_) => serve_taken(rt, outside, link, book, seat, told.conn, briefly),
         Err(why) => by(why),
     }
 }
@@ -107,6 +109,7 @@ fn serve_taken<W, L, B, C, R>(
     book: &SharedBook<B>,
     seat: &mut BookSeat<B>,
     conn: Conn,
+    briefly: bool,
 ) -> Ended
 where
     W: Wait,
@@ -119,7 +122,7 @@ where
     ensures rest { OnLinkRest L.told L.given L.written L.faults L.ended (view_of seat.old) conn link.old result
         (view_of seat.new) link.new }
 {
-    let (conn, why) = read_frames(rt, outside.alloc, outside, link, book, seat, conn);
+    let (conn, why) = read_frames(rt, outside.alloc, outside, link, book, seat, conn, briefly);
     let last = take_turn(rt, outside, book, seat, conn, What::End);
     ended(why, &last.answer)
 }
@@ -147,9 +150,18 @@ where
         book: &SharedBook<B>,
         seat: &mut BookSeat<B>,
         number: u64,
+        briefly: bool,
     ) -> Ended {
         let number = (number % 4_294_967_296) as u32;
-        serve_connection(rt, self, link, book, seat, number)
+        let end = serve_connection(rt, self, link, book, seat, number, briefly);
+        link.note(&Standing::nothing(), &News::Ended(word_of(end)));
+        end
+    }
+
+    fn turn_away<L: Link>(&self, link: &mut L) -> Ended {
+        let end = by(ConnEnd::Memory);
+        link.note(&Standing::nothing(), &News::Ended(word_of(end)));
+        end
     }
 
     fn halts(&self, end: &Ended) -> bool {

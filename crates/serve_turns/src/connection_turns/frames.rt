@@ -5,10 +5,11 @@ ghost use Rattle.serve_turns.specs.connection_turns.Passing.{Feeds, NextTurn, Pu
 ghost use Rattle.serve_turns.specs.connection_turns.Turns.{AddsTurn};
 
 use crate::connection_turns::connections::Connections;
+use crate::connection_turns::news::{Asked, asked_by, news_of};
 use crate::connection_turns::turn::{Told, Turn, What};
 use crate::connection_turns::writing::write_all;
 use crate::shared_book::{Book, BookSeat, SharedBook};
-use base_outside::{Clock, Link};
+use base_outside::{Clock, Link, Standing};
 use conn_ends::{Conn, ConnEnd};
 use rand_core::Rng;
 use std::alloc::{AllocError, Global};
@@ -60,23 +61,36 @@ fn next_frame(stream: &mut Deframer) -> Result<Option<What>, ConnEnd>
     }
 }
 
-/// Puts a turn's answer onto the link. Else it says why the connection ends.
-fn put_answer<L: Link>(link: &mut L, answer: &Result<Bytes, ConnEnd>) -> Option<ConnEnd>
+/// Puts a turn's answer onto the link, which first hears how its connection stands. Else it says why the connection ends.
+fn put_answer<L: Link>(
+    link: &mut L,
+    standing: &Standing,
+    asked: Option<Asked>,
+    answer: &Result<Bytes, ConnEnd>,
+) -> Option<ConnEnd>
     ensures { Puts L.told L.given L.written L.faults link.old answer.now link.new result }
 {
     match answer {
-        Ok(bytes) => match write_all(link, bytes.as_slice()) {
-            Ok(()) => None,
-            Err(_) => Some(ConnEnd::LinkFault(link.fault_count())),
-        },
+        Ok(bytes) => {
+            let text = bytes.as_slice();
+            // Before the write, so that its time-outs hold for it.
+            link.note(standing, &news_of(asked, text));
+            match write_all(link, text) {
+                Ok(()) => None,
+                Err(_) => Some(ConnEnd::LinkFault(link.fault_count())),
+            }
+        }
         Err(why) => Some(*why),
     }
 }
 
-/// Where a read puts what it takes.
-fn empty_piece(alloc: Global) -> Result<Vec<u8>, AllocError>
+/// Where a read puts what it takes. A connection that is served briefly gets none, so that it ends where memory has run out.
+fn empty_piece(alloc: Global, briefly: bool) -> Result<Vec<u8>, AllocError>
     ensures { IfOk result (λ piece. 0 < vec_len piece) }
 {
+    if briefly {
+        return Err(AllocError);
+    }
     vec![in alloc; 0u8; PIECE]
 }
 
@@ -123,9 +137,10 @@ where
     for _ in rt.forever() {
         match next_frame(stream) {
             Ok(Some(what)) => {
+                let asked = asked_by(&what);
                 let told = take_turn(rt, outside, book, seat, conn, what);
                 conn = told.conn;
-                if let Some(why) = put_answer(link, &told.answer) {
+                if let Some(why) = put_answer(link, &told.standing, asked, &told.answer) {
                     return (conn, Some(why));
                 }
             }
@@ -145,6 +160,7 @@ pub(crate) fn read_frames<W, L, B, C, R>(
     book: &SharedBook<B>,
     seat: &mut BookSeat<B>,
     mut conn: Conn,
+    briefly: bool,
 ) -> (Conn, Option<ConnEnd>)
 where
     W: Wait,
@@ -158,7 +174,7 @@ where
         result.0 link.new result.1 }
 {
     let mut stream = Deframer::new(alloc);
-    let mut piece = match empty_piece(alloc) {
+    let mut piece = match empty_piece(alloc, briefly) {
         Ok(piece) => piece,
         Err(_) => return (conn, Some(ConnEnd::Memory)),
     };

@@ -1,4 +1,5 @@
 //! What a connection gives a server in its turn, and what it is told.
+use base_outside::Standing;
 use conn_ends::{Conn, ConnEnd};
 use wire_bytes::Bytes;
 
@@ -24,9 +25,11 @@ pub struct Turn {
     pub what: What,
 }
 
-/// The connection's state behind the turn, and its answer: frames behind their lengths, or why the server ends it.
+/// The connection's state behind the turn, its answer (frames behind their lengths, or why the server ends it), and what it has at the
+/// server then, for its link alone.
 #[derive(Drop)]
 pub struct Told {
     pub conn: Conn,
     pub answer: Result<Bytes, ConnEnd>,
+    pub standing: Standing,
 }

@@ -47,7 +47,8 @@ fn level_of(ended: Ended) -> Level
     }
 }
 
-fn word_of(ended: Ended) -> &'static str
+/// The word of an end.
+pub(crate) fn word_of(ended: Ended) -> &'static str
     ensures { result.now ≡ ended_word ended }
 {
     match ended {

@@ -19,7 +19,7 @@ pub trait Service<B: Book>: Sync {
     /// Behind which ends no further link is to be accepted.
     ghost stops: { Self → Self.End → Bool };
 
-    /// Serves one link. Links are counted from 1.
+    /// Serves one link. Links are counted from 1. One that is served briefly is ended as soon as it was taken in.
     fn serve<W: Wait, L: Link>(
         &self,
         rt: &W,
@@ -27,10 +27,15 @@ pub trait Service<B: Book>: Sync {
         book: &SharedBook<B>,
         seat: &mut BookSeat<B>,
         number: u64,
+        briefly: bool,
     ) -> Self::End
         requires own { IsSeatOf book.now seat.old }
         ensures same { IsSameSeat seat.old seat.new }
         ensures serves { serves self.now number (view_of seat.old) result (view_of seat.new) };
+
+    /// Lets a link go that the book hears nothing of, whatever its number, where it can't be served.
+    fn turn_away<L: Link>(&self, link: &mut L) -> Self::End
+        ensures { (number : ℕ) (view : View B B.Event B.Reply) → serves self.now number view result view };
 
     /// Whether no further link is to be accepted behind one that ended so.
     fn halts(&self, end: &Self::End) -> bool
@@ -83,9 +88,9 @@ pub fn entered<B: Book, S: Service<B>>(
     halts
 }
 
-/// Serves a link on this thread, by a seat of its own. `place` is the link's place among those that were accepted, from 0. True where no
-/// further link is to be accepted behind it.
-pub fn serve_here<W: Wait, L: Link, B: Book, S: Service<B>>(
+/// Serves a link briefly on this thread, by a seat of its own. `place` is the link's place among those that were accepted, from 0. True
+/// where no further link is to be accepted behind it.
+pub fn serve_briefly<W: Wait, L: Link, B: Book, S: Service<B>>(
     rt: &W,
     book: &SharedBook<B>,
     service: &S,
@@ -105,6 +110,6 @@ pub fn serve_here<W: Wait, L: Link, B: Book, S: Service<B>>(
     ensures count { length roll.new.ends.items ≡ length roll.old.ends.items }
 {
     let mut seat = book.seat(rt, &mut roll.seat);
-    let end = service.serve(rt, link, book, &mut seat, place as u64 + 1);
+    let end = service.serve(rt, link, book, &mut seat, place as u64 + 1, true);
     entered(book, service, roll, place, end, seat)
 }

@@ -5,7 +5,7 @@ ghost use Rattle.serve_turns.specs.shared_book.Words.{view_of, IsSeatOf};
 ghost use Rattle.serve_turns.specs.link_serving.Serving.{AreServed};
 ghost use Rattle.serve_turns.specs.link_threads.Covering.{AreCovered, HaveEnds};
 
-use crate::link_serving::{Roll, Service, entered};
+use crate::link_serving::{Roll, Service, entered, serve_briefly};
 use crate::link_threads::ended_list::EndedList;
 use crate::link_threads::running::{Running, begun, finished};
 use crate::shared_book::{Book, SharedBook};
@@ -13,6 +13,9 @@ use base_outside::Link;
 use std::alloc::AllocError;
 use std::sync::Wait;
 use std::thread::{Scope, Threads};
+
+/// How many threads may run: as many connections as the server takes. MS-SMB2 has no number.
+const MOST: usize = 256;
 
 /// Threads that serve links, and what is left of those that have ended.
 #[derive(Drop)]
@@ -115,7 +118,8 @@ pub(crate) fn join_all<B: Book, S: Service<B>, R: Threads>(
     }
 }
 
-/// Begins to serve the link at a place, by a seat of its own. Where there is no room for one more thread the link is let go.
+/// Begins to serve the link at a place, by a seat of its own. Where there is no room for one more thread the link is let go. Where as many
+/// threads run as may, it is served briefly here: the server answers it as full, at no thread's cost.
 pub(crate) fn begin<'s, E, W, L, B, S>(
     rt: &'s W,
     scope: &Scope<'s, E>,
@@ -123,7 +127,7 @@ pub(crate) fn begin<'s, E, W, L, B, S>(
     service: &'s S,
     crew: &mut Crew<B, S>,
     ended: &'s EndedList,
-    link: L,
+    mut link: L,
     place: usize,
 ) -> Result<(), AllocError>
 where
@@ -148,6 +152,12 @@ where
     ensures covered { OnOk result (AreCovered (λ c. c.place) place crew.old.roll.ends.items crew.old.running.items
         → AreCovered (λ c. c.place) (place + 1) crew.new.roll.ends.items crew.new.running.items) }
 {
+    let full = crew.running.len() >= MOST;
+    if full {
+        let halts = serve_briefly(rt, book, service, &mut crew.roll, &mut link, place);
+        ended.note(rt, place, halts);
+        return Ok(());
+    }
     // Before the thread begins, since one without a handle could not be joined.
     crew.running.reserve(1)?;
     let seat = book.seat(rt, &mut crew.roll.seat);

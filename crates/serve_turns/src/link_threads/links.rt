@@ -91,8 +91,7 @@ where
     Halt::Count
 }
 
-/// Accepts so many links and waits until all are served, each on a thread of its own; a link for which no thread is to be had is served
-/// here.
+/// Accepts so many links and waits until all are served, or were let go.
 fn in_scope<'s, E, W, N, B, S>(
     rt: &'s W,
     scope: &Scope<'s, E>,
@@ -131,8 +130,10 @@ where
     Served { roll, net, halt }
 }
 
-/// Accepts so many links, and serves each on a thread of its own; a link for which no thread is to be had is served here. It waits until
-/// all have ended. Links are counted from 1; how one ended stands at its place of the roll, where the roll has that place.
+/// Accepts so many links, and serves each on a thread of its own. Where 256 threads run, a link is served here, briefly. A link for which
+/// no thread is to be had is served here where the links are counted, so that each is served; else it is let go, so that a server that
+/// accepts without end goes on accepting. It waits until all have ended. Links are counted from 1; how one ended stands at its place of
+/// the roll, where the roll has that place.
 pub fn serve_links<W, N, B, S>(
     rt: &W,
     alloc: Global,
@@ -141,6 +142,7 @@ pub fn serve_links<W, N, B, S>(
     service: &S,
     roll: Roll<B, S::End>,
     count: usize,
+    counted: bool,
 ) -> Served<B, S::End, N>
 where
     W: Wait + Threads + Sync,
@@ -160,7 +162,7 @@ where
     ensures place { N.listens_at result.net ≡ N.listens_at net }
     ensures accepted { result.halt ≡ halts.Count → N.accepted net + count < 2 ^ 64 → N.accepted result.net ≡ N.accepted net + count }
 {
-    let ended = EndedList::new(alloc);
+    let ended = EndedList::new(alloc, counted);
     let notes = &ended;
     let crew = Crew {
         roll,

@@ -27,7 +27,7 @@ impl<B: Book, S: Service<B>> Promise<(S::End, BookSeat<B>)> for ServesLink<B, S>
         × S.serves p.service.value (p.place + 1) (view_of p.seat.value) r.0 (view_of r.1) };
 }
 
-/// Serves a link that it owns, and notes that it has ended.
+/// Serves a link that it owns, and notes that it has ended. One that was turned away is let go.
 fn served<B: Book, S: Service<B>, W: Wait, L: Link + Drop>(
     rt: &W,
     service: &S,
@@ -42,9 +42,15 @@ fn served<B: Book, S: Service<B>, W: Wait, L: Link + Drop>(
     ensures own { AreOfOneBook seat result.1 }
     ensures serves { S.serves service.now (place + 1) (view_of seat) result.0 (view_of result.1) }
 {
-    let end = service.serve(rt, &mut link, book, &mut seat, place as u64 + 1);
-    drop(link);
+    let turned_away = ended.is_turned_away(rt, place);
+    if turned_away {
+        let end = service.turn_away(&mut link);
+        return (end, seat);
+    }
+    let end = service.serve(rt, &mut link, book, &mut seat, place as u64 + 1, false);
+    // Before the link is let go, so that a peer that connects anew then finds this thread out of the count.
     ended.note(rt, place, service.halts(&end));
+    drop(link);
     (end, seat)
 }
 
@@ -56,7 +62,7 @@ pub(crate) struct Running<B: Book, S: Service<B>> {
     ghost placed: { handle.promise.place ≡ place },
 }
 
-/// Begins a thread for a link. Where none is to be had the link is served here.
+/// Begins a thread for a link. Where none is to be had the link is served here, or turned away where links aren't counted.
 pub(crate) fn begun<'s, E, W, L, B, S>(
     rt: &'s W,
     scope: &Scope<'s, E>,
@@ -98,7 +104,11 @@ where
     );
     match child {
         Ok(handle) => Ok(Running { place, handle }),
-        Err(SpawnError { value: job }) => Err(job()),
+        Err(SpawnError { value: job }) => {
+            // What the link needs is the job's own, so the job itself looks whether it is turned away.
+            ended.lack_thread(rt, place);
+            Err(job())
+        }
     }
 }
 

@@ -2,6 +2,13 @@ use Rattle.std.proofs.Common.{◌+◌, [], ◌∷◌, ◌++◌}
 use Rattle.serve_turns.proofs.link_threads.Covering.{begun_covered, ended_covered, same_covered}
 use Rattle.serve_turns.proofs.link_threads.crew.begin.Goals as goal
 
+pub returns-then-full-clause-covered : goal.returns-then-full-clause-covered
+returns-then-full-clause-covered g c = λ was.
+    let crew = c.args.crew.now in
+    let e = c.serve_briefly-halts.ensures in
+    ended_covered (λ r. r.place) c.args.place crew.roll.ends.items c.serve_briefly-halts.new.roll.ends.items crew.running.items
+    (λ within. (e.told.0, e.told.2 within)) e.others e.count was
+
 pub returns-in_ok-push-in-Ok-clause-covered : goal.returns-in_ok-push-in-Ok-clause-covered
 returns-in_ok-push-in-Ok-clause-covered g c = λ was.
     let crew = c.args.crew.now in

@@ -1,0 +1,119 @@
+//! What a link is told of its connection's frames: which SESSION_SETUPs made a session or were refused, by which name. It is for lines of a
+//! log alone, so it looks at the bytes once more, and no contract speaks of it.
+ghost use Rattle.std.specs.Prelude.{◌≤◌, length};
+
+use crate::connection_turns::turn::What;
+use base_outside::{News, SentName};
+use wire_bytes::{u8_at, u16_at, u32_at};
+
+/// The ProtocolId of a message that is not sealed (MS-SMB2 2.2.1.2).
+const PLAIN: u32 = 0x424d_53fe;
+
+const SESSION_SETUP: u16 = 1;
+
+/// SMB2_SESSION_FLAG_BINDING (2.2.5)
+const BINDING: u8 = 1;
+
+const SUCCESS: u32 = 0;
+
+/// STATUS_MORE_PROCESSING_REQUIRED (MS-ERREF 2.3.1)
+const GOES_ON: u32 = 0xc000_0016;
+
+/// Signature and MessageType of an AUTHENTICATE_MESSAGE (MS-NLMP 2.2.1.3).
+const AUTHENTICATE: &[u8] = b"NTLMSSP\0\x03\0\0\0";
+
+/// Up to where that is looked for in a token, whose other parts in front of it are short.
+const SEARCHED: usize = 4096;
+
+/// What a SESSION_SETUP asks: whether to bind the session that stands, and for whom.
+#[derive(Clone, Copy)]
+pub(crate) struct Asked {
+    binding: bool,
+    name: SentName,
+}
+
+fn no_name() -> SentName {
+    SentName {
+        units: [0; 64],
+        length: 0,
+    }
+}
+
+/// The AUTHENTICATE_MESSAGE in a token, and what follows it.
+fn authenticate_in(token: &[u8]) -> Option<&[u8]> {
+    for at in 0..token.len().min(SEARCHED) {
+        let rest = &token[at..];
+        if rest.starts_with(AUTHENTICATE) {
+            return Some(rest);
+        }
+    }
+    None
+}
+
+/// The user's name in an AUTHENTICATE_MESSAGE, where its fields stand and it lies within.
+fn name_of(message: &[u8]) -> SentName {
+    let mut name = no_name();
+    if message.len() < 44 {
+        return name;
+    }
+    let length = usize::from(u16_at(message, 36)).min(64) / 2 * 2;
+    let at = u32_at(message, 40) as usize;
+    if at > message.len() || length > message.len() - at {
+        return name;
+    }
+    name.units[..length].copy_from_slice(&message[at..at + length]);
+    name.length = length as u8;
+    name
+}
+
+/// The security buffer of a SESSION_SETUP request, as much of it as is there (MS-SMB2 2.2.5).
+fn token_of(message: &[u8]) -> &[u8]
+    requires { 88 ≤ length message.now }
+{
+    let at = usize::from(u16_at(message, 76)).min(message.len());
+    let length = usize::from(u16_at(message, 78)).min(message.len() - at);
+    &message[at..at + length]
+}
+
+/// What a message asks, without its length, where it is a SESSION_SETUP that is not sealed.
+fn setup_in(message: &[u8]) -> Option<Asked> {
+    if message.len() < 64 || u16_at(message, 12) != SESSION_SETUP || u32_at(message, 0) != PLAIN {
+        return None;
+    }
+    if message.len() < 88 {
+        return Some(Asked {
+            binding: false,
+            name: no_name(),
+        });
+    }
+    let binding = u8_at(message, 66) & BINDING != 0;
+    let name = match authenticate_in(token_of(message)) {
+        Some(found) => name_of(found),
+        None => no_name(),
+    };
+    Some(Asked { binding, name })
+}
+
+/// What a turn asks in its first message, where that is a SESSION_SETUP.
+pub(crate) fn asked_by(what: &What) -> Option<Asked> {
+    match what {
+        What::Frame(bytes) => setup_in(bytes.as_slice()),
+        What::Accept | What::End => None,
+    }
+}
+
+/// What a frame brought that asked this, by the status of the first message of its answer. That stands behind its length.
+pub(crate) fn news_of(asked: Option<Asked>, answer: &[u8]) -> News {
+    let Some(Asked { binding, name }) = asked else {
+        return News::Nothing;
+    };
+    if answer.len() < 68 || u16_at(answer, 16) != SESSION_SETUP {
+        return News::Nothing;
+    }
+    match u32_at(answer, 12) {
+        SUCCESS if binding => News::Bound(name),
+        SUCCESS => News::LoggedOn(name),
+        GOES_ON => News::Nothing,
+        _ => News::Refused(name),
+    }
+}
