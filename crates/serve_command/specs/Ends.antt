@@ -1,7 +1,7 @@
 -- How the command ends, with the cause of each ending.
 use Rattle.std.specs.Prelude.{◌≡◌, ◌⊎◌, ℕ, List, Option, Some, Ok, Err}
 use Rattle.serve_command.specs.declared.server_settings.words.Said.{Said}
-use Rattle.server_checks.specs.declared.tables.Config.{Config}
+use Rattle.serve_command.specs.declared.server_settings.settings.Setup.{Setup}
 use Rattle.base_outside.specs.declared.streams.address.Address.{Address}
 use Rattle.serve_command.specs.Opening.{OpeningSettles}
 use Rattle.serve_command.specs.Serving.{Starts}
@@ -15,6 +15,7 @@ ServingEnds told seen may_leave faults listens_at links net_faults said disk lef
     sink sink' net net' disk'
     ending =
     (OpeningSettles said.address left left' source source' written written' sink sink' (Err ending) × (net' ≡ net) × (disk' ≡ Some disk))
-    ⊎ ((config : Config) × (between : Option (List ℕ)) × (calm : ℕ)
-    × OpeningSettles said.address left left' source source' written between sink calm (Ok config)
-    × Starts told seen may_leave faults listens_at links net_faults said config disk between written' calm sink' net net' disk' ending)
+    ⊎ ((setup : Setup) × (between : Option (List ℕ)) × (calm : ℕ)
+    × OpeningSettles said.address left left' source source' written between sink calm (Ok setup)
+    × Starts told seen may_leave faults listens_at links net_faults said setup.config disk between written' calm sink' net net' disk'
+    ending)

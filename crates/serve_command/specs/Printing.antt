@@ -4,11 +4,22 @@ use Rattle.std.specs.Fmt.{decimal}
 use Rattle.std.specs.Io.KnownBytes.{Appends, Keeps}
 use Rattle.base_outside.specs.whole_texts.Outside.{AppendsFront}
 use Rattle.base_outside.specs.streams.Faults.{Rose}
+use Rattle.script_words.specs.outcome_lines.Text.{refusal_line}
 use Rattle.serve_command.specs.declared.ending.Ending.{Ending}
 use Rattle.serve_command.specs.declared.ending.Ending.TheVariants.{Memory, SinkFailed}
+use Rattle.serve_command.specs.declared.server_settings.refusal.SettingsRefusal.{SettingsRefusal}
+use Rattle.serve_command.specs.declared.server_settings.refusal.SettingsRefusal.TheVariants.{Line, NoUser}
 
 abbrev pub usage_line : List ℕ
 usage_line = codes "usage: smb311 drill, gen SEED OPS, serve ADDR [COUNT LEVEL]\n"
+
+unfoldable pub no_user_line : ℕ → List ℕ
+no_user_line line = codes "line " ++ (decimal line ++ codes " no-user\n")
+
+-- the first refused line of settings, or the one behind the last where a user is missing
+abbrev pub settings_line : SettingsRefusal → List ℕ
+settings_line (Line refusal) = refusal_line refusal
+settings_line (NoUser line) = no_user_line line
 
 -- where the bytes are no journal, or the gate of the first body that no server writes
 unfoldable pub journal_line : ℕ → List ℕ

@@ -140,11 +140,15 @@ module _ {D N : Type 0} (told : Type 0) (seen : D → List ℕ) (may_leave : D �
       ⊎ ((ready : N) × (listens_at ready ≡ Some at) × (links ready ≡ links net) × (net_faults ready ≡ net_faults net)
       × ServesOn before bound server written written' sink sink' ready net' disk' ending)
 
+  -- it was told at most what no count and no place of a net shows
+  abbrev pub IsNetUnused : (net net' : N) → Type 0
+  IsNetUnused net net' = (listens_at net' ≡ listens_at net) × (links net' ≡ links net) × (net_faults net' ≡ net_faults net)
+
   -- the disk refuses, by its cause, and the net isn't used; or a server began on what the disk holds
   abbrev pub Starts : Said → Config → D → (written written' : Option (List ℕ)) → (sink sink' : ℕ) → (net net' : N) → Option D → Ending
       → Type 0
   Starts said config disk written written' sink sink' net net' disk' ending =
       ((error : JournalError) × RestartRefused told seen faults disk error × IsUnbegun written written' sink sink' error ending
-      × (net' ≡ net))
+      × IsNetUnused net net')
       ⊎ ((server : Server D) × ServerBegins told seen may_leave faults config disk (state_of server)
       × Serves (faults disk) said.address said.bound server written written' sink sink' net net' disk' ending)

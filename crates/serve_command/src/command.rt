@@ -12,11 +12,10 @@ use crate::behind::{Left, behind, left_of};
 use crate::ending::Ending;
 use crate::opening::{settled, unbegun};
 use crate::server_book::{Book, Server, ServerBook};
-use crate::server_settings::{Bound, Said};
+use crate::server_settings::{Bound, Said, Setup};
 use base_outside::{Clock, Disk, Failed, Net, Sink, Source};
 use rand_core::Rng;
 use serve_turns::{BookSeat, Connections, Ended, Roll, Served, SharedBook, serve_links};
-use server_checks::Config;
 use std::alloc::{AllocError, Global};
 use std::sync::{Mutex, Wait};
 use std::thread::Threads;
@@ -59,7 +58,7 @@ where
         (O.faults sink.new) net result.net result.disk result.ending }
 {
     match settled(alloc, said, source, sink) {
-        Ok(config) => serve_with(rt, alloc, said, config, sink, disk, net, clock, random),
+        Ok(setup) => serve_with(rt, alloc, said, setup, sink, disk, net, clock, random),
         Err(ending) => Finished {
             ending,
             net,
@@ -68,15 +67,15 @@ where
     }
 }
 
-/// The same with settings that were read.
+/// The same with settings that were read. The net hears how to watch over its links before anything else is done.
 pub fn serve_with<W, O, D, N, C, R>(
     rt: &W,
     alloc: Global,
     said: &Said,
-    config: Config,
+    setup: Setup,
     sink: &mut O,
     disk: D,
-    net: N,
+    mut net: N,
     clock: C,
     random: R,
 ) -> Finished<N, D>
@@ -87,9 +86,12 @@ where
     N: Net + Drop,
     C: Clock + Drop + Send,
     R: Rng + Drop + Send,
-    ensures { Starts D.told D.seen D.may_leave D.faults N.listens_at N.accepted N.faults said.now config disk (O.written sink.old)
+    ensures { Starts D.told D.seen D.may_leave D.faults N.listens_at N.accepted N.faults said.now setup.config disk (O.written sink.old)
         (O.written sink.new) (O.faults sink.old) (O.faults sink.new) net result.net result.disk result.ending }
 {
+    let Setup { config, watch } = setup;
+    // Before the disk is read, so that what is found there can be told.
+    net.watch(&watch);
     let before = disk.fault_count();
     // Before it listens, so that nobody connects to a server that can't begin.
     match Server::recover(alloc, disk, config) {
@@ -193,7 +195,11 @@ where
         (O.written sink.old) (O.written sink.new) (O.faults sink.old) (O.faults sink.new) net result.net result.disk result.ending }
 {
     match net.listen(said.address) {
-        Ok(()) => serve_on(rt, alloc, said, sink, server, before, net, clock, random),
+        Ok(()) => {
+            let (files, bytes) = server.size();
+            net.ready(files, bytes);
+            serve_on(rt, alloc, said, sink, server, before, net, clock, random)
+        }
         Err(Failed) => Finished {
             ending: Ending::NetFailed,
             net,
@@ -274,7 +280,8 @@ where
         random: Mutex::new(random),
     };
     let count = accepted(said.bound);
-    let served = serve_links(rt, alloc, net, &book, &outside, roll, count);
+    let counted = said.bound.is_some();
+    let served = serve_links(rt, alloc, net, &book, &outside, roll, count, counted);
     let Served { roll, net, halt } = served;
     let Roll { seat, ends } = roll;
     let last = closed(rt, book, seat);

@@ -18,4 +18,4 @@ pub use ending::Ending;
 pub use opening::settled;
 pub use printing::usage;
 pub use server_book::{Book, Server, ServerBook};
-pub use server_settings::{Bound, Said, config_in, read_words};
+pub use server_settings::{Bound, Said, SettingsRefusal, Setup, config_in, read_words};

@@ -6,11 +6,10 @@ ghost use Rattle.serve_command.specs.Printing.{PrintsIfRoom, journal_line};
 ghost use Rattle.serve_command.specs.declared.ending.Ending.TheVariants.{NoJournal};
 
 use crate::ending::Ending;
-use crate::server_settings::{Said, config_in};
+use crate::server_settings::{Said, Setup, config_in, settings_line};
 use base_outside::{Failed, ReadError, Sink, Source, read_script, write_all};
 use journal::JournalError;
-use script_words::{Fault, refusal_line};
-use server_checks::Config;
+use script_words::Fault;
 use std::alloc::{AllocError, Global};
 
 /// Reads settings from a source, for a server at the address that the words say. Where it gives none the command has ended so.
@@ -19,7 +18,7 @@ pub fn settled<S: Source, O: Sink>(
     said: &Said,
     source: &mut S,
     sink: &mut O,
-) -> Result<Config, Ending>
+) -> Result<Setup, Ending>
     ensures { OpeningSettles said.now.address (S.left source.old) (S.left source.new) (S.faults source.old) (S.faults source.new)
         (O.written sink.old) (O.written sink.new) (O.faults sink.old) (O.faults sink.new) result }
 {
@@ -30,15 +29,15 @@ pub fn settled<S: Source, O: Sink>(
     }
 }
 
-/// What a text of settings tells; its first refused line is printed.
-fn taken<O: Sink>(alloc: Global, said: &Said, text: &[u8], sink: &mut O) -> Result<Config, Ending>
+/// What a text of settings tells; where they are refused the line is printed.
+fn taken<O: Sink>(alloc: Global, said: &Said, text: &[u8], sink: &mut O) -> Result<Setup, Ending>
     ensures { Takes said.now.address (O.written sink.old) (O.written sink.new) (O.faults sink.old) (O.faults sink.new)
         text.now result }
 {
     match config_in(alloc, text, said.address) {
-        Ok(config) => Ok(config),
+        Ok(setup) => Ok(setup),
         Err(Fault::Memory) => Err(Ending::Memory),
-        Err(Fault::Refused(refusal)) => match refusal_line(alloc, &refusal) {
+        Err(Fault::Refused(refusal)) => match settings_line(alloc, &refusal) {
             Ok(line) => match write_all(sink, line.as_bytes()) {
                 Ok(()) => Err(Ending::Settings),
                 Err(Failed) => Err(Ending::SinkFailed),

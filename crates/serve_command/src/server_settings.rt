@@ -1,7 +1,12 @@
 //! What a server is told: the words of its command, and its settings.
 
+mod marking;
+mod own;
+mod refusal;
 mod settings;
 mod words;
 
-pub use settings::config_in;
+pub use refusal::SettingsRefusal;
+pub(crate) use refusal::settings_line;
+pub use settings::{Setup, config_in};
 pub use words::{Bound, Said, read_words};

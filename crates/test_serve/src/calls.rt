@@ -13,10 +13,11 @@ pub(crate) const AT: Address = Address {
     port: 4450,
 };
 
-/// How the command ends that is to serve so many links, and the disk where it is given back.
+/// How the command ends that is to serve so many links at an address, and the disk where it is given back.
 pub(crate) fn served_with<W, D, N>(
     rt: &W,
     alloc: Global,
+    address: Address,
     count: usize,
     source: &mut MemSource,
     sink: &mut MemSink,
@@ -30,7 +31,7 @@ where
 {
     let level = LevelFilter::Info;
     let said = Said {
-        address: AT,
+        address,
         bound: Some(Bound { count, level }),
     };
     let clock = MemClock::new(0);
@@ -67,6 +68,6 @@ where
 {
     let mut source = MemSource::new(alloc, Bytes::new(alloc), Bytes::new(alloc))?;
     let mut sink = MemSink::new(alloc, Bytes::new(alloc))?;
-    let (ending, disk) = served_with(rt, alloc, count, &mut source, &mut sink, disk, net);
+    let (ending, disk) = served_with(rt, alloc, AT, count, &mut source, &mut sink, disk, net);
     Ok(Outcome { ending, sink, disk })
 }

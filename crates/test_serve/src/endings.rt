@@ -1,7 +1,7 @@
-use crate::calls::{Outcome, served_alone, served_with};
+use crate::calls::{AT, Outcome, served_alone, served_with};
 use crate::full_disk::FullDisk;
-use base_outside::{MemDisk, MemNet, MemSink, MemSource};
-use serve_command::usage;
+use base_outside::{Address, MemDisk, MemNet, MemSink, MemSource, Printed, Watch};
+use serve_command::{config_in, usage};
 use std::alloc::{AllocError, Global};
 use std::process::Abort;
 use std::sync::Wait;
@@ -9,9 +9,16 @@ use std::test::Fail;
 use std::thread::Threads;
 use wire_bytes::Bytes;
 
-/// What is served with: the settings, the bytes of the disk, and whether the first call of each outside thing fails.
+/// An address that other machines reach.
+const OPEN: Address = Address {
+    ip: 0x0a00_0001,
+    port: 4450,
+};
+
+/// What is served with: the address, the settings, the bytes of the disk, and whether the first call of each outside thing fails.
 #[derive(Clone, Copy)]
 struct Outside<'a> {
+    address: Address,
     settings: &'a str,
     disk: &'a str,
     source_fails: u8,
@@ -22,6 +29,7 @@ struct Outside<'a> {
 
 /// Nothing fails, no settings are given, and the disk is empty.
 const CALM: Outside<'static> = Outside {
+    address: AT,
     settings: "",
     disk: "",
     source_fails: 0,
@@ -69,7 +77,16 @@ fn ended<W: Wait + Threads + Sync>(
     let mut sink = MemSink::new(alloc, first_call(alloc, outside.sink_fails)?)?;
     let disk = disk_of(alloc, outside)?;
     let net = net_of(rt, alloc, outside.net_fails)?;
-    let (ending, disk) = served_with(rt, alloc, 1, &mut source, &mut sink, disk, net);
+    let (ending, disk) = served_with(
+        rt,
+        alloc,
+        outside.address,
+        1,
+        &mut source,
+        &mut sink,
+        disk,
+        net,
+    );
     Ok(Outcome { ending, sink, disk })
 }
 
@@ -104,6 +121,75 @@ fn settings_and_what_is_printed_end_it(rt: HostRuntime) -> Result<(), Fail> {
         ..refused
     };
     ends(&rt, rt.alloc(), &unwritten, 5, "")
+}
+
+// What refused settings print, at an address.
+fn refuses<W: Wait + Threads + Sync + Abort>(
+    rt: &W,
+    alloc: Global,
+    address: Address,
+    settings: &str,
+    text: &str,
+) -> Result<(), Fail> {
+    let outside = Outside {
+        address,
+        settings,
+        ..CALM
+    };
+    ends(rt, alloc, &outside, 3, text)
+}
+
+#[test]
+fn settings_are_refused_by_their_first_line(rt: HostRuntime) -> Result<(), Fail> {
+    let alloc = rt.alloc();
+    let refused =
+        "user anna First\r|log loud|patience 0 900|patience 900|peers 257|log info |peers 2\t";
+    for settings in refused.split('|') {
+        refuses(&rt, alloc, AT, settings, "line 1 bad-line\n")?;
+    }
+    // A comment may have any character.
+    refuses(
+        &rt,
+        alloc,
+        AT,
+        "#\t\nlog info\nlog info\n",
+        "line 3 bad-line\n",
+    )
+}
+
+#[test]
+fn another_address_wants_a_user(rt: HostRuntime) -> Result<(), Fail> {
+    let alloc = rt.alloc();
+    refuses(&rt, alloc, OPEN, "", "line 1 no-user\n")?;
+    refuses(&rt, alloc, OPEN, "share data\nlog warn", "line 3 no-user\n")?;
+    refuses(&rt, alloc, OPEN, "share data\nroom\n", "line 2 bad-line\n")
+}
+
+fn watch_in(alloc: Global, settings: &str) -> Option<Watch> {
+    match config_in(alloc, settings.as_bytes(), OPEN) {
+        Ok(setup) => Some(setup.watch),
+        Err(_) => None,
+    }
+}
+
+#[test]
+fn settings_tell_how_links_are_watched(rt: HostRuntime) -> Result<(), Fail> {
+    let plain = Watch {
+        printed: Printed::Nothing,
+        logon: 30,
+        idle: 900,
+        peers: 128,
+    };
+    assert_eq!(rt; watch_in(rt.alloc(), "user anna First\n"), Some(plain));
+    let told = Watch {
+        printed: Printed::Warnings,
+        logon: 1,
+        idle: 86_400,
+        peers: 256,
+    };
+    let settings = "log warn\npatience 1 86400\nuser anna First\npeers 256\n";
+    assert_eq!(rt; watch_in(rt.alloc(), settings), Some(told));
+    Ok(())
 }
 
 #[test]

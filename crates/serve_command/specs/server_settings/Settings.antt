@@ -1,23 +1,27 @@
 -- What settings tell a server that is reached at an address.
-use Rattle.std.specs.Prelude.{ℕ, Bool, true, false, List, [], ◌∷◌, Result, Ok, Err}
-use Rattle.wire_commands.specs.declared.values.reply.Address.{Address as Told}
+use Rattle.std.specs.Prelude.{ℕ, ◌+◌, ◌/◌, ◌==◌, Bool, true, false, not, ◌&&◌, if◌then◌else◌, List, [], ◌∷◌, length, Result, Ok, Err}
 use Rattle.script_words.specs.Outcome.{◌>>=◌}
 use Rattle.script_words.specs.declared.values.Cipher.{Cipher}
 use Rattle.script_words.specs.declared.values.Cipher.TheVariants as ciphers
 use Rattle.script_words.specs.declared.values.Command.TheVariants.{Serve}
-use Rattle.script_words.specs.declared.values.User.{User as Given}
+use Rattle.script_words.specs.declared.values.Given.{Given}
+use Rattle.script_words.specs.declared.values.User.{User as GivenUser}
 use Rattle.script_words.specs.text_lines.Script.{script}
 use Rattle.script_words.specs.text_lines.Settings.{settings_of}
 use Rattle.script_words.specs.declared.text_lines.line.Refusal.{Refusal}
 use Rattle.script_words.specs.declared.text_lines.settings.Settings.{Settings}
 use Rattle.server_checks.specs.declared.tables.Config.{Config}
 use Rattle.base_outside.specs.declared.streams.address.Address.{Address}
+use Rattle.serve_command.specs.declared.server_settings.refusal.SettingsRefusal.{SettingsRefusal}
+use Rattle.serve_command.specs.declared.server_settings.refusal.SettingsRefusal.TheVariants.{Line, NoUser}
+use Rattle.serve_command.specs.declared.server_settings.settings.Setup.{Setup}
+use Rattle.serve_command.specs.server_settings.Served.{line_count, marked, own_of, watch_of}
 use Rattle.spec_crypto.specs.tokens.Acceptor.{User}
 
-abbrev pub user_of : Given → User
+abbrev pub user_of : GivenUser → User
 user_of u = record { name = u.name; password = u.password }
 
-abbrev pub users_of : List Given → List User
+abbrev pub users_of : List GivenUser → List User
 users_of [] = []
 users_of (user ∷ more) = user_of user ∷ users_of more
 
@@ -38,6 +42,25 @@ config_of s at = record {
   address = record { ip = at.ip; port = at.port };
 }
 
--- what a text of settings tells, or its first refused line
-abbrev pub config_due : Address → List ℕ → Result Config Refusal
-config_due at text = script Serve text >>= λ r. Ok (config_of (settings_of r.given) at)
+-- 127.0.0.0/8: only programs of the same machine reach it
+abbrev pub is_loopback : Address → Bool
+is_loopback at = at.ip / 16_777_216 == 127
+
+-- Where anybody may reach the server it has no user of its own: the settings have to name one.
+abbrev pub lacks_user : Address → Given → Bool
+lacks_user at given = length given.users == 0 && not (is_loopback at)
+
+-- a refused line, as the settings' refusal
+abbrev pub at_its_line : {A : Type 0} → Result A Refusal → Result A SettingsRefusal
+at_its_line (Ok x) = Ok x
+at_its_line (Err refusal) = Err (Line refusal)
+
+-- what the text's other lines give; where a user is missing the line behind the last is refused
+abbrev pub given_due : Address → List ℕ → Result Given SettingsRefusal
+given_due at text =
+    at_its_line (script Serve (marked text)) >>= λ r. if lacks_user at r.given then Err (NoUser (line_count text + 1)) else Ok r.given
+
+-- what a text of settings tells, or why it is refused; of several refused lines the first
+abbrev pub config_due : Address → List ℕ → Result Setup SettingsRefusal
+config_due at text =
+    given_due at text >>= λ given. Ok (record { config = config_of (settings_of given) at; watch = watch_of (own_of text) })

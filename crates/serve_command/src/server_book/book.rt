@@ -2,7 +2,7 @@
 ghost use Rattle.std.specs.Prelude.{◌≡◌};
 ghost use Rattle.serve_command.specs.server_book.Steps.{book_answered, book_heard};
 
-use base_outside::Disk;
+use base_outside::{Disk, Standing};
 use conn_core::{Ended, Taken, take_frame};
 use conn_ends::{Conn, ConnEnd};
 use serve_turns::{Told, Turn, What};
@@ -57,7 +57,11 @@ impl<D: Disk> ServerBook<D> {
     {
         let answer = self.server.server.event(now, event);
         let told = heard(self.server.alloc, &answer);
-        Told { conn, answer: told }
+        Told {
+            conn,
+            answer: told,
+            standing: Standing::nothing(),
+        }
     }
 
     /// A frame of a connection.
@@ -66,7 +70,12 @@ impl<D: Disk> ServerBook<D> {
     {
         let taken = take_frame(&mut conn, &mut self.server, now, fresh, bytes);
         let told = answered(taken);
-        Told { conn, answer: told }
+        let standing = self.server.server.standing(conn.id);
+        Told {
+            conn,
+            answer: told,
+            standing,
+        }
     }
 }
 
