@@ -18,44 +18,53 @@ mod stage;
 mod told;
 mod words;
 
-use anyhow::Result;
+ghost use Rattle.std.specs.Prelude.{◌≡◌, OnOk};
+
+use event_calls::{Fault, kept};
 use std::alloc::Global;
-use test_tables::{ensure_due, is_remark, row_of};
+use std::io;
 
-// What is answered to a row, or why it can't be run.
-fn said_in(alloc: Global, given: &str) -> Result<String> {
-    let mut said = String::new(alloc);
-    if let Err(fault) = row::push_answer(&mut said, alloc, given) {
-        said.push_str(fault.word())?;
+// An error where what was said isn't what is due.
+fn check_due(said: &str, due: &str) -> Result<(), Fault>
+    ensures { OnOk result (said.now ≡ due.now) }
+{
+    if said == due {
+        Ok(())
+    } else {
+        Err(Fault::Other)
     }
-    Ok(said)
 }
 
-// Whether a row is answered with what is due; else what is answered is written out.
-fn is_right(rt: &HostRuntime, line: &str) -> Result<bool> {
-    let row = row_of(line)?;
-    let said = said_in(rt.alloc(), row.given)?;
-    if ensure_due(said.as_str(), row.due).is_ok() {
-        return Ok(true);
+// Puts what is answered to a row, or why it can't be run; an error where that isn't what is due.
+fn check_row(said: &mut String, alloc: Global, given: &str, due: &str) -> Result<(), Fault> {
+    said.clear();
+    if let Err(fault) = row::push_answer(said, alloc, given) {
+        kept(said.push_str(fault.word()))?;
     }
-    println!(rt; "{} = {}", row.given, said.as_str())?;
-    Ok(false)
+    check_due(said.as_str(), due)
 }
 
-// How many rows of the standard input are answered as they say.
-fn right_rows(rt: &HostRuntime) -> Result<u64> {
+// How many rows of the standard input are answered as they say; the others are written out.
+fn right_rows(rt: &HostRuntime) -> io::Result<u64> {
     let mut right: u64 = 0;
+    let mut said = String::new(rt.alloc());
     for line in rt.lines(rt.alloc()) {
         let line = line?;
-        if !is_remark(line.as_str()) && is_right(rt, line.as_str())? {
-            right = right.saturating_add(1);
+        if !line.as_str().starts_with("#") {
+            let (given, due) = line
+                .as_str()
+                .split_once(" = ")
+                .unwrap_or((line.as_str(), ""));
+            match check_row(&mut said, rt.alloc(), given, due) {
+                Ok(()) => right = right.saturating_add(1),
+                Err(_) => println!(rt; "{given} = {said}")?,
+            }
         }
     }
     Ok(right)
 }
 
-fn main(rt: HostRuntime) -> Result<()> {
+fn main(rt: HostRuntime) -> io::Result<()> {
     let right = right_rows(&rt)?;
-    println!(rt; "{right} rows are answered as they say")?;
-    Ok(())
+    println!(rt; "{right} rows are answered as they say")
 }

@@ -11,22 +11,14 @@ fn path_in(alloc: Global, words: &[&str], i: usize) -> Result<Text, AllocError> 
     Ok(Text::from_string(path(alloc, word(words, i))?))
 }
 
-// Letters of `rwd`, or `x` and hexadecimal digits.
-fn access_of(word: &str) -> u32 {
-    if let Some(digits) = word.strip_prefix('x') {
+// The bits of letters `rwd`, or `x` and hexadecimal digits.
+fn letters(word: &str, read: u32, write: u32, delete: u32) -> u32 {
+    if let Some(digits) = word.strip_prefix("x") {
         return coded(digits);
     }
-    let read = if word.contains('r') { 0x81 } else { 0 };
-    let write = if word.contains('w') { 0x102 } else { 0 };
-    let delete = if word.contains('d') { 0x1_0000 } else { 0 };
-    read | write | delete
-}
-
-// Letters of `rwd`, or `-` for none.
-fn share_of(word: &str) -> u32 {
-    let read = if word.contains('r') { 1 } else { 0 };
-    let write = if word.contains('w') { 2 } else { 0 };
-    let delete = if word.contains('d') { 4 } else { 0 };
+    let read = if word.contains("r") { read } else { 0 };
+    let write = if word.contains("w") { write } else { 0 };
+    let delete = if word.contains("d") { delete } else { 0 };
     read | write | delete
 }
 
@@ -62,7 +54,7 @@ fn durable_of(words: &[&str]) -> Option<Durable> {
 
 // `again=ID:GUID`.
 fn reconnect_of(words: &[&str]) -> Option<Reconnect> {
-    let (file, guid) = option(words, "again")?.split_once(':')?;
+    let (file, guid) = option(words, "again")?.split_once(":")?;
     Some(Reconnect {
         file: id_of(file),
         guid: number_of(guid) as u128,
@@ -74,8 +66,8 @@ fn create(alloc: Global, words: &[&str]) -> Result<Command<'static>, AllocError>
     let path = path_in(alloc, words, 1)?;
     Ok(Command::Create(CreateRequest {
         path,
-        access: access_of(word(words, 2)),
-        share: share_of(word(words, 3)),
+        access: letters(word(words, 2), 0x81, 0x102, 0x1_0000),
+        share: letters(word(words, 3), 1, 2, 4),
         attributes: coded(option(words, "attributes").unwrap_or("0")),
         disposition: disposition_of(words),
         options: options_of(words),
@@ -86,28 +78,23 @@ fn create(alloc: Global, words: &[&str]) -> Result<Command<'static>, AllocError>
     }))
 }
 
-// `AT+LENGTH:FLAGS`.
-fn element_of(text: &str) -> Element {
-    let (at, rest) = text.split_once('+').unwrap_or((text, ""));
-    let (length, flags) = rest.split_once(':').unwrap_or((rest, ""));
-    Element {
-        at: number_of(at),
-        length: number_of(length),
-        flags: coded(flags),
+// `lock ID INDEX NUMBER ELEMENTS`: elements `AT+LENGTH:FLAGS` with commas between them, `-` for none.
+fn lock(alloc: Global, words: &[&str]) -> Result<Command<'static>, Fault> {
+    let mut elements = Vec::new(alloc);
+    for text in word(words, 4).split(",") {
+        if text != "-" {
+            let (at, rest) = text.split_once("+").unwrap_or((text, ""));
+            let (length, flags) = rest.split_once(":").unwrap_or((rest, ""));
+            let element = Element {
+                at: number_of(at),
+                length: number_of(length),
+                flags: coded(flags),
+            };
+            if elements.push(element).is_err() {
+                return Err(Fault::Memory);
+            }
+        }
     }
-}
-
-// Elements with commas between them, `-` for none.
-fn elements_in(alloc: Global, list: &str) -> Result<Vec<Element>, AllocError> {
-    if list == "-" {
-        return Ok(Vec::new(alloc));
-    }
-    list.split(',').map(|text| element_of(text)).collect(alloc)
-}
-
-// `lock ID INDEX NUMBER ELEMENTS`.
-fn lock(alloc: Global, words: &[&str]) -> Result<Command<'static>, AllocError> {
-    let elements = elements_in(alloc, word(words, 4))?;
     Ok(Command::Lock {
         file: id(words, 1),
         index: small(words, 2),
@@ -116,50 +103,35 @@ fn lock(alloc: Global, words: &[&str]) -> Result<Command<'static>, AllocError> {
     })
 }
 
-// `basic ID CREATED ACCESSED WRITTEN CHANGED ATTRIBUTES`.
-fn basic_of(words: &[&str]) -> Basic {
-    Basic {
-        created: number(words, 2),
-        accessed: number(words, 3),
-        written: number(words, 4),
-        changed: number(words, 5),
-        attributes: coded(word(words, 6)),
-    }
-}
-
 // `rename ID PATH`, with the flag `over` where it replaces.
-fn rename(alloc: Global, words: &[&str]) -> Result<Setting, AllocError> {
+fn rename(alloc: Global, words: &[&str]) -> Result<Command<'static>, AllocError> {
     let path = path_in(alloc, words, 2)?;
-    Ok(Setting::Rename {
-        replace: has(words, "over"),
-        path,
-    })
-}
-
-fn setting_of(alloc: Global, words: &[&str]) -> Result<Setting, Fault> {
-    match word(words, 0) {
-        "basic" => Ok(Setting::SetBasic {
-            basic: basic_of(words),
-        }),
-        "rename" => kept(rename(alloc, words)),
-        "mark" => Ok(Setting::SetDelete { marked: true }),
-        "unmark" => Ok(Setting::SetDelete { marked: false }),
-        "allocate" => Ok(Setting::SetAllocation {
-            size: number(words, 2),
-        }),
-        "size" => Ok(Setting::SetEnd {
-            size: number(words, 2),
-        }),
-        _ => Err(Fault::Other),
-    }
-}
-
-fn setting(alloc: Global, words: &[&str]) -> Result<Command<'static>, Fault> {
-    let setting = setting_of(alloc, words)?;
+    let replace = has(words, "over");
     Ok(Command::SetInfo {
         file: id(words, 1),
-        setting,
+        setting: Setting::Rename { replace, path },
     })
+}
+
+// What sets a number or a mark; `basic ID CREATED ACCESSED WRITTEN CHANGED ATTRIBUTES`.
+fn setting_of(words: &[&str]) -> Option<Setting> {
+    let size = number(words, 2);
+    match word(words, 0) {
+        "basic" => Some(Setting::SetBasic {
+            basic: Basic {
+                created: size,
+                accessed: number(words, 3),
+                written: number(words, 4),
+                changed: number(words, 5),
+                attributes: coded(word(words, 6)),
+            },
+        }),
+        "mark" => Some(Setting::SetDelete { marked: true }),
+        "unmark" => Some(Setting::SetDelete { marked: false }),
+        "allocate" => Some(Setting::SetAllocation { size }),
+        "size" => Some(Setting::SetEnd { size }),
+        _ => None,
+    }
 }
 
 // `list ID CLASS ROOM PATTERN`, with the flags `restart` and `single`.
@@ -175,30 +147,6 @@ fn list(alloc: Global, words: &[&str]) -> Result<Command<'static>, AllocError> {
     })
 }
 
-// `ioctl ID CODE ROOM`, where `none` is the FileId of 16 bytes FF.
-fn ioctl(words: &[&str]) -> Command<'static> {
-    let file = match word(words, 1) {
-        "none" => u64::MAX,
-        file => id_of(file),
-    };
-    Command::Ioctl {
-        file,
-        code: coded(word(words, 2)),
-        room: small(words, 3),
-    }
-}
-
-// `read ID AT SIZE`, with the options `minimum` and `channel`.
-fn read(words: &[&str]) -> Command<'static> {
-    Command::Read {
-        file: id(words, 1),
-        at: number(words, 2),
-        size: small(words, 3),
-        minimum: small_or(words, "minimum", 0),
-        channel: small_or(words, "channel", 0),
-    }
-}
-
 /// `write ID AT BYTES`, whose bytes are handed in, with the option `channel`.
 pub fn write<'a>(words: &[&str], bytes: &'a [u8]) -> Command<'a> {
     Command::Write {
@@ -209,7 +157,8 @@ pub fn write<'a>(words: &[&str], bytes: &'a [u8]) -> Command<'a> {
     }
 }
 
-// A request of an open that owns nothing, where it is one.
+// A request that owns nothing, where it is one: `read ID AT SIZE`, with the options `minimum` and `channel`, `ioctl ID CODE ROOM`, where
+// `none` is the FileId of 16 bytes FF, and more by their numbers.
 fn plain(words: &[&str]) -> Option<Command<'static>> {
     let file = id(words, 1);
     let class = tiny(words, 2);
@@ -220,8 +169,22 @@ fn plain(words: &[&str]) -> Option<Command<'static>> {
             query: has(words, "query"),
         }),
         "flush" => Some(Command::Flush { file }),
-        "read" => Some(read(words)),
-        "ioctl" => Some(ioctl(words)),
+        "read" => Some(Command::Read {
+            file,
+            at: number(words, 2),
+            size: room,
+            minimum: small_or(words, "minimum", 0),
+            channel: small_or(words, "channel", 0),
+        }),
+        "ioctl" => Some(Command::Ioctl {
+            file: if word(words, 1) == "none" {
+                u64::MAX
+            } else {
+                file
+            },
+            code: coded(word(words, 2)),
+            room,
+        }),
         "query" => Some(Command::QueryFile { file, class, room }),
         "volume" => Some(Command::QueryVolume { file, class, room }),
         "unreadable" => Some(Command::Unreadable {
@@ -229,7 +192,10 @@ fn plain(words: &[&str]) -> Option<Command<'static>> {
         }),
         "logoff" => Some(Command::Logoff),
         "disconnect" => Some(Command::TreeDisconnect),
-        _ => None,
+        _ => match setting_of(words) {
+            Some(setting) => Some(Command::SetInfo { file, setting }),
+            None => None,
+        },
     }
 }
 
@@ -240,14 +206,15 @@ fn connect(alloc: Global, words: &[&str]) -> Result<Command<'static>, AllocError
 
 /// The request of these words, where it is no WRITE.
 pub fn request(alloc: Global, words: &[&str]) -> Result<Command<'static>, Fault> {
-    if let Some(command) = plain(words) {
-        return Ok(command);
-    }
     match word(words, 0) {
         "connect" => kept(connect(alloc, words)),
         "create" => kept(create(alloc, words)),
-        "lock" => kept(lock(alloc, words)),
+        "lock" => lock(alloc, words),
         "list" => kept(list(alloc, words)),
-        _ => setting(alloc, words),
+        "rename" => kept(rename(alloc, words)),
+        _ => match plain(words) {
+            Some(command) => Ok(command),
+            None => Err(Fault::Other),
+        },
     }
 }

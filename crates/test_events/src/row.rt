@@ -4,20 +4,10 @@ use crate::event_server::{Running, Runs};
 use crate::stage::Stage;
 use crate::words::{has, number_or, option, payload};
 use base_outside::MemDisk;
-use std::alloc::{AllocError, Global};
-
-fn push_more(said: &mut String, more: &str) -> Result<(), AllocError> {
-    if !said.is_empty() {
-        said.push_str("; ")?;
-    }
-    said.push_str(more)
-}
+use std::alloc::Global;
 
 // Events that prepare others.
 fn prepare<S: Runs>(stage: &mut Stage<S>, events: &str) -> Result<(), Fault> {
-    if events.is_empty() {
-        return Ok(());
-    }
     for event in events.split("; ") {
         stage.prepare(event)?;
     }
@@ -29,9 +19,14 @@ fn answer_each<S: Runs>(
     stage: &mut Stage<S>,
     events: &str,
 ) -> Result<(), Fault> {
+    let mut is_first = true;
     for event in events.split("; ") {
         stage.answer(event)?;
-        push_more(said, stage.said())?;
+        if !is_first {
+            said.push_str("; ")?;
+        }
+        said.push_str(stage.said())?;
+        is_first = false;
     }
     Ok(())
 }
@@ -45,11 +40,15 @@ fn answered<S: Runs>(
 ) -> Result<(), Fault> {
     stage.begin(disk)?;
     if !stage.is_begun() {
-        return kept(push_more(said, stage.said()));
+        return kept(said.push_str(stage.said()));
     }
-    let (before, asked) = events.split_once(" > ").unwrap_or(("", events));
-    prepare(stage, before)?;
-    answer_each(said, stage, asked)
+    match events.split_once(" > ") {
+        Some((before, asked)) => {
+            prepare(stage, before)?;
+            answer_each(said, stage, asked)
+        }
+        None => answer_each(said, stage, events),
+    }
 }
 
 // The same on a stage of its own.
@@ -82,6 +81,6 @@ fn said_by(said: &mut String, alloc: Global, words: &[&str], events: &str) -> Re
 /// Puts what is answered to a row.
 pub fn push_answer(said: &mut String, alloc: Global, given: &str) -> Result<(), Fault> {
     let (head, events) = given.split_once(" | ").unwrap_or((given, ""));
-    let words: Vec<&str> = head.split(' ').collect(alloc)?;
+    let words: Vec<&str> = head.split(" ").collect(alloc)?;
     said_by(said, alloc, &words, events)
 }

@@ -6,9 +6,9 @@ use crate::event_calls::{
 use crate::event_server::Runs;
 use crate::requests::{request, write};
 use crate::told::{push_answer, push_digits};
-use crate::words::{has, option, payload, small, word};
+use crate::words::{has, number_of, option, payload, small, word};
 use base_outside::Disk;
-use server_checks::{Config, ServerEvent};
+use server_checks::ServerEvent;
 use server_effects::Answer;
 use std::alloc::{AllocError, Global};
 use std::fmt::Write;
@@ -17,12 +17,6 @@ use wire_bytes::Bytes;
 
 // The first session of the first epoch.
 const FIRST: u64 = 0x1_0000_0001;
-
-fn flip_last(bytes: &mut [u8]) {
-    if let Some(last) = bytes.last_mut() {
-        *last ^= 1;
-    }
-}
 
 // All bytes of a disk.
 fn push_disk<D: Disk>(said: &mut String, alloc: Global, disk: &mut D) -> Result<(), Fault> {
@@ -94,27 +88,16 @@ impl<S: Runs> Stage<S> {
         said.starts_with("ok") || said.starts_with("c0000016")
     }
 
-    fn say(&mut self, text: &str) -> Result<(), Fault> {
-        self.said.clear();
-        kept(self.said.push_str(text))
-    }
-
-    fn begin_with(&mut self, disk: S::D, config: Config) -> Result<(), Fault> {
-        match S::begin(self.alloc, disk, config) {
-            Ok(server) => {
-                self.server = Some(server);
-                self.say("ok")
-            }
-            Err(error) => kept(write!(self.said, "{error:?}")),
-        }
-    }
-
     /// Begins on what a disk holds: `ok`, or why there is no server.
     pub fn begin(&mut self, disk: S::D) -> Result<(), Fault> {
         self.said.clear();
-        match config(self.alloc, self.room, self.encrypts) {
-            Ok(config) => self.begin_with(disk, config),
-            Err(_) => Err(Fault::Memory),
+        let config = config(self.alloc, self.room, self.encrypts)?;
+        match S::begin(self.alloc, disk, config) {
+            Ok(server) => {
+                self.server = Some(server);
+                kept(self.said.push_str("ok"))
+            }
+            Err(error) => kept(write!(self.said, "{error:?}")),
         }
     }
 
@@ -123,11 +106,6 @@ impl<S: Runs> Stage<S> {
             Some(server) => Ok(server.stop()),
             None => Err(Fault::Other),
         }
-    }
-
-    fn restart(&mut self) -> Result<(), Fault> {
-        let disk = self.stopped()?;
-        self.begin(disk)
     }
 
     // All bytes of the disk, on which the server is then gone.
@@ -172,11 +150,6 @@ impl<S: Runs> Stage<S> {
         self.event(&around, event)
     }
 
-    fn heard(&mut self, around: &Envelope, message: &[u8]) -> Result<(), Fault> {
-        let setup = setup_heard(self.alloc, around, message)?;
-        self.event(around, ServerEvent::Setup { setup })
-    }
-
     // A SESSION_SETUP with this token; the flag `cut` leaves only a part of its body.
     fn setup(&mut self, words: &[&str], session: u64, token: &[u8]) -> Result<(), Fault> {
         let around = envelope_of(words, session);
@@ -184,7 +157,8 @@ impl<S: Runs> Stage<S> {
         if has(words, "cut") {
             message.truncate(70);
         }
-        self.heard(&around, message.as_slice())
+        let setup = setup_heard(self.alloc, &around, message.as_slice())?;
+        self.event(&around, ServerEvent::Setup { setup })
     }
 
     fn first(&mut self, words: &[&str]) -> Result<(), Fault> {
@@ -195,11 +169,13 @@ impl<S: Runs> Stage<S> {
     // The answer to the last challenge, of `User` or of `user=NAME:PASSWORD`; the flag `flip` changes its last byte, of the MIC.
     fn second(&mut self, words: &[&str]) -> Result<(), Fault> {
         let named = option(words, "user").unwrap_or("User:Password");
-        let (user, password) = named.split_once(':').unwrap_or((named, ""));
+        let (user, password) = named.split_once(":").unwrap_or((named, ""));
         let token = second_token(self.alloc, user, password, self.token.as_slice())?;
         let mut token = token.into_vec();
-        if has(words, "flip") {
-            flip_last(token.as_mut_slice());
+        if let Some(last) = token.last_mut()
+            && has(words, "flip")
+        {
+            *last ^= 1;
         }
         self.setup(words, self.session, token.as_slice())
     }
@@ -216,12 +192,6 @@ impl<S: Runs> Stage<S> {
         self.event(&around, around.event(write(words, bytes.as_slice())))
     }
 
-    fn log_on(&mut self, words: &[&str]) -> Result<(), Fault> {
-        self.first(words)?;
-        self.said.clear();
-        self.second(words)
-    }
-
     fn of_words(&mut self, words: &[&str]) -> Result<(), Fault> {
         match word(words, 0) {
             "accept" => self.bare(ServerEvent::Accept {
@@ -234,7 +204,11 @@ impl<S: Runs> Stage<S> {
             "first" => self.first(words),
             "second" => self.second(words),
             "bad" => self.setup(words, 0, &[0x60, 0]),
-            "logon" => self.log_on(words),
+            "logon" => {
+                self.first(words)?;
+                self.said.clear();
+                self.second(words)
+            }
             "write" => self.write(words),
             _ => self.request(words),
         }
@@ -242,34 +216,30 @@ impl<S: Runs> Stage<S> {
 
     // What is answered to one event.
     fn single(&mut self, event: &str) -> Result<(), Fault> {
-        let words: Vec<&str> = event.split(' ').collect(self.alloc)?;
+        let words: Vec<&str> = event.split(" ").collect(self.alloc)?;
         self.said.clear();
         self.of_words(&words)
     }
 
-    // An event with a number for `#`, behind another one, which succeeded.
-    fn numbered(&mut self, event: &str, number: &str) -> Result<(), Fault> {
-        if !self.is_done() {
-            return Err(Fault::Other);
-        }
-        let event = event.replace(self.alloc, "#", number)?;
-        self.single(event.as_str())
-    }
-
-    // Events with ` & ` between them.
-    fn once(&mut self, events: &str, number: u32) -> Result<(), Fault> {
-        let number = format!(in self.alloc; "{number}")?;
-        for event in events.split(" & ") {
-            self.numbered(event, number.as_str())?;
+    // Events with ` & ` between them and this number for `#`, each behind another one, which succeeded.
+    fn once(&mut self, events: &str, number: u64) -> Result<(), Fault> {
+        let mut digits = String::new(self.alloc);
+        write!(digits, "{number}")?;
+        let events = events.replace(self.alloc, "#", digits.as_str())?;
+        for event in events.as_str().split(" & ") {
+            if !self.is_done() {
+                return Err(Fault::Other);
+            }
+            self.single(event)?;
         }
         Ok(())
     }
 
     // `times COUNT EVENTS`: these, with ` & ` between them and the count from 1 on for `#`, so often. All but the last succeed.
     fn repeated(&mut self, rest: &str) -> Result<(), Fault> {
-        let (count, events) = rest.split_once(' ').unwrap_or((rest, ""));
-        self.say("ok")?;
-        for i in 0..count.parse::<u32>().unwrap_or(0) {
+        let (count, events) = rest.split_once(" ").unwrap_or((rest, ""));
+        self.said.push_str("ok")?;
+        for i in 0..number_of(count) {
             self.once(events, i.saturating_add(1))?;
         }
         Ok(())
@@ -285,25 +255,22 @@ impl<S: Runs> Stage<S> {
         }
     }
 
-    // `begin`: connection 1 with a session of `User` and a tree of the share.
-    fn first_tree(&mut self) -> Result<(), Fault> {
-        self.repeated("1 accept 1 & logon & connect data tree=0")
-    }
-
-    fn moment(&mut self, rest: &str) -> Result<(), Fault> {
-        self.now = rest.parse::<u64>().unwrap_or(0);
-        self.say("ok")
-    }
-
     /// What is answered to an event: one of the server, `times`, `begin`, `at MOMENT`, a `restart`, the `files`, or the `disk`.
     pub fn answer(&mut self, event: &str) -> Result<(), Fault> {
         self.said.clear();
-        let (word, rest) = event.split_once(' ').unwrap_or((event, ""));
+        let (word, rest) = event.split_once(" ").unwrap_or((event, ""));
         match word {
-            "at" => self.moment(rest),
+            "at" => {
+                self.now = number_of(rest);
+                kept(self.said.push_str("ok"))
+            }
             "times" => self.repeated(rest),
-            "begin" => self.first_tree(),
-            "restart" => self.restart(),
+            // Connection 1 with a session of `User` and a tree of the share.
+            "begin" => self.repeated("1 accept 1 & logon & connect data tree=0"),
+            "restart" => {
+                let disk = self.stopped()?;
+                self.begin(disk)
+            }
             "files" => self.files(),
             "disk" => self.disk(),
             _ => self.single(event),

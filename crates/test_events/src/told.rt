@@ -24,57 +24,40 @@ fn push_id(said: &mut String, id: u64) -> Result<(), AllocError> {
     write!(said, "{}.{}", id >> 32, id & 0xffff_ffff)
 }
 
-// The four times stand with commas between them, or once where they are the same.
-fn push_times(said: &mut String, info: &Info) -> Result<(), AllocError> {
-    let b = info.times;
-    if b.accessed == b.created && b.written == b.created && b.changed == b.created {
-        return write!(said, "{}", b.created);
-    }
-    write!(
-        said,
-        "{},{},{},{}",
-        b.created, b.accessed, b.written, b.changed
-    )
-}
-
-// `FILE KIND SIZE TIMES ATTRIBUTES`, with `pending` where it goes with its last open.
+// `FILE KIND SIZE TIMES ATTRIBUTES`, with `pending` where it goes with its last open. The four times stand with commas between them, or
+// once where they are the same.
 fn push_info(said: &mut String, info: &Info) -> Result<(), AllocError> {
     let kind = if info.is_directory { "dir" } else { "file" };
-    write!(said, "{} {kind} {} at ", info.file, info.size)?;
-    push_times(said, info)?;
+    let b = info.times;
+    write!(said, "{} {kind} {} at {}", info.file, info.size, b.created)?;
+    if b.accessed != b.created || b.written != b.created || b.changed != b.created {
+        write!(said, ",{},{},{}", b.accessed, b.written, b.changed)?;
+    }
     let pending = if info.is_delete_pending {
         " pending"
     } else {
         ""
     };
-    write!(said, " {:x}{pending}", info.times.attributes)
+    write!(said, " {:x}{pending}", b.attributes)
 }
 
-fn action_of(reply: &CreateReply) -> &'static str {
-    match reply.action {
+// `ID ACTION INFO`, and what its contexts tell: `timeout MS`, `maximal` and `disk`.
+fn push_created(said: &mut String, reply: &CreateReply) -> Result<(), AllocError> {
+    let action = match reply.action {
         0 => "superseded",
         1 => "opened",
         2 => "created",
         _ => "overwritten",
-    }
-}
-
-// `timeout MS`, `maximal` and `disk`.
-fn push_contexts(said: &mut String, reply: &CreateReply) -> Result<(), AllocError> {
+    };
+    push_id(said, reply.id)?;
+    write!(said, " {action} ")?;
+    push_info(said, &reply.info)?;
     if let Some(timeout) = reply.timeout {
         write!(said, " timeout {timeout}")?;
     }
     let maximal = if reply.maximal { " maximal" } else { "" };
     let disk = if reply.disk_id { " disk" } else { "" };
     write!(said, "{maximal}{disk}")
-}
-
-// `ID ACTION INFO`, and what its contexts tell.
-fn push_created(said: &mut String, reply: &CreateReply) -> Result<(), AllocError> {
-    push_id(said, reply.id)?;
-    write!(said, " {} ", action_of(reply))?;
-    push_info(said, &reply.info)?;
-    push_contexts(said, reply)
 }
 
 // `NAME:FILE` for each entry.
@@ -84,23 +67,6 @@ fn push_listing(said: &mut String, class: u8, entries: &[Named]) -> Result<(), A
         write!(said, " {}:{}", entry.name.as_str(), entry.info.file)?;
     }
     Ok(())
-}
-
-fn path(path: &str) -> &str {
-    if path.is_empty() { "-" } else { path }
-}
-
-fn push_file_info(
-    said: &mut String,
-    class: u8,
-    name: &str,
-    about: &Info,
-    access: u32,
-    options: u32,
-) -> Result<(), AllocError> {
-    write!(said, "class {class} {} ", path(name))?;
-    push_info(said, about)?;
-    write!(said, " access {access:x} options {options:x}")
 }
 
 fn push_body(said: &mut String, body: &Body) -> Result<(), AllocError> {
@@ -120,7 +86,12 @@ fn push_body(said: &mut String, body: &Body) -> Result<(), AllocError> {
             info,
             access,
             options,
-        } => push_file_info(said, *class, path.as_str(), info, *access, *options),
+        } => {
+            let path = if path.is_empty() { "-" } else { path.as_str() };
+            write!(said, "class {class} {path} ")?;
+            push_info(said, info)?;
+            write!(said, " access {access:x} options {options:x}")
+        }
         Body::VolumeInfo { class, room, used } => {
             write!(said, "class {class} room {room} used {used}")
         }
@@ -136,20 +107,19 @@ fn push_body(said: &mut String, body: &Body) -> Result<(), AllocError> {
     }
 }
 
-fn push_status(said: &mut String, reply: &Reply, acted: bool) -> Result<(), AllocError> {
+// The status, whether it acted, the ids that aren't the request's, and what is told.
+fn push_reply(
+    said: &mut String,
+    around: &Envelope,
+    reply: &Reply,
+    acted: bool,
+) -> Result<(), AllocError> {
     if reply.status == 0 {
         said.push_str("ok")?;
     } else {
         write!(said, "{:08x}", reply.status)?;
     }
-    if acted {
-        said.push_str(" acts")?;
-    }
-    Ok(())
-}
-
-// The ids that aren't the request's.
-fn push_ids(said: &mut String, around: &Envelope, reply: &Reply) -> Result<(), AllocError> {
+    said.push_str(if acted { " acts" } else { "" })?;
     if reply.session_id != around.session {
         said.push_str(" session ")?;
         push_id(said, reply.session_id)?;
@@ -157,30 +127,11 @@ fn push_ids(said: &mut String, around: &Envelope, reply: &Reply) -> Result<(), A
     if reply.tree_id != around.tree {
         write!(said, " tree {}", reply.tree_id)?;
     }
-    Ok(())
-}
-
-fn push_reply(
-    said: &mut String,
-    around: &Envelope,
-    reply: &Reply,
-    acted: bool,
-) -> Result<(), AllocError> {
-    push_status(said, reply, acted)?;
-    push_ids(said, around, reply)?;
     if let Body::Empty = reply.body {
         return Ok(());
     }
     said.push_str(" ")?;
     push_body(said, &reply.body)
-}
-
-// The number of a channel that a reply tells.
-fn channel_told(reply: &Reply) -> u32 {
-    match reply.body {
-        Body::SetUp { channel, .. } => channel,
-        _ => 0,
-    }
 }
 
 // A channel has the keys that its client has, the number that its reply tells, and a token that ends its logon.
@@ -191,7 +142,11 @@ fn check_channel(alloc: Global, around: &Envelope, answer: &Answer) -> Result<()
     let Some(number) = answer.channel else {
         return Err(Fault::Other);
     };
-    if keys != keys_behind(around) || channel_told(&answer.reply) != number as u32 {
+    let told = match answer.reply.body {
+        Body::SetUp { channel, .. } => channel,
+        _ => 0,
+    };
+    if keys != keys_behind(around) || told != number as u32 {
         return Err(Fault::Other);
     }
     check_last(alloc, answer.token.as_slice())

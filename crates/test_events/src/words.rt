@@ -19,7 +19,7 @@ pub fn has(words: &[&str], flag: &str) -> bool {
 /// The value of an option, where it is there.
 pub fn option<'a>(words: &[&'a str], key: &str) -> Option<&'a str> {
     for word in words {
-        if let Some((name, value)) = word.split_once('=')
+        if let Some((name, value)) = word.split_once("=")
             && name == key
         {
             return Some(value);
@@ -37,11 +37,11 @@ pub fn number(words: &[&str], i: usize) -> u64 {
 }
 
 pub fn small(words: &[&str], i: usize) -> u32 {
-    word(words, i).parse::<u32>().unwrap_or(0)
+    (number(words, i) & 0xffff_ffff) as u32
 }
 
 pub fn tiny(words: &[&str], i: usize) -> u8 {
-    word(words, i).parse::<u8>().unwrap_or(0)
+    (number(words, i) & 0xff) as u8
 }
 
 /// A number of hexadecimal digits.
@@ -49,34 +49,28 @@ pub fn coded(digits: &str) -> u32 {
     u32::from_str_radix(digits, 16).unwrap_or(0)
 }
 
-/// An option's number, or another one where it isn't there.
+/// An option's number or id, or another one where it isn't there.
 pub fn number_or(words: &[&str], key: &str, otherwise: u64) -> u64 {
     match option(words, key) {
-        Some(value) => number_of(value),
+        Some(value) => id_of(value),
         None => otherwise,
     }
 }
 
-pub fn small_or(words: &[&str], key: &str, otherwise: u32) -> u32 {
-    match option(words, key) {
-        Some(value) => value.parse::<u32>().unwrap_or(0),
-        None => otherwise,
-    }
+pub fn small_or(words: &[&str], key: &str, otherwise: u64) -> u32 {
+    (number_or(words, key, otherwise) & 0xffff_ffff) as u32
 }
 
-pub fn short_or(words: &[&str], key: &str, otherwise: u16) -> u16 {
-    match option(words, key) {
-        Some(value) => value.parse::<u16>().unwrap_or(0),
-        None => otherwise,
-    }
+pub fn short_or(words: &[&str], key: &str, otherwise: u64) -> u16 {
+    (number_or(words, key, otherwise) & 0xffff) as u16
 }
 
 /// An id: `EPOCH.COUNTER`, which stands for the epoch times 2^32 and the counter, or a plain number.
 pub fn id_of(word: &str) -> u64 {
-    match word.split_once('.') {
+    match word.split_once(".") {
         Some((epoch, counter)) => {
-            let epoch = epoch.parse::<u32>().unwrap_or(0) as u64;
-            (epoch << 32) | counter.parse::<u32>().unwrap_or(0) as u64
+            let epoch = number_of(epoch) & 0xffff_ffff;
+            (epoch << 32) | (number_of(counter) & 0xffff_ffff)
         }
         None => number_of(word),
     }
@@ -88,18 +82,18 @@ pub fn id(words: &[&str], i: usize) -> u64 {
 
 /// `-` is the empty path, `/` a space, and `COUNT*TEXT` so many of these.
 pub fn path(alloc: Global, word: &str) -> Result<String, AllocError> {
+    let (count, piece) = word.split_once("*").unwrap_or(("", word));
+    let count = number_of(count);
+    if count > 0 {
+        return repeated(alloc, piece, count);
+    }
     if word == "-" {
         return Ok(String::new(alloc));
-    }
-    if let Some((count, piece)) = word.split_once('*')
-        && let Ok(count) = count.parse::<u32>()
-    {
-        return repeated(alloc, piece, count);
     }
     word.replace(alloc, "/", " ")
 }
 
-fn repeated(alloc: Global, piece: &str, count: u32) -> Result<String, AllocError> {
+fn repeated(alloc: Global, piece: &str, count: u64) -> Result<String, AllocError> {
     let mut text = String::new(alloc);
     for _ in 0..count {
         text.push_str(piece)?;
@@ -109,15 +103,13 @@ fn repeated(alloc: Global, piece: &str, count: u32) -> Result<String, AllocError
 
 /// Hexadecimal digits, `-` for none, or `COUNT*BYTE` for so many of these.
 pub fn payload(alloc: Global, word: &str) -> Result<Vec<u8>, Fault> {
-    if word == "-" {
-        return Ok(Vec::new(alloc));
-    }
-    if let Some((count, byte)) = word.split_once('*') {
-        let byte = u8::from_str_radix(byte, 16).unwrap_or(0);
-        let count = count.parse::<u32>().unwrap_or(0);
+    if let Some((count, byte)) = word.split_once("*") {
+        let byte = (coded(byte) & 0xff) as u8;
+        let count = number_of(count);
         return kept(vec![in alloc; byte; count as usize]);
     }
-    match hex::decode(alloc, word) {
+    let digits = if word == "-" { "" } else { word };
+    match hex::decode(alloc, digits) {
         Ok(bytes) => Ok(bytes),
         Err(_) => Err(Fault::Other),
     }

@@ -1,13 +1,12 @@
 //! NEGOTIATE and its response (MS-SMB2 2.2.3, 2.2.4, 3.3.5.4).
 use crate::draws::draw;
-use crate::frames::{asked, message, told};
+use crate::frames::{header, push_hashed};
 use crate::tokens::init_token;
-use anyhow::{Result, bail, ensure};
-use crypto_sessions::Chosen;
-use std::alloc::Global;
-use wire_bytes::{Bytes, Header};
+use crypto_sessions::{Chain, Chosen};
+use std::alloc::{AllocError, Global};
+use wire_bytes::Bytes;
 use wire_messages::{
-    NegotiateRequest, NegotiateResponse, Numbers, Offer, choose, context_count, write_contexts,
+    NegotiateRequest, NegotiateResponse, Numbers, Offer, context_count, write_contexts,
     write_negotiate_request, write_negotiate_response,
 };
 
@@ -29,7 +28,7 @@ const DIALECT: [u8; 2] = [0x11, 3];
 pub const START: u64 = 133_314_349_322_460_000;
 
 /// What the client offers, in its order.
-pub fn offer_of(alloc: Global, ciphers: &[u16], signings: &[u16]) -> Result<Offer> {
+pub fn offer_of(alloc: Global, ciphers: &[u16], signings: &[u16]) -> Result<Offer, AllocError> {
     let ciphers = Numbers::from_slice(alloc, ciphers)?;
     let signings = Numbers::from_slice(alloc, signings)?;
     Ok(Offer {
@@ -40,56 +39,54 @@ pub fn offer_of(alloc: Global, ciphers: &[u16], signings: &[u16]) -> Result<Offe
     })
 }
 
-/// What the server chooses of it.
-pub fn chosen_of(offer: &Offer) -> Result<Chosen> {
-    match choose(offer) {
-        Ok(chosen) => Ok(chosen),
-        Err(_refusal) => bail!("nothing to choose"),
+// The contexts of an offer, and none of one with too many numbers.
+fn contexts_of(alloc: Global, offer: &Offer, salt: &[u8; 32]) -> Result<Bytes, AllocError> {
+    if offer.ciphers.as_slice().len() < 32767 && offer.signings.as_slice().len() < 32767 {
+        write_contexts(alloc, offer, salt)
+    } else {
+        Ok(Bytes::new(alloc))
     }
 }
 
-fn contexts_of(alloc: Global, offer: &Offer, salt: &[u8; 32]) -> Result<Bytes> {
-    ensure!(
-        offer.ciphers.as_slice().len() < 32767 && offer.signings.as_slice().len() < 32767,
-        "too many numbers"
-    );
-    Ok(write_contexts(alloc, offer, salt)?)
-}
-
-fn request_body(alloc: Global, count: u16, contexts: &[u8]) -> Result<Bytes> {
+/// The client's NEGOTIATE.
+pub fn greeting(
+    lines: &mut String,
+    chain: &mut Chain,
+    alloc: Global,
+    offer: &Offer,
+) -> Result<(), AllocError> {
+    let contexts = contexts_of(alloc, offer, &draw(1))?;
     let dialects = DIALECT;
     let value = NegotiateRequest {
         security_mode: 3,
         capabilities: CAPABILITIES,
         client_guid: CLIENT,
-        negotiate_context_count: count,
+        negotiate_context_count: context_count(offer),
         dialects: &dialects,
-        contexts,
+        contexts: contexts.as_slice(),
     };
-    Ok(write_negotiate_request(alloc, &value)?)
+    let body = write_negotiate_request(alloc, &value);
+    push_hashed(lines, chain, alloc, &header(true, 0, 0, 0, 0), body)
 }
 
-/// The client's NEGOTIATE.
-pub fn greeting(alloc: Global, offer: &Offer) -> Result<Vec<u8>> {
-    let contexts = contexts_of(alloc, offer, &draw(1))?;
-    let body = request_body(alloc, context_count(offer), contexts.as_slice())?;
-    message(alloc, &asked(0, 0, 0, 0), body.as_slice())
-}
-
-/// Each kind that was offered, with the one algorithm that was chosen.
-fn choice_of(alloc: Global, chosen: &Chosen) -> Result<Offer> {
+// Each kind that was offered, with the one algorithm that was chosen.
+fn choice_of(alloc: Global, chosen: &Chosen) -> Result<Offer, AllocError> {
     if chosen.signing_told {
         return offer_of(alloc, &[chosen.cipher], &[chosen.signing]);
     }
     offer_of(alloc, &[chosen.cipher], &[])
 }
 
-fn response_body(alloc: Global, count: u16, contexts: &[u8], security: &[u8]) -> Result<Bytes> {
-    ensure!(security.len() < 0x1_0000, "a long token");
+// The body of the server's response, of this choice; none for a token that is too long.
+fn response_body(alloc: Global, choice: &Offer, security: &[u8]) -> Result<Bytes, AllocError> {
+    if security.len() >= 0x1_0000 {
+        return Ok(Bytes::new(alloc));
+    }
+    let contexts = contexts_of(alloc, choice, &draw(4))?;
     let value = NegotiateResponse {
         security_mode: 3,
         dialect_revision: 0x311,
-        negotiate_context_count: count,
+        negotiate_context_count: context_count(choice),
         server_guid: SERVER,
         capabilities: CAPABILITIES,
         max_transact_size: 0x10_0000,
@@ -98,28 +95,22 @@ fn response_body(alloc: Global, count: u16, contexts: &[u8], security: &[u8]) ->
         system_time: START + 1,
         server_start_time: 0,
         security,
-        contexts,
+        contexts: contexts.as_slice(),
     };
-    Ok(write_negotiate_response(alloc, &value)?)
+    write_negotiate_response(alloc, &value)
 }
 
-/// It grants all credits.
-fn response_header() -> Header {
-    let mut header = told(0, 0, 0, 0);
-    header.credits = 512;
-    header
-}
-
-/// The server's response, of this choice.
-fn response(alloc: Global, choice: &Offer) -> Result<Vec<u8>> {
-    let contexts = contexts_of(alloc, choice, &draw(4))?;
-    let hint = init_token(alloc, None)?;
-    let count = context_count(choice);
-    let body = response_body(alloc, count, contexts.as_slice(), hint.as_slice())?;
-    message(alloc, &response_header(), body.as_slice())
-}
-
-pub fn greeting_reply(alloc: Global, chosen: &Chosen) -> Result<Vec<u8>> {
+/// The server's response, which grants all credits.
+pub fn greeting_reply(
+    lines: &mut String,
+    chain: &mut Chain,
+    alloc: Global,
+    chosen: &Chosen,
+) -> Result<(), AllocError> {
     let choice = choice_of(alloc, chosen)?;
-    response(alloc, &choice)
+    let hint = init_token(alloc, None)?;
+    let mut header = header(false, 0, 0, 0, 0);
+    header.credits = 512;
+    let body = response_body(alloc, &choice, hint.as_slice());
+    push_hashed(lines, chain, alloc, &header, body)
 }

@@ -1,120 +1,145 @@
 //! The tokens of a logon (MS-NLMP 3.1.5.1, 3.2.5.1, RFC 4178 4.2) of a user whose password the server has.
-use crate::draws::{client_challenge, key, server_challenge};
+use crate::draws::{draw_8, key};
 use crate::greeting::START;
-use anyhow::{Context, Result, bail, ensure};
 use crypto_sessions::{
-    Acceptor, Credentials, InitToken, NTLM_LIST, RespToken, Users, answer_to, can_write_init,
-    can_write_resp, first_message, read_type2, sign_mech_list, write_init, write_resp,
+    Acceptor, Credentials, InitToken, NTLM_LIST, NtlmError, RespToken, Users, answer_to,
+    can_write_init, can_write_resp, first_message, read_type2, sign_mech_list, write_init,
+    write_resp,
 };
-use std::alloc::Global;
+use std::alloc::{AllocError, Global};
 use wire_bytes::{Bytes, Text};
 
 const USER: &str = "User";
 
 const PASSWORD: &str = "Password";
 
+// A token that cannot be written, or a message that is refused, is empty, and not what is due.
+
 /// A first token, or the server's hint, which has none of NTLM's messages.
-pub fn init_token(alloc: Global, token: Option<Bytes>) -> Result<Bytes> {
+pub fn init_token(alloc: Global, token: Option<Bytes>) -> Result<Bytes, AllocError> {
     let value = InitToken {
         mech_list: Bytes::from_slice(alloc, &NTLM_LIST)?,
         ntlm_first: true,
         token,
         mic: None,
     };
-    ensure!(can_write_init(&value), "a token that is too long");
-    Ok(write_init(alloc, &value)?)
+    if can_write_init(&value) {
+        write_init(alloc, &value)
+    } else {
+        Ok(Bytes::new(alloc))
+    }
 }
 
-fn resp_token(alloc: Global, value: &RespToken) -> Result<Bytes> {
-    ensure!(can_write_resp(value), "a token that is too long");
-    Ok(write_resp(alloc, value)?)
+fn resp_token(
+    alloc: Global,
+    state: Option<u8>,
+    token: Option<Bytes>,
+    mic: Option<Bytes>,
+) -> Result<Bytes, AllocError> {
+    let value = RespToken {
+        state,
+        ntlm: state == Some(1),
+        token,
+        mic,
+    };
+    if can_write_resp(&value) {
+        write_resp(alloc, &value)
+    } else {
+        Ok(Bytes::new(alloc))
+    }
 }
 
-pub fn first_token(alloc: Global) -> Result<Bytes> {
+pub fn first_token(alloc: Global) -> Result<Bytes, AllocError> {
     let first = first_message(alloc)?;
     init_token(alloc, Some(first))
 }
 
-/// The server's challenge to the client's first message, and what it keeps of both.
-fn challenged(alloc: Global) -> Result<(Acceptor, Bytes)> {
+// The server's challenge to the client's first message, and what it keeps of both.
+fn challenged(alloc: Global, first: &[u8]) -> Result<(Acceptor, Bytes), NtlmError> {
+    Acceptor::challenge(alloc, first, draw_8(6), START + 3)
+}
+
+/// The server's challenge.
+pub fn interim_token(alloc: Global) -> Result<Bytes, AllocError> {
     let first = first_message(alloc)?;
-    let now = START + 3;
-    Ok(Acceptor::challenge(alloc, first.as_slice(), server_challenge(), now)?)
+    match challenged(alloc, first.as_slice()) {
+        Ok((_acceptor, second)) => resp_token(alloc, Some(1), Some(second), None),
+        Err(_refusal) => Ok(Bytes::new(alloc)),
+    }
 }
 
-pub fn interim_token(alloc: Global) -> Result<Bytes> {
-    let (_acceptor, second) = challenged(alloc)?;
-    let value = RespToken {
-        state: Some(1),
-        ntlm: true,
-        token: Some(second),
-        mic: None,
-    };
-    resp_token(alloc, &value)
-}
-
-/// The client's answer to a challenge.
-fn answered(alloc: Global, second: &[u8]) -> Result<Bytes> {
+// The client's answer to a challenge.
+fn answered(alloc: Global, first: &[u8], second: &[u8]) -> Result<Option<Bytes>, AllocError> {
     let client = Credentials {
         user: USER,
         password: PASSWORD,
         domain: "",
-        challenge: client_challenge(),
+        challenge: draw_8(2),
         key: key(),
     };
-    let first = first_message(alloc)?;
-    let read = read_type2(second)?;
-    let third = answer_to(alloc, &client, first.as_slice(), second, &read)?;
-    third.context("no room")
-}
-
-fn users(alloc: Global) -> Result<Users> {
-    let mut users = Users::new(alloc);
-    users.push(
-        Text::from_str(alloc, USER)?,
-        Text::from_str(alloc, PASSWORD)?,
-    )?;
-    Ok(users)
-}
-
-/// The server finds the client's own key in it.
-fn check(alloc: Global, acceptor: &Acceptor, third: &[u8]) -> Result<()> {
-    let users = users(alloc)?;
-    match acceptor.check(alloc, &users, third) {
-        Ok(found) => {
-            ensure!(found.key.as_slice() == key().as_slice(), "another key");
-            Ok(())
-        }
-        Err(_refusal) => bail!("the logon is refused"),
+    match read_type2(second) {
+        Ok(read) => answer_to(alloc, &client, first, second, &read),
+        Err(_refusal) => Ok(None),
     }
 }
 
-/// The client's third message, which the server takes.
-fn third_message(alloc: Global) -> Result<Bytes> {
-    let (acceptor, second) = challenged(alloc)?;
-    let third = answered(alloc, second.as_slice())?;
-    check(alloc, &acceptor, third.as_slice())?;
-    Ok(third)
+fn put_user(users: &mut Users, alloc: Global) -> Result<(), AllocError> {
+    let name = Text::from_str(alloc, USER)?;
+    let password = Text::from_str(alloc, PASSWORD)?;
+    users.push(name, password)
 }
 
-pub fn second_token(alloc: Global) -> Result<Bytes> {
-    let mic = Bytes::from_slice(alloc, &sign_mech_list(&key(), true, true, &NTLM_LIST))?;
-    let value = RespToken {
-        state: None,
-        ntlm: false,
-        token: Some(third_message(alloc)?),
-        mic: Some(mic),
-    };
-    resp_token(alloc, &value)
+// Whether the server takes the client's third message, and finds the client's own key in it.
+fn is_taken(alloc: Global, acceptor: &Acceptor, third: &[u8]) -> Result<bool, AllocError> {
+    let mut users = Users::new(alloc);
+    put_user(&mut users, alloc)?;
+    match acceptor.check(alloc, &users, third) {
+        Ok(found) => Ok(found.key == key()),
+        Err(_refusal) => Ok(false),
+    }
 }
 
-pub fn final_token(alloc: Global) -> Result<Bytes> {
-    let mic = Bytes::from_slice(alloc, &sign_mech_list(&key(), false, true, &NTLM_LIST))?;
-    let value = RespToken {
-        state: Some(0),
-        ntlm: false,
-        token: None,
-        mic: Some(mic),
-    };
-    resp_token(alloc, &value)
+// A third message, if the server takes it.
+fn taken(
+    alloc: Global,
+    acceptor: &Acceptor,
+    third: Option<Bytes>,
+) -> Result<Option<Bytes>, AllocError> {
+    match third {
+        Some(third) => {
+            let is_taken = is_taken(alloc, acceptor, third.as_slice())?;
+            Ok(if is_taken { Some(third) } else { None })
+        }
+        None => Ok(None),
+    }
+}
+
+// The client's third message to a first one, if the server takes it.
+fn third_message(alloc: Global, first: &[u8]) -> Result<Option<Bytes>, AllocError> {
+    match challenged(alloc, first) {
+        Ok((acceptor, second)) => {
+            let third = answered(alloc, first, second.as_slice())?;
+            taken(alloc, &acceptor, third)
+        }
+        Err(_refusal) => Ok(None),
+    }
+}
+
+fn list_mic(alloc: Global, from_client: bool) -> Result<Bytes, AllocError> {
+    Bytes::from_slice(
+        alloc,
+        &sign_mech_list(&key(), from_client, true, &NTLM_LIST),
+    )
+}
+
+pub fn second_token(alloc: Global) -> Result<Bytes, AllocError> {
+    let first = first_message(alloc)?;
+    let third = third_message(alloc, first.as_slice())?;
+    let mic = list_mic(alloc, true)?;
+    resp_token(alloc, None, third, Some(mic))
+}
+
+pub fn final_token(alloc: Global) -> Result<Bytes, AllocError> {
+    let mic = list_mic(alloc, false)?;
+    resp_token(alloc, Some(0), None, Some(mic))
 }

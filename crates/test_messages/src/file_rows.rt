@@ -4,36 +4,23 @@ mod chains;
 mod locks;
 mod messages;
 
-use anyhow::{Context, Result};
-use std::alloc::Global;
-use test_tables::{Outcome, Rows};
+use crate::vectors;
+use crate::words::word;
+use std::alloc::{AllocError, Global};
 
-struct FileRows;
-
-impl Rows for FileRows {
-    fn is_message(&self, word: &str) -> bool {
-        word != "chain" && word != "answers"
-    }
-
-    fn outcome(&self, alloc: Global, word: &str, bytes: &[u8]) -> Result<Outcome> {
-        match word {
-            "chain" => chains::chain(alloc, bytes),
-            "answers" => chains::answers(alloc, bytes),
-            _ => messages::message(alloc, word, bytes),
-        }
-    }
-
-    fn other(&self, alloc: Global, row: &str) -> Result<Option<String>> {
-        let mut words = row.split_whitespace();
-        if words.next().context("no word")? != "elements" {
-            return Ok(None);
-        }
-        let said = locks::elements(alloc, words.next().context("no digits")?)?;
-        Ok(Some(said))
+/// What is said of bytes by the reader of this word.
+pub fn outcome(said: &mut String, alloc: Global, word: &str, m: &[u8]) -> Result<(), AllocError> {
+    match word {
+        "chain" => chains::chain(said, alloc, m),
+        "answers" => chains::answers(said, alloc, m),
+        _ => messages::message(said, alloc, word, m),
     }
 }
 
 /// The answer to a row.
-pub fn answer(alloc: Global, row: &str) -> Result<String> {
-    test_tables::answer(&FileRows, alloc, row)
+pub fn answer(said: &mut String, alloc: Global, words: &[&str]) -> Result<(), AllocError> {
+    match word(words, 0) {
+        "elements" => locks::elements(said, alloc, word(words, 1)),
+        _ => vectors::answer(said, alloc, "file", words),
+    }
 }

@@ -5,35 +5,23 @@ mod classes;
 mod listing;
 mod messages;
 
-use anyhow::Result;
-use std::alloc::Global;
-use test_tables::{Outcome, Rows};
+use crate::vectors;
+use crate::words::word;
+use std::alloc::{AllocError, Global};
 
-struct InfoRows;
-
-impl Rows for InfoRows {
-    fn is_message(&self, word: &str) -> bool {
-        word.ends_with("request") || word.ends_with("response")
-    }
-
-    fn outcome(&self, alloc: Global, word: &str, bytes: &[u8]) -> Result<Outcome> {
-        if self.is_message(word) {
-            messages::message(alloc, word, bytes)
-        } else {
-            classes::class(alloc, word, bytes)
-        }
-    }
-
-    fn other(&self, alloc: Global, row: &str) -> Result<Option<String>> {
-        if !row.starts_with("listing ") {
-            return Ok(None);
-        }
-        let said = listing::answer(alloc, row)?;
-        Ok(Some(said))
+/// What is said of bytes by the reader of this word.
+pub fn outcome(said: &mut String, alloc: Global, word: &str, m: &[u8]) -> Result<(), AllocError> {
+    if word.ends_with("request") || word.ends_with("response") {
+        messages::message(said, alloc, word, m)
+    } else {
+        classes::class(said, alloc, word, m)
     }
 }
 
 /// The answer to a row.
-pub fn answer(alloc: Global, row: &str) -> Result<String> {
-    test_tables::answer(&InfoRows, alloc, row)
+pub fn answer(said: &mut String, alloc: Global, words: &[&str]) -> Result<(), AllocError> {
+    match word(words, 0) {
+        "listing" => listing::answer(said, alloc, words),
+        _ => vectors::answer(said, alloc, "info", words),
+    }
 }

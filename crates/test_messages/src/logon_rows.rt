@@ -4,37 +4,25 @@ mod keys;
 mod ntlm;
 mod sealing;
 mod spnego;
-mod words;
 
-use anyhow::{Result, bail};
-use std::alloc::Global;
-use std::str::SplitWhitespace;
-use words::word_in;
+use crate::words::word;
+use std::alloc::{AllocError, Global};
 
-/// The answer to a row. One that begins with `#` stands in the output as it is.
-pub fn answer(alloc: Global, row: &str) -> Result<String> {
-    if row.starts_with('#') {
-        return Ok(String::from_str(alloc, row)?);
+/// The answer to a row: its word, and what is said of the words behind it.
+pub fn answer(said: &mut String, alloc: Global, words: &[&str]) -> Result<(), AllocError> {
+    let name = word(words, 0);
+    said.push_str(name)?;
+    said.push_str(": ")?;
+    match name {
+        "init" => spnego::init(said, alloc, words),
+        "resp" => spnego::resp(said, alloc, words),
+        "seal" => sealing::sealed(said, alloc, words),
+        "unseal" => sealing::opened(said, alloc, words),
+        "type1" | "type2" | "type3" => ntlm::message(said, alloc, words),
+        "challenge" | "check" | "answer" | "first" => ntlm::exchange(said, alloc, words),
+        "ntowf" | "proof" | "base_key" | "mic" | "list_mic" | "rc4" => {
+            ntlm::formula(said, alloc, words)
+        }
+        _ => keys::answer(said, alloc, words),
     }
-    let mut words = row.split_whitespace();
-    let word = word_in(&mut words)?;
-    let said = said_of(alloc, word, &mut words)?;
-    Ok(format!(in alloc; "{word}: {said}")?)
-}
-
-/// What is said of the words behind the first one.
-fn said_of(alloc: Global, word: &str, words: &mut SplitWhitespace<'_>) -> Result<String> {
-    if let Some(said) = spnego::answer(alloc, word, words)? {
-        return Ok(said);
-    }
-    if let Some(said) = keys::answer(alloc, word, words)? {
-        return Ok(said);
-    }
-    if let Some(said) = sealing::answer(alloc, word, words)? {
-        return Ok(said);
-    }
-    if let Some(said) = ntlm::answer(alloc, word, words)? {
-        return Ok(said);
-    }
-    bail!("an unknown row")
 }

@@ -6,35 +6,70 @@
 //! it is. The rows and the expected output were written by tools/wire-vectors.py and tools/session-vectors.py.
 #![tactic(auto)]
 
+/// What a reader says of bytes, and the writer of the value; where a writer needs something of the value, its name and that.
+macro_rules! both_ways {
+    ($said:ident, $alloc:ident, $bytes:ident, $read:ident, $write:ident) => {
+        match $read($bytes) {
+            Ok(value) => told($said, &value, $write($alloc, &value)),
+            Err(refusal) => refused($said, &refusal),
+        }
+    };
+    ($said:ident, $alloc:ident, $bytes:ident, $read:ident, $write:ident, $value:ident => $fits:expr) => {
+        match $read($bytes) {
+            Ok($value) => {
+                if $fits {
+                    told($said, &$value, $write($alloc, &$value))
+                } else {
+                    unwritten($said)
+                }
+            }
+            Err(refusal) => refused($said, &refusal),
+        }
+    };
+}
+
 mod file_rows;
 mod info_rows;
 mod logon_rows;
 mod record_rows;
 mod session_rows;
+mod vectors;
+mod words;
 
-use anyhow::{Context, Result, bail};
-use std::alloc::Global;
+use std::alloc::{AllocError, Global};
+use std::io;
+use words::word;
 
-fn answer(alloc: Global, line: &str) -> Result<String> {
-    if line.starts_with('#') {
-        return Ok(String::from_str(alloc, line)?);
-    }
-    let (table, row) = line.split_once(' ').context("no table")?;
-    match table {
-        "session" => crate::session_rows::answer(alloc, row),
-        "file" => crate::file_rows::answer(alloc, row),
-        "info" => crate::info_rows::answer(alloc, row),
-        "record" => crate::record_rows::answer(alloc, row),
-        "logon" => crate::logon_rows::answer(alloc, row),
-        _ => bail!("an unknown table"),
+fn answer_to(said: &mut String, alloc: Global, words: &[&str]) -> Result<(), AllocError> {
+    let row = words.get(1..).unwrap_or(&[]);
+    match word(words, 0) {
+        "session" => session_rows::answer(said, alloc, row),
+        "file" => file_rows::answer(said, alloc, row),
+        "info" => info_rows::answer(said, alloc, row),
+        "record" => record_rows::answer(said, alloc, row),
+        "logon" => logon_rows::answer(said, alloc, row),
+        _ => said.push_str("an unknown table"),
     }
 }
 
-fn main(rt: HostRuntime) -> Result<()> {
+fn answer(said: &mut String, alloc: Global, line: &str) -> Result<(), AllocError> {
+    if line.starts_with('#') {
+        return said.push_str(line);
+    }
+    let words: Vec<&str> = line.split(' ').collect(alloc)?;
+    answer_to(said, alloc, &words)
+}
+
+fn tell(rt: &HostRuntime, line: &str) -> io::Result<()> {
+    let mut said = String::new(rt.alloc());
+    answer(&mut said, rt.alloc(), line)?;
+    println!(rt; "{said}")
+}
+
+fn main(rt: HostRuntime) -> io::Result<()> {
     for line in rt.lines(rt.alloc()) {
         let line = line?;
-        let said = answer(rt.alloc(), line.as_str())?;
-        println!(rt; "{said}")?;
+        tell(&rt, line.as_str())?;
     }
     Ok(())
 }

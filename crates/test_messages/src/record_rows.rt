@@ -1,67 +1,52 @@
 //! The records that bodies of the journal hold, and the body that is written of them: the answer to each row of a table.
 
-use anyhow::{Context, Result, bail, ensure};
-use journal::{RecordError, Records, can_write, read_records, write_records};
-use std::alloc::Global;
-use test_tables::{Outcome, Rows, bytes_of, digits_of};
+use crate::vectors::{self, refused, unwritten};
+use crate::words::{bytes_in, number_of, push_bytes, word};
+use journal::{Records, can_write, read_records, write_records};
+use std::alloc::{AllocError, Global};
+use std::fmt::Write;
 
-struct RecordRows;
+// Puts the body that is written of records.
+fn push_written(said: &mut String, alloc: Global, records: &Records) -> Result<(), AllocError> {
+    said.push_str("\n  ")?;
+    if can_write(records) {
+        push_bytes(said, write_records(alloc, records))
+    } else {
+        unwritten(said)
+    }
+}
 
-// The records, one a line, and the body that is written of them.
-fn shown(alloc: Global, records: &Records) -> Result<String> {
-    let mut line = format!(in alloc; "records: {}", records.len())?;
+// Puts the records, one a line, and the body that is written of them.
+fn push_records(said: &mut String, alloc: Global, records: &Records) -> Result<(), AllocError> {
+    write!(said, "{}", records.len())?;
     for record in records.as_slice() {
-        line.push_str(&format!(in alloc; "\n  {record:?}")?)?;
+        write!(said, "\n  {record:?}")?;
     }
-    let digits = written(alloc, records)?;
-    line.push_str(&format!(in alloc; "\n  {digits}")?)?;
-    Ok(line)
+    push_written(said, alloc, records)
 }
 
-fn written(alloc: Global, records: &Records) -> Result<String> {
-    ensure!(can_write(records), "records that cannot be written");
-    let body = write_records(alloc, records)?;
-    digits_of(alloc, body.as_slice())
-}
-
-fn said(alloc: Global, version: u32, body: &[u8]) -> Result<String> {
-    match read_records(alloc, body, version) {
-        Ok(records) => shown(alloc, &records),
-        Err(RecordError::Memory) => bail!("out of memory"),
-        Err(refusal) => Ok(format!(in alloc; "records: {refusal:?}")?),
+/// What is said of the body of a journal of version 2.
+pub fn outcome(said: &mut String, alloc: Global, body: &[u8]) -> Result<(), AllocError> {
+    match read_records(alloc, body, 2) {
+        Ok(records) => push_written(said, alloc, &records),
+        Err(refusal) => refused(said, &refusal),
     }
 }
 
-impl Rows for RecordRows {
-    fn is_message(&self, _word: &str) -> bool {
-        false
-    }
-
-    fn outcome(&self, alloc: Global, _word: &str, bytes: &[u8]) -> Result<Outcome> {
-        match read_records(alloc, bytes, 2) {
-            Ok(records) => {
-                let digits = written(alloc, &records)?;
-                Ok(Outcome::Value {
-                    shown: String::new(alloc),
-                    spelling: digits,
-                })
-            }
-            Err(refusal) => Outcome::refused(alloc, &refusal),
-        }
-    }
-
-    fn other(&self, alloc: Global, row: &str) -> Result<Option<String>> {
-        let mut words = row.split_whitespace();
-        if words.next().context("no word")? != "records" {
-            return Ok(None);
-        }
-        let version = words.next().context("no version")?.parse::<u32>()?;
-        let body = bytes_of(alloc, words.next().context("no digits")?)?;
-        Ok(Some(said(alloc, version, &body)?))
+// The records of a row: the version, and the digits of the body.
+fn records(said: &mut String, alloc: Global, words: &[&str]) -> Result<(), AllocError> {
+    said.push_str("records: ")?;
+    let body = bytes_in(alloc, words, 2)?;
+    match read_records(alloc, &body, number_of(word(words, 1))) {
+        Ok(records) => push_records(said, alloc, &records),
+        Err(refusal) => refused(said, &refusal),
     }
 }
 
 /// The answer to a row.
-pub fn answer(alloc: Global, row: &str) -> Result<String> {
-    test_tables::answer(&RecordRows, alloc, row)
+pub fn answer(said: &mut String, alloc: Global, words: &[&str]) -> Result<(), AllocError> {
+    match word(words, 0) {
+        "records" => records(said, alloc, words),
+        _ => vectors::answer(said, alloc, "record", words),
+    }
 }

@@ -6,46 +6,27 @@ mod contexts;
 mod messages;
 mod stream;
 
-use anyhow::{Context, Result};
-use std::alloc::Global;
-use test_tables::{Outcome, Rows};
+use crate::vectors;
+use crate::words::word;
+use std::alloc::{AllocError, Global};
 
-struct SessionRows;
-
-fn other(alloc: Global, first: &str, digits: &str, row: &str) -> Result<Option<String>> {
-    match first {
-        "text" => Ok(Some(bytes::text(alloc, digits)?)),
-        "compound" => Ok(Some(bytes::compound(alloc, digits)?)),
-        "frame" => Ok(Some(stream::framed(alloc, digits)?)),
-        "zeros" => Ok(Some(stream::zeros(alloc, digits.parse::<usize>()?)?)),
-        "stream" => Ok(Some(stream::answers(alloc, row)?)),
-        "contexts" => Ok(Some(contexts::answer(alloc, row)?)),
-        _ => Ok(None),
-    }
-}
-
-impl Rows for SessionRows {
-    fn is_message(&self, word: &str) -> bool {
-        word != "header"
-    }
-
-    fn outcome(&self, alloc: Global, word: &str, bytes: &[u8]) -> Result<Outcome> {
-        if word == "header" {
-            bytes::header(alloc, bytes)
-        } else {
-            messages::message(alloc, word, bytes)
-        }
-    }
-
-    fn other(&self, alloc: Global, row: &str) -> Result<Option<String>> {
-        let mut words = row.split_whitespace();
-        let first = words.next().context("no word")?;
-        let digits = words.next().context("no digits")?;
-        other(alloc, first, digits, row)
+/// What is said of bytes by the reader of this word.
+pub fn outcome(said: &mut String, alloc: Global, word: &str, m: &[u8]) -> Result<(), AllocError> {
+    match word {
+        "header" => bytes::header(said, m),
+        _ => messages::message(said, alloc, word, m),
     }
 }
 
 /// The answer to a row.
-pub fn answer(alloc: Global, row: &str) -> Result<String> {
-    test_tables::answer(&SessionRows, alloc, row)
+pub fn answer(said: &mut String, alloc: Global, words: &[&str]) -> Result<(), AllocError> {
+    match word(words, 0) {
+        "text" => bytes::text(said, alloc, word(words, 1)),
+        "compound" => bytes::compound(said, alloc, word(words, 1)),
+        "frame" => stream::framed(said, alloc, word(words, 1)),
+        "zeros" => stream::zeros(said, alloc, word(words, 1)),
+        "stream" => stream::answers(said, alloc, words),
+        "contexts" => contexts::answer(said, alloc, words),
+        _ => vectors::answer(said, alloc, "session", words),
+    }
 }

@@ -3,26 +3,21 @@
 
 mod calls;
 mod disks;
-mod each;
 
-use anyhow::{Context, Result, bail};
-use test_tables::bytes_of;
+use crate::words::{Fault, Words};
 
-/// What is answered to a row.
-pub fn answer(rt: &HostRuntime, given: &str) -> Result<String> {
-    let alloc = rt.alloc();
-    let (head, done) = given.split_once(" | ").context("nothing is done")?;
-    let mut words = head.split_whitespace();
-    let word = words.next().context("no word")?;
-    let first = words.next().context("nothing to stand on")?;
-    let second = words.next().unwrap_or("-");
-    match word {
-        "new" => disks::new_one(alloc, done),
-        "failing" => disks::failing(alloc, &bytes_of(alloc, first)?, done),
-        "of" => disks::found(alloc, &bytes_of(alloc, first)?, done),
-        "file" => disks::in_file(rt, first, &bytes_of(alloc, second)?, done),
-        "device" => disks::on_device(rt, first, done),
-        "each" => each::faults(alloc, &bytes_of(alloc, first)?, done),
-        _ => bail!("an unknown word"),
+/// Puts what is answered to a row.
+pub fn push_answer(
+    said: &mut String,
+    rt: &HostRuntime,
+    words: &mut Words<'_>,
+) -> Result<(), Fault> {
+    let mut head = Words::new(words.until(" | "));
+    let calls = words.rest();
+    let kind = head.next();
+    match kind {
+        "file" => disks::push_file(said, rt, &mut head, calls),
+        "device" => disks::push_device(said, rt, head.next(), calls),
+        _ => disks::push_in_memory(said, rt.alloc(), kind, &mut head, calls),
     }
 }

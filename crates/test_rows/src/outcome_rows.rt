@@ -1,51 +1,74 @@
-// The runs and the refused lines of a table, and scripts and settings that are read. A row is a kind, `|` and values: of `run` the text of
-// these values is told, of `line` that of a refused line, of `has` whether an operation that settled so has an order, of `script COMMAND`
-// what the command reads of a text, or the line that is refused. What is due was worked by hand.
+//! The runs and the refused lines of a table, and scripts and settings that are read. A row is a kind, `|` and values: of `run` the text of
+//! these values is told, of `line` that of a refused line, of `has` whether an operation that settled so has an order, of `script COMMAND`
+//! what the command reads of a text, or the line that is refused. What is due was worked by hand.
 mod run;
 mod script_rows;
-mod values;
-mod words;
 
-use anyhow::{Context, Result, bail};
-use script_words::{Refusal, has_order, refusal_line};
-use std::alloc::Global;
-use values::{code_in, op_in, outcome_in};
-use words::word_in;
+use crate::words::{Fault, Words};
+use client_values::OpKind;
+use script_words::{Code, Refusal, has_order, refusal_line};
+use std::alloc::{AllocError, Global};
+use wire_bytes::Text;
 
-/// What is answered to a row, its line ends written out.
-pub fn answer(alloc: Global, given: &str) -> Result<String> {
-    let (kind, values) = given.split_once('|').context("no kind")?;
-    let said = said(alloc, kind, values)?;
-    Ok(said.as_str().replace(alloc, "\n", "\\n")?)
+/// Puts what is answered to a row.
+pub fn push_answer(said: &mut String, alloc: Global, words: &mut Words<'_>) -> Result<(), Fault> {
+    let mut kind = Words::new(words.until("|"));
+    match kind.next() {
+        "script" => script_rows::push_read(said, alloc, kind.next(), words.rest()),
+        "run" => run::push_text(said, alloc, words.rest()),
+        "line" => push_line(said, alloc, words),
+        "has" => push_told(said, alloc, words),
+        _ => Err(Fault::Other("an unknown kind of row")),
+    }
 }
 
-fn said(alloc: Global, kind: &str, values: &str) -> Result<String> {
-    if let Some(command) = kind.strip_prefix("script ") {
-        return script_rows::answer(alloc, command, values);
+/// Puts a text with its line ends written out.
+fn push_lines(said: &mut String, text: &str) -> Result<(), AllocError> {
+    let mut is_first = true;
+    for line in text.split("\n") {
+        if !is_first {
+            said.push_str("\\n")?;
+        }
+        said.push_str(line)?;
+        is_first = false;
     }
-    match kind {
-        "run" => run::text_of(alloc, values),
-        "line" => line_of(alloc, values),
-        "has" => told_of(alloc, values),
-        _ => bail!("an unknown kind of row"),
-    }
+    Ok(())
 }
 
 // `NUMBER CODE`, with a connection where the code has one.
-fn line_of(alloc: Global, values: &str) -> Result<String> {
-    let mut words = values.split_whitespace();
-    let line = word_in(&mut words)?.parse::<u64>()?;
-    let code = code_in(&mut words)?;
-    Ok(refusal_line(alloc, &Refusal { line, code })?)
+fn push_line(said: &mut String, alloc: Global, words: &mut Words<'_>) -> Result<(), Fault> {
+    let line = words.number();
+    let code = match words.next() {
+        "bad" => Code::BadLine,
+        "long" => Code::TooLong,
+        "channel" => Code::NoChannel(words.small()),
+        "nothing" => Code::NothingThere(words.small()),
+        _ => Code::InUse(words.small()),
+    };
+    let text = refusal_line(alloc, &Refusal { line, code })?;
+    Ok(push_lines(said, text.as_str())?)
 }
 
-// An operation, and how it settled.
-fn told_of(alloc: Global, values: &str) -> Result<String> {
-    let (op, outcome) = values.split_once("; ").context("no outcome")?;
-    let mut words = op.split_whitespace();
-    let op = op_in(alloc, &mut words)?;
-    let mut words = outcome.split_whitespace();
-    let outcome = outcome_in(alloc, &mut words)?;
+// An operation, `create SHARE` or `list C`, and how it settled.
+fn push_told(said: &mut String, alloc: Global, words: &mut Words<'_>) -> Result<(), Fault> {
+    let op = op_in(alloc, &mut Words::new(words.until("; ")));
+    let outcome = run::outcome_in(alloc, words.next(), words)?;
     let has = has_order(&op, &outcome);
-    Ok(format!(in alloc; "{has}")?)
+    Ok(said.push_str(if has { "true" } else { "false" })?)
+}
+
+fn op_in(alloc: Global, words: &mut Words<'_>) -> OpKind {
+    if words.says("create") {
+        return OpKind::Create {
+            path: Text::new(alloc),
+            access: 0x81,
+            share: words.small(),
+            disposition: 3,
+            persist: false,
+            directory: false,
+        };
+    }
+    OpKind::List {
+        create: words.small(),
+    }
 }

@@ -9,7 +9,7 @@ use spec_crypto::{Chosen, Keys, Signer};
 use spec_wire::Header;
 use std::alloc::{AllocError, Global};
 use wire_bytes::{Bytes, read_header, write_header};
-use wire_commands::{Request, SetupForm, request_of};
+use wire_commands::{Request, request_of};
 use wire_messages::{SessionSetupRequest, write_session_setup_request};
 
 const SIGNED: u32 = 8;
@@ -25,11 +25,6 @@ fn chosen(around: &Envelope) -> Chosen {
         signing: around.signing,
         signing_told: true,
     }
-}
-
-fn signer_by(around: &Envelope, connection: u32) -> Signer {
-    let chain = chain_on(connection);
-    derive(&KEY, &chain, &chosen(around), around.session).signing
 }
 
 /// The keys behind the last SESSION_SETUP of a logon: a session's, or those of a channel that is bound to it by the keys
@@ -69,13 +64,6 @@ fn spelled(alloc: Global, header: &Header, body: &[u8]) -> Result<Bytes, AllocEr
     Ok(message)
 }
 
-fn signature_of(signer: &Signer, message: &[u8]) -> Result<[u8; 16], Fault> {
-    if message.len() < 64 || message.len() >= 1_000_000 {
-        return Err(Fault::Other);
-    }
-    Ok(sign(signer, message))
-}
-
 // The signature of the message that this header and this body are without one.
 fn signature_by(
     alloc: Global,
@@ -84,7 +72,11 @@ fn signature_by(
     body: &[u8],
 ) -> Result<[u8; 16], Fault> {
     let message = spelled(alloc, header, body)?;
-    signature_of(signer, message.as_slice())
+    let bytes = message.as_slice();
+    if bytes.len() < 64 || bytes.len() >= 1_000_000 {
+        return Err(Fault::Other);
+    }
+    Ok(sign(signer, bytes))
 }
 
 fn body_of(alloc: Global, around: &Envelope, token: &[u8]) -> Result<Bytes, Fault> {
@@ -102,41 +94,16 @@ fn body_of(alloc: Global, around: &Envelope, token: &[u8]) -> Result<Bytes, Faul
     kept(write_session_setup_request(alloc, &request))
 }
 
-fn message_of(alloc: Global, around: &Envelope, body: &[u8]) -> Result<Bytes, Fault> {
-    let mut header = header_in(around);
-    if let Some(connection) = around.signed_by {
-        header.signature = signature_by(alloc, &signer_by(around, connection), &header, body)?;
-    }
-    kept(spelled(alloc, &header, body))
-}
-
 /// The bytes of a SESSION_SETUP.
 pub fn setup_message(alloc: Global, around: &Envelope, token: &[u8]) -> Result<Bytes, Fault> {
     let body = body_of(alloc, around, token)?;
-    message_of(alloc, around, body.as_slice())
-}
-
-fn heard<'a>(
-    around: &Envelope,
-    header: &Header,
-    form: SetupForm<'a>,
-    message: &'a [u8],
-) -> SetupHeard<'a> {
-    SetupHeard {
-        connection: around.connection,
-        client_guid: around.client,
-        session_id: header.session,
-        tree_id: header.tree,
-        message_id: header.message,
-        channel_sequence: around.sequence,
-        replay: around.replay,
-        fault: around.fault,
-        form,
-        bytes: message,
-        chosen: chosen(around),
-        chain: chain_on(around.connection),
-        fresh: [7; 8],
+    let mut header = header_in(around);
+    if let Some(connection) = around.signed_by {
+        let chain = chain_on(connection);
+        let signer = derive(&KEY, &chain, &chosen(around), around.session).signing;
+        header.signature = signature_by(alloc, &signer, &header, body.as_slice())?;
     }
+    kept(spelled(alloc, &header, body.as_slice()))
 }
 
 /// A SESSION_SETUP as it is heard.
@@ -149,7 +116,21 @@ pub fn setup_heard<'a>(
         return Err(Fault::Other);
     };
     match request_of(alloc, &header, message)? {
-        Some(Request::Setup(form)) => Ok(heard(around, &header, form, message)),
+        Some(Request::Setup(form)) => Ok(SetupHeard {
+            connection: around.connection,
+            client_guid: around.client,
+            session_id: header.session,
+            tree_id: header.tree,
+            message_id: header.message,
+            channel_sequence: around.sequence,
+            replay: around.replay,
+            fault: around.fault,
+            form,
+            bytes: message,
+            chosen: chosen(around),
+            chain: chain_on(around.connection),
+            fresh: [7; 8],
+        }),
         _ => Err(Fault::Other),
     }
 }

@@ -1,121 +1,121 @@
 //! The choice of algorithms, the chain, keys, signatures and nonces.
 ghost use Rattle.std.specs.Prelude.{◌≤◌, length};
 
-use crate::logon_rows::words::{
-    array_in, array_of, bytes_in, message_in, message_of, u16_in, u64_in, word_in,
-};
-use anyhow::{Result, bail, ensure};
+use crate::vectors::refused;
+use crate::words::{array, bytes_in, long, message_of, push_digits, short, word};
 use crypto_ciphers::kdf;
 use crypto_sessions::{Chain, Chosen, Keys, Nonces, Signer, bind, derive, sign, verify};
-use std::alloc::Global;
-use std::str::SplitWhitespace;
-use test_tables::digits_of;
+use std::alloc::{AllocError, Global};
+use std::fmt::Write;
 use wire_messages::{Numbers, Offer, choose};
 
-/// The value behind the messages of a row; `none` is no message.
-fn chain(alloc: Global, words: &mut SplitWhitespace<'_>) -> Result<String> {
-    let mut chain = Chain::start();
-    for word in words {
-        if word != "none" {
-            chain.take(&message_of(alloc, word)?);
-        }
+// The chain takes the message of a word; `none` is no message.
+fn take(chain: &mut Chain, alloc: Global, word: &str) -> Result<(), AllocError> {
+    if word != "none" {
+        chain.take(&message_of(alloc, word)?);
     }
-    digits_of(alloc, &chain.value())
+    Ok(())
 }
 
-/// Numbers joined by commas, `-` for none.
-fn numbers_in(alloc: Global, words: &mut SplitWhitespace<'_>) -> Result<Numbers> {
+// The value behind the messages of a row.
+fn chain(said: &mut String, alloc: Global, words: &[&str]) -> Result<(), AllocError> {
+    let mut chain = Chain::start();
+    for word in words.get(1..).unwrap_or(&[]) {
+        take(&mut chain, alloc, word)?;
+    }
+    push_digits(said, &chain.value())
+}
+
+fn put_numbers(numbers: &mut Numbers, word: &str) -> Result<(), AllocError> {
+    for number in word.split(',') {
+        numbers.push(number.parse::<u16>().unwrap_or(0))?;
+    }
+    Ok(())
+}
+
+// Numbers joined by commas, `-` for none.
+fn numbers_of(alloc: Global, word: &str) -> Result<Numbers, AllocError> {
     let mut numbers = Numbers::new(alloc);
-    let word = word_in(words)?;
     if word != "-" {
-        for number in word.split(',') {
-            numbers.push(number.parse::<u16>()?)?;
-        }
+        put_numbers(&mut numbers, word)?;
     }
     Ok(numbers)
 }
 
-fn choice(alloc: Global, words: &mut SplitWhitespace<'_>) -> Result<String> {
-    let preauth = word_in(words)? == "yes";
-    let sha512 = word_in(words)? == "yes";
-    let ciphers = numbers_in(alloc, words)?;
-    let signings = numbers_in(alloc, words)?;
+fn choice(said: &mut String, alloc: Global, words: &[&str]) -> Result<(), AllocError> {
     let offer = Offer {
-        preauth,
-        sha512,
-        ciphers,
-        signings,
+        preauth: word(words, 1) == "yes",
+        sha512: word(words, 2) == "yes",
+        ciphers: numbers_of(alloc, word(words, 3))?,
+        signings: numbers_of(alloc, word(words, 4))?,
     };
     match choose(&offer) {
-        Ok(chosen) => Ok(format!(in alloc; "{chosen:?}")?),
-        Err(refusal) => Ok(format!(in alloc; "{refusal:?}")?),
+        Ok(chosen) => write!(said, "{chosen:?}"),
+        Err(refusal) => refused(said, &refusal),
     }
 }
 
-fn derivation(alloc: Global, words: &mut SplitWhitespace<'_>) -> Result<String> {
-    let key = bytes_in(alloc, words)?;
-    let label = bytes_in(alloc, words)?;
-    let context = bytes_in(alloc, words)?;
-    if word_in(words)? == "256" {
-        digits_of(alloc, &kdf(&key, &label, &context, 256))
-    } else {
-        digits_of(alloc, &kdf(&key, &label, &context, 128))
+fn derivation(said: &mut String, alloc: Global, words: &[&str]) -> Result<(), AllocError> {
+    let key = bytes_in(alloc, words, 1)?;
+    let label = bytes_in(alloc, words, 2)?;
+    let context = bytes_in(alloc, words, 3)?;
+    let bits = if word(words, 4) == "256" { 256 } else { 128 };
+    push_digits(said, &kdf(&key, &label, &context, bits))
+}
+
+fn push_keys(said: &mut String, keys: &Keys) -> Result<(), AllocError> {
+    push_digits(said, &keys.signing.key)?;
+    write!(said, " {} ", keys.signing.algorithm)?;
+    push_digits(said, &keys.to_server)?;
+    said.push_str(" ")?;
+    push_digits(said, &keys.to_client)?;
+    write!(said, " {} {}", keys.cipher, keys.session)
+}
+
+// The chain's value that a word tells.
+fn value_of(alloc: Global, word: &str) -> Result<[u8; 64], AllocError> {
+    let message = message_of(alloc, word)?;
+    let mut value = [0; 64];
+    if message.len() == 64 {
+        value.copy_from_slice(&message);
     }
+    Ok(value)
 }
 
-fn keys_shown(alloc: Global, keys: &Keys) -> Result<String> {
-    let first = digits_of(alloc, &keys.signing.key)?;
-    let up = digits_of(alloc, &keys.to_server)?;
-    let down = digits_of(alloc, &keys.to_client)?;
-    let algorithm = keys.signing.algorithm;
-    Ok(format!(in alloc;
-        "{first} {algorithm} {up} {down} {} {}",
-        keys.cipher, keys.session
-    )?)
-}
-
-/// A logon's exported key and the chain's value.
-fn base_in(alloc: Global, words: &mut SplitWhitespace<'_>) -> Result<([u8; 16], [u8; 64])> {
-    let base = array_in::<16>(alloc, words)?;
-    let chain = array_of::<64>(&message_in(alloc, words)?)?;
-    Ok((base, chain))
-}
-
-/// The keys of a session.
-fn session_in(alloc: Global, words: &mut SplitWhitespace<'_>) -> Result<Keys> {
-    let (base, chain) = base_in(alloc, words)?;
-    let cipher = u16_in(words)?;
-    let signing = u16_in(words)?;
-    let session = u64_in(words)?;
+// The keys of a session: the logon's exported key, the chain's value, the cipher, the signing algorithm and the session.
+fn session_in(alloc: Global, words: &[&str]) -> Result<Keys, AllocError> {
+    let chain = value_of(alloc, word(words, 2))?;
     let chosen = Chosen {
-        cipher,
-        signing,
+        cipher: short(words, 3),
+        signing: short(words, 4),
         signing_told: true,
     };
-    Ok(derive(&base, &chain, &chosen, session))
+    Ok(derive(&array(words, 1), &chain, &chosen, long(words, 5)))
 }
 
-fn derived(alloc: Global, words: &mut SplitWhitespace<'_>) -> Result<String> {
+fn derived(said: &mut String, alloc: Global, words: &[&str]) -> Result<(), AllocError> {
+    push_keys(said, &session_in(alloc, words)?)
+}
+
+// The keys of a channel that is bound to a session.
+fn bound(said: &mut String, alloc: Global, words: &[&str]) -> Result<(), AllocError> {
     let keys = session_in(alloc, words)?;
-    keys_shown(alloc, &keys)
+    let chain = value_of(alloc, word(words, 7))?;
+    push_keys(said, &bind(&array(words, 6), &chain, &keys))
 }
 
-/// The keys of a channel that is bound to a session.
-fn bound(alloc: Global, words: &mut SplitWhitespace<'_>) -> Result<String> {
-    let keys = session_in(alloc, words)?;
-    let (base, chain) = base_in(alloc, words)?;
-    keys_shown(alloc, &bind(&base, &chain, &keys))
-}
-
-/// The signing key where there is no cipher.
-fn signing(alloc: Global, words: &mut SplitWhitespace<'_>) -> Result<String> {
-    let (base, chain) = base_in(alloc, words)?;
+// The signing key where there is no cipher.
+fn signing(said: &mut String, alloc: Global, words: &[&str]) -> Result<(), AllocError> {
+    let chain = value_of(alloc, word(words, 2))?;
     let chosen = Chosen {
         cipher: 0,
         signing: 1,
         signing_told: false,
     };
-    digits_of(alloc, &derive(&base, &chain, &chosen, 1).signing.key)
+    push_digits(
+        said,
+        &derive(&array(words, 1), &chain, &chosen, 1).signing.key,
+    )
 }
 
 fn put_signature(message: &mut [u8], signature: &[u8; 16])
@@ -124,91 +124,67 @@ fn put_signature(message: &mut [u8], signature: &[u8; 16])
     message[48..64].copy_from_slice(signature);
 }
 
-/// The message with a signature in its field, and whatever stands behind it.
-fn with_signature(
-    alloc: Global,
-    message: &[u8],
-    signature: &[u8; 16],
-    further: &[u8],
-) -> Result<Vec<u8>>
-    requires { 64 ≤ length message.now }
-{
-    let mut signed = Vec::from_slice(alloc, message)?;
-    put_signature(signed.as_mut_slice(), signature);
-    signed.extend_from_slice(further)?;
-    Ok(signed)
+fn is_signed(signer: &Signer, message: &[u8]) -> bool {
+    if message.len() < 64 || message.len() >= 1_000_000_000 {
+        return false;
+    }
+    verify(signer, message)
 }
 
-fn is_signed(signer: &Signer, message: &[u8]) -> Result<bool> {
-    ensure!(
-        message.len() >= 64 && message.len() < 1_000_000_000,
-        "a message of another length"
-    );
-    Ok(verify(signer, message))
-}
-
-fn signature_of(signer: &Signer, message: &[u8]) -> Result<[u8; 16]> {
-    ensure!(
-        message.len() >= 64 && message.len() < 1_000_000_000,
-        "a message of another length"
-    );
-    Ok(sign(signer, message))
-}
-
-/// A signed message verifies, and does not with a byte more.
-fn check_signature(
-    alloc: Global,
+// Puts the signature of a message. With it the message verifies, and not with a byte more.
+fn push_signature(
+    said: &mut String,
     signer: &Signer,
-    message: &[u8],
-    signature: &[u8; 16],
-) -> Result<()> {
-    ensure!(message.len() >= 64, "a message without a header");
-    let signed = with_signature(alloc, message, signature, &[])?;
-    let longer = with_signature(alloc, message, signature, &[1])?;
-    ensure!(is_signed(signer, &signed)?, "its signature does not verify");
-    ensure!(!is_signed(signer, &longer)?, "another message verifies");
+    message: &mut Vec<u8>,
+) -> Result<(), AllocError> {
+    if message.len() < 64 || message.len() >= 1_000_000 {
+        return said.push_str("a message of another length");
+    }
+    let signature = sign(signer, message);
+    put_signature(message, &signature);
+    if !is_signed(signer, message) {
+        said.push_str("its signature does not verify: ")?;
+    }
+    message.push(1)?;
+    if is_signed(signer, message) {
+        said.push_str("another message verifies: ")?;
+    }
+    push_digits(said, &signature)
+}
+
+// The signature of a row: the algorithm, the key and the message.
+fn signature(said: &mut String, alloc: Global, words: &[&str]) -> Result<(), AllocError> {
+    let signer = Signer {
+        key: array(words, 2),
+        algorithm: short(words, 1),
+    };
+    let mut message = message_of(alloc, word(words, 3))?;
+    push_signature(said, &signer, &mut message)
+}
+
+// The first nonces of a channel, so many.
+fn nonces(said: &mut String, words: &[&str]) -> Result<(), AllocError> {
+    let mut nonces = Nonces::new(short(words, 1));
+    for _ in 0..short(words, 2) {
+        match nonces.next() {
+            Ok(nonce) => push_digits(said, &nonce)?,
+            Err(_spent) => said.push_str("no nonce is left")?,
+        }
+    }
     Ok(())
 }
 
-/// The signature of a message.
-fn signature(alloc: Global, words: &mut SplitWhitespace<'_>) -> Result<String> {
-    let algorithm = u16_in(words)?;
-    let key = array_in::<16>(alloc, words)?;
-    let message = message_in(alloc, words)?;
-    let signer = Signer { key, algorithm };
-    let signature = signature_of(&signer, &message)?;
-    check_signature(alloc, &signer, &message, &signature)?;
-    digits_of(alloc, &signature)
-}
-
-/// The first nonces of a channel, so many.
-fn nonces(alloc: Global, words: &mut SplitWhitespace<'_>) -> Result<String> {
-    let mut nonces = Nonces::new(u16_in(words)?);
-    let mut shown = String::new(alloc);
-    for _ in 0..u16_in(words)? {
-        match nonces.next() {
-            Ok(nonce) => shown.push_str(&digits_of(alloc, &nonce)?)?,
-            Err(_spent) => bail!("no nonce is left"),
-        }
-    }
-    Ok(shown)
-}
-
-/// The answer to a row of the choice, the chain, of keys, signatures or nonces, where it is one.
-pub fn answer(
-    alloc: Global,
-    word: &str,
-    words: &mut SplitWhitespace<'_>,
-) -> Result<Option<String>> {
-    match word {
-        "choice" => Ok(Some(choice(alloc, words)?)),
-        "chain" => Ok(Some(chain(alloc, words)?)),
-        "kdf" => Ok(Some(derivation(alloc, words)?)),
-        "keys" => Ok(Some(derived(alloc, words)?)),
-        "bound" => Ok(Some(bound(alloc, words)?)),
-        "signing" => Ok(Some(signing(alloc, words)?)),
-        "sign" => Ok(Some(signature(alloc, words)?)),
-        "nonces" => Ok(Some(nonces(alloc, words)?)),
-        _ => Ok(None),
+/// The answer to a row of the choice, the chain, of keys, signatures or nonces.
+pub fn answer(said: &mut String, alloc: Global, words: &[&str]) -> Result<(), AllocError> {
+    match word(words, 0) {
+        "choice" => choice(said, alloc, words),
+        "chain" => chain(said, alloc, words),
+        "kdf" => derivation(said, alloc, words),
+        "keys" => derived(said, alloc, words),
+        "bound" => bound(said, alloc, words),
+        "signing" => signing(said, alloc, words),
+        "sign" => signature(said, alloc, words),
+        "nonces" => nonces(said, words),
+        _ => said.push_str("an unknown row"),
     }
 }

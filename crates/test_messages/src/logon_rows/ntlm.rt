@@ -1,220 +1,182 @@
 //! NTLM's messages and formulas, and the acceptor.
-use crate::logon_rows::words::{array_in, bytes_in, text_in, u64_in, word_in};
-use anyhow::{Context, Result, bail, ensure};
+use crate::vectors::{refused, told, unwritten};
+use crate::words::{array, bytes_in, long, push_bytes, push_digits, text, word};
 use crypto_ciphers::Rc4;
 use crypto_sessions::{
-    Acceptor, Credentials, LogonError, Users, answer_to, base_key, can_write_type2,
-    can_write_type3, first_message, mic, ntowf, proof, read_type1, read_type2, read_type3,
-    sign_mech_list, write_type1, write_type2, write_type3,
+    Acceptor, Credentials, Logon, Users, answer_to, base_key, can_write_type2, can_write_type3,
+    first_message, mic, ntowf, proof, read_type1, read_type2, read_type3, sign_mech_list,
+    write_type1, write_type2, write_type3,
 };
-use std::alloc::Global;
-use std::str::SplitWhitespace;
-use test_tables::digits_of;
-use wire_bytes::{Bytes, Text};
+use std::alloc::{AllocError, Global};
+use std::fmt::Write;
+use wire_bytes::Text;
 
-fn owf_of(alloc: Global, words: &mut SplitWhitespace<'_>) -> Result<String> {
-    let password = text_in(words)?;
-    let user = text_in(words)?;
-    let key = ntowf(alloc, password, user, text_in(words)?)?;
-    digits_of(alloc, &key)
+fn owf(said: &mut String, alloc: Global, words: &[&str]) -> Result<(), AllocError> {
+    let key = ntowf(alloc, text(words, 1), text(words, 2), text(words, 3))?;
+    push_digits(said, &key)
 }
 
-fn proof_of(alloc: Global, words: &mut SplitWhitespace<'_>) -> Result<String> {
-    let owf = array_in::<16>(alloc, words)?;
-    let challenge = array_in::<8>(alloc, words)?;
-    digits_of(alloc, &proof(&owf, &challenge, &bytes_in(alloc, words)?))
+fn proof_of(said: &mut String, alloc: Global, words: &[&str]) -> Result<(), AllocError> {
+    let temp = bytes_in(alloc, words, 3)?;
+    push_digits(said, &proof(&array(words, 1), &array(words, 2), &temp))
 }
 
-fn base_key_of(alloc: Global, words: &mut SplitWhitespace<'_>) -> Result<String> {
-    let owf = array_in::<16>(alloc, words)?;
-    let proof = array_in::<16>(alloc, words)?;
-    digits_of(alloc, &base_key(&owf, &proof))
+fn mic_of(said: &mut String, alloc: Global, words: &[&str]) -> Result<(), AllocError> {
+    let first = bytes_in(alloc, words, 2)?;
+    let second = bytes_in(alloc, words, 3)?;
+    let third = bytes_in(alloc, words, 4)?;
+    push_digits(
+        said,
+        &mic(alloc, &array(words, 1), &first, &second, &third)?,
+    )
 }
 
-fn mic_of(alloc: Global, words: &mut SplitWhitespace<'_>) -> Result<String> {
-    let key = array_in::<16>(alloc, words)?;
-    let first = bytes_in(alloc, words)?;
-    let second = bytes_in(alloc, words)?;
-    let third = bytes_in(alloc, words)?;
-    digits_of(alloc, &mic(alloc, &key, &first, &second, &third)?)
+fn list_mic(said: &mut String, alloc: Global, words: &[&str]) -> Result<(), AllocError> {
+    let from_client = word(words, 2) == "client";
+    let exchanged = word(words, 3) == "exchanged";
+    let list = bytes_in(alloc, words, 4)?;
+    push_digits(
+        said,
+        &sign_mech_list(&array(words, 1), from_client, exchanged, &list),
+    )
 }
 
-fn list_mic_of(alloc: Global, words: &mut SplitWhitespace<'_>) -> Result<String> {
-    let key = array_in::<16>(alloc, words)?;
-    let from_client = word_in(words)? == "client";
-    let exchanged = word_in(words)? == "exchanged";
-    let list = bytes_in(alloc, words)?;
-    digits_of(alloc, &sign_mech_list(&key, from_client, exchanged, &list))
-}
-
-fn stream(alloc: Global, words: &mut SplitWhitespace<'_>) -> Result<String> {
-    let key = bytes_in(alloc, words)?;
-    let mut bytes = bytes_in(alloc, words)?;
+fn stream(said: &mut String, alloc: Global, words: &[&str]) -> Result<(), AllocError> {
+    let key = bytes_in(alloc, words, 1)?;
+    let mut bytes = bytes_in(alloc, words, 2)?;
     if key.is_empty() || key.len() > 256 {
-        bail!("a key of another length");
+        return said.push_str("a key of another length");
     }
     Rc4::new(&key).apply(&mut bytes);
-    digits_of(alloc, &bytes)
+    push_digits(said, &bytes)
 }
 
-/// The value of a type 1, and its canonical spelling.
-fn type1_shown(alloc: Global, m: &[u8]) -> Result<String> {
-    match read_type1(m) {
-        Ok(value) => {
-            let spelling = digits_of(alloc, write_type1(alloc, &value)?.as_slice())?;
-            Ok(format!(in alloc; "{value:?}\n  {spelling}")?)
-        }
-        Err(refusal) => Ok(format!(in alloc; "{refusal:?}")?),
+/// The answer to a row of a formula.
+pub fn formula(said: &mut String, alloc: Global, words: &[&str]) -> Result<(), AllocError> {
+    match word(words, 0) {
+        "ntowf" => owf(said, alloc, words),
+        "proof" => proof_of(said, alloc, words),
+        "base_key" => push_digits(said, &base_key(&array(words, 1), &array(words, 2))),
+        "mic" => mic_of(said, alloc, words),
+        "list_mic" => list_mic(said, alloc, words),
+        _ => stream(said, alloc, words),
     }
 }
 
-fn type2_shown(alloc: Global, m: &[u8]) -> Result<String> {
-    match read_type2(m) {
-        Ok(value) => {
-            ensure!(can_write_type2(&value), "a part that is too long");
-            let spelling = digits_of(alloc, write_type2(alloc, &value)?.as_slice())?;
-            Ok(format!(in alloc; "{value:?}\n  {spelling}")?)
-        }
-        Err(refusal) => Ok(format!(in alloc; "{refusal:?}")?),
+fn type1(said: &mut String, alloc: Global, m: &[u8]) -> Result<(), AllocError> {
+    both_ways!(said, alloc, m, read_type1, write_type1)
+}
+
+fn type2(said: &mut String, alloc: Global, m: &[u8]) -> Result<(), AllocError> {
+    both_ways!(said, alloc, m, read_type2, write_type2, v => can_write_type2(&v))
+}
+
+fn type3(said: &mut String, alloc: Global, m: &[u8]) -> Result<(), AllocError> {
+    both_ways!(said, alloc, m, read_type3, write_type3, v => can_write_type3(&v))
+}
+
+/// What is said of one of the three messages, and its canonical spelling.
+pub fn message(said: &mut String, alloc: Global, words: &[&str]) -> Result<(), AllocError> {
+    let m = bytes_in(alloc, words, 1)?;
+    match word(words, 0) {
+        "type1" => type1(said, alloc, &m),
+        "type2" => type2(said, alloc, &m),
+        _ => type3(said, alloc, &m),
     }
 }
 
-fn type3_shown(alloc: Global, m: &[u8]) -> Result<String> {
-    match read_type3(m) {
-        Ok(value) => {
-            ensure!(can_write_type3(&value), "a part that is too long");
-            let spelling = digits_of(alloc, write_type3(alloc, &value)?.as_slice())?;
-            Ok(format!(in alloc; "{value:?}\n  {spelling}")?)
-        }
-        Err(refusal) => Ok(format!(in alloc; "{refusal:?}")?),
-    }
+fn put_user(
+    users: &mut Users,
+    alloc: Global,
+    name: &str,
+    password: &str,
+) -> Result<(), AllocError> {
+    let name = Text::from_str(alloc, name)?;
+    let password = Text::from_str(alloc, password)?;
+    users.push(name, password)
 }
 
-fn users(alloc: Global) -> Result<Users> {
+fn put_users(users: &mut Users, alloc: Global) -> Result<(), AllocError> {
+    put_user(users, alloc, "User", "Password")?;
+    put_user(users, alloc, "bob", "secret")
+}
+
+fn push_logon(said: &mut String, logon: &Logon) -> Result<(), AllocError> {
+    let kind = if logon.exchanged {
+        "exchanged"
+    } else {
+        "plain"
+    };
+    push_digits(said, &logon.key)?;
+    write!(said, " {kind} {}", logon.user.as_str())
+}
+
+// What an acceptor says of a third message.
+fn push_verdict(
+    said: &mut String,
+    alloc: Global,
+    acceptor: &Acceptor,
+    words: &[&str],
+) -> Result<(), AllocError> {
+    let third = bytes_in(alloc, words, 4)?;
     let mut users = Users::new(alloc);
-    users.push(
-        Text::from_str(alloc, "User")?,
-        Text::from_str(alloc, "Password")?,
-    )?;
-    users.push(
-        Text::from_str(alloc, "bob")?,
-        Text::from_str(alloc, "secret")?,
-    )?;
-    Ok(users)
-}
-
-/// The challenge to a row's first message, with what is kept of it.
-fn acceptor_in(alloc: Global, words: &mut SplitWhitespace<'_>) -> Result<(Acceptor, Bytes)> {
-    let first = bytes_in(alloc, words)?;
-    let server = array_in::<8>(alloc, words)?;
-    let now = u64_in(words)?;
-    Ok(Acceptor::challenge(alloc, &first, server, now)?)
-}
-
-fn challenge(alloc: Global, words: &mut SplitWhitespace<'_>) -> Result<String> {
-    let (_acceptor, second) = acceptor_in(alloc, words)?;
-    digits_of(alloc, second.as_slice())
-}
-
-/// What an acceptor says of a third message.
-fn verdict(alloc: Global, acceptor: &Acceptor, third: &[u8]) -> Result<String> {
-    let users = users(alloc)?;
-    match acceptor.check(alloc, &users, third) {
-        Ok(logon) => {
-            let key = digits_of(alloc, &logon.key)?;
-            let kind = if logon.exchanged {
-                "exchanged"
-            } else {
-                "plain"
-            };
-            Ok(format!(in alloc; "{key} {kind} {}", logon.user.as_str())?)
-        }
-        Err(LogonError::Memory) => bail!("memory ran out"),
-        Err(refusal) => Ok(format!(in alloc; "{refusal:?}")?),
+    put_users(&mut users, alloc)?;
+    match acceptor.check(alloc, &users, &third) {
+        Ok(logon) => push_logon(said, &logon),
+        Err(refusal) => refused(said, &refusal),
     }
 }
 
-fn check(alloc: Global, words: &mut SplitWhitespace<'_>) -> Result<String> {
-    let (acceptor, _second) = acceptor_in(alloc, words)?;
-    verdict(alloc, &acceptor, &bytes_in(alloc, words)?)
+// The challenge to a first message, or what is said of a third one to it: the first message, the challenge, the time and the third one.
+fn challenge(said: &mut String, alloc: Global, words: &[&str]) -> Result<(), AllocError> {
+    let first = bytes_in(alloc, words, 1)?;
+    match Acceptor::challenge(alloc, &first, array(words, 2), long(words, 3)) {
+        Ok((acceptor, second)) => {
+            if word(words, 0) == "check" {
+                push_verdict(said, alloc, &acceptor, words)
+            } else {
+                push_digits(said, second.as_slice())
+            }
+        }
+        Err(refusal) => refused(said, &refusal),
+    }
 }
 
-/// A client's third message.
-fn third_to(
+// The client's third message to a first one and its challenge.
+fn push_third(
+    said: &mut String,
     alloc: Global,
     client: &Credentials<'_>,
     first: &[u8],
     second: &[u8],
-) -> Result<String> {
-    let read = read_type2(second)?;
-    let third = answer_to(alloc, client, first, second, &read)?.context("no room")?;
-    digits_of(alloc, third.as_slice())
+) -> Result<(), AllocError> {
+    match read_type2(second) {
+        Ok(read) => match answer_to(alloc, client, first, second, &read)? {
+            Some(third) => push_digits(said, third.as_slice()),
+            None => said.push_str("no room"),
+        },
+        Err(refusal) => refused(said, &refusal),
+    }
 }
 
-/// The client's third message to a first one and its challenge.
-fn answered(alloc: Global, words: &mut SplitWhitespace<'_>) -> Result<String> {
-    let user = word_in(words)?;
-    let password = word_in(words)?;
-    let domain = text_in(words)?;
-    let challenge = array_in::<8>(alloc, words)?;
-    let key = array_in::<16>(alloc, words)?;
+fn answered(said: &mut String, alloc: Global, words: &[&str]) -> Result<(), AllocError> {
     let client = Credentials {
-        user,
-        password,
-        domain,
-        challenge,
-        key,
+        user: word(words, 1),
+        password: word(words, 2),
+        domain: text(words, 3),
+        challenge: array(words, 4),
+        key: array(words, 5),
     };
-    let first = bytes_in(alloc, words)?;
-    third_to(alloc, &client, &first, &bytes_in(alloc, words)?)
+    let first = bytes_in(alloc, words, 6)?;
+    let second = bytes_in(alloc, words, 7)?;
+    push_third(said, alloc, &client, &first, &second)
 }
 
-fn first(alloc: Global) -> Result<String> {
-    digits_of(alloc, first_message(alloc)?.as_slice())
-}
-
-fn formula(alloc: Global, word: &str, words: &mut SplitWhitespace<'_>) -> Result<Option<String>> {
-    match word {
-        "ntowf" => Ok(Some(owf_of(alloc, words)?)),
-        "proof" => Ok(Some(proof_of(alloc, words)?)),
-        "base_key" => Ok(Some(base_key_of(alloc, words)?)),
-        "mic" => Ok(Some(mic_of(alloc, words)?)),
-        "list_mic" => Ok(Some(list_mic_of(alloc, words)?)),
-        "rc4" => Ok(Some(stream(alloc, words)?)),
-        _ => Ok(None),
+/// The answer to a row of an exchange.
+pub fn exchange(said: &mut String, alloc: Global, words: &[&str]) -> Result<(), AllocError> {
+    match word(words, 0) {
+        "answer" => answered(said, alloc, words),
+        "first" => push_bytes(said, first_message(alloc)),
+        _ => challenge(said, alloc, words),
     }
-}
-
-fn message(alloc: Global, word: &str, words: &mut SplitWhitespace<'_>) -> Result<Option<String>> {
-    match word {
-        "type1" => Ok(Some(type1_shown(alloc, &bytes_in(alloc, words)?)?)),
-        "type2" => Ok(Some(type2_shown(alloc, &bytes_in(alloc, words)?)?)),
-        "type3" => Ok(Some(type3_shown(alloc, &bytes_in(alloc, words)?)?)),
-        _ => Ok(None),
-    }
-}
-
-fn exchange(alloc: Global, word: &str, words: &mut SplitWhitespace<'_>) -> Result<Option<String>> {
-    match word {
-        "challenge" => Ok(Some(challenge(alloc, words)?)),
-        "check" => Ok(Some(check(alloc, words)?)),
-        "answer" => Ok(Some(answered(alloc, words)?)),
-        "first" => Ok(Some(first(alloc)?)),
-        _ => Ok(None),
-    }
-}
-
-/// The answer to a row of NTLM, where it is one.
-pub fn answer(
-    alloc: Global,
-    word: &str,
-    words: &mut SplitWhitespace<'_>,
-) -> Result<Option<String>> {
-    if let Some(said) = formula(alloc, word, words)? {
-        return Ok(Some(said));
-    }
-    if let Some(said) = message(alloc, word, words)? {
-        return Ok(Some(said));
-    }
-    exchange(alloc, word, words)
 }

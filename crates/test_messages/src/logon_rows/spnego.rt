@@ -1,87 +1,74 @@
 //! SPNEGO tokens, read and written again.
-use crate::logon_rows::words::bytes_in;
-use anyhow::{Result, bail, ensure};
+use crate::vectors::{refused, unwritten};
+use crate::words::{bytes_in, push_bytes, push_digits};
 use crypto_sessions::{
-    DerError, InitToken, RespToken, can_write_init, can_write_resp, read_init, read_resp,
-    write_init, write_resp,
+    InitToken, RespToken, can_write_init, can_write_resp, read_init, read_resp, write_init,
+    write_resp,
 };
-use std::alloc::Global;
-use std::str::SplitWhitespace;
-use test_tables::digits_of;
+use std::alloc::{AllocError, Global};
+use std::fmt::Write;
 use wire_bytes::Bytes;
 
-/// The digits of a part, or `none`.
-fn part(alloc: Global, bytes: &Option<Bytes>) -> Result<String> {
+// Puts the digits of a part, or `none`.
+fn push_part(said: &mut String, bytes: &Option<Bytes>) -> Result<(), AllocError> {
     match bytes {
-        Some(bytes) => digits_of(alloc, bytes.as_slice()),
-        None => Ok(String::from_str(alloc, "none")?),
+        Some(bytes) => push_digits(said, bytes.as_slice()),
+        None => said.push_str("none"),
     }
 }
 
-/// The spelling of a first token.
-fn init_spelled(alloc: Global, token: &InitToken) -> Result<String> {
-    if !can_write_init(token) {
-        return Ok(String::from_str(alloc, "with another mechanism")?);
-    }
-    digits_of(alloc, write_init(alloc, token)?.as_slice())
+// Puts a token and a MIC.
+fn push_parts(
+    said: &mut String,
+    token: &Option<Bytes>,
+    mic: &Option<Bytes>,
+) -> Result<(), AllocError> {
+    said.push_str(" token ")?;
+    push_part(said, token)?;
+    said.push_str(" mic ")?;
+    push_part(said, mic)?;
+    said.push_str("\n  ")
 }
 
-fn init_shown(alloc: Global, token: &InitToken) -> Result<String> {
-    let list = digits_of(alloc, token.mech_list.as_slice())?;
-    let inner = part(alloc, &token.token)?;
-    let mic = part(alloc, &token.mic)?;
-    let first = token.ntlm_first;
-    let digits = init_spelled(alloc, token)?;
-    Ok(format!(in alloc; "list {list} ntlm_first {first} token {inner} mic {mic}\n  {digits}")?)
-}
-
-fn state_shown(alloc: Global, state: Option<u8>) -> Result<String> {
-    match state {
-        Some(state) => Ok(format!(in alloc; "{state}")?),
-        None => Ok(String::from_str(alloc, "none")?),
-    }
-}
-
-/// The spelling of another token.
-fn resp_spelled(alloc: Global, token: &RespToken) -> Result<String> {
-    ensure!(can_write_resp(token), "a token that is too long");
-    digits_of(alloc, write_resp(alloc, token)?.as_slice())
-}
-
-fn resp_shown(alloc: Global, token: &RespToken) -> Result<String> {
-    let state = state_shown(alloc, token.state)?;
-    let inner = part(alloc, &token.token)?;
-    let mic = part(alloc, &token.mic)?;
-    let ntlm = token.ntlm;
-    let digits = resp_spelled(alloc, token)?;
-    Ok(format!(in alloc; "state {state} ntlm {ntlm} token {inner} mic {mic}\n  {digits}")?)
-}
-
-fn init(alloc: Global, bytes: &[u8]) -> Result<String> {
-    match read_init(alloc, bytes) {
-        Ok(token) => init_shown(alloc, &token),
-        Err(DerError::Memory) => bail!("memory ran out"),
-        Err(refusal) => Ok(format!(in alloc; "{refusal:?}")?),
+fn push_init(said: &mut String, alloc: Global, token: &InitToken) -> Result<(), AllocError> {
+    said.push_str("list ")?;
+    push_digits(said, token.mech_list.as_slice())?;
+    write!(said, " ntlm_first {}", token.ntlm_first)?;
+    push_parts(said, &token.token, &token.mic)?;
+    if can_write_init(token) {
+        push_bytes(said, write_init(alloc, token))
+    } else {
+        said.push_str("with another mechanism")
     }
 }
 
-fn resp(alloc: Global, bytes: &[u8]) -> Result<String> {
-    match read_resp(alloc, bytes) {
-        Ok(token) => resp_shown(alloc, &token),
-        Err(DerError::Memory) => bail!("memory ran out"),
-        Err(refusal) => Ok(format!(in alloc; "{refusal:?}")?),
+fn push_resp(said: &mut String, alloc: Global, token: &RespToken) -> Result<(), AllocError> {
+    match token.state {
+        Some(state) => write!(said, "state {state} ntlm {}", token.ntlm)?,
+        None => write!(said, "state none ntlm {}", token.ntlm)?,
+    }
+    push_parts(said, &token.token, &token.mic)?;
+    if can_write_resp(token) {
+        push_bytes(said, write_resp(alloc, token))
+    } else {
+        unwritten(said)
     }
 }
 
-/// The answer to a row of a token, where it is one.
-pub fn answer(
-    alloc: Global,
-    word: &str,
-    words: &mut SplitWhitespace<'_>,
-) -> Result<Option<String>> {
-    match word {
-        "init" => Ok(Some(init(alloc, &bytes_in(alloc, words)?)?)),
-        "resp" => Ok(Some(resp(alloc, &bytes_in(alloc, words)?)?)),
-        _ => Ok(None),
+/// What is said of a first token.
+pub fn init(said: &mut String, alloc: Global, words: &[&str]) -> Result<(), AllocError> {
+    let bytes = bytes_in(alloc, words, 1)?;
+    match read_init(alloc, &bytes) {
+        Ok(token) => push_init(said, alloc, &token),
+        Err(refusal) => refused(said, &refusal),
+    }
+}
+
+/// What is said of another token.
+pub fn resp(said: &mut String, alloc: Global, words: &[&str]) -> Result<(), AllocError> {
+    let bytes = bytes_in(alloc, words, 1)?;
+    match read_resp(alloc, &bytes) {
+        Ok(token) => push_resp(said, alloc, &token),
+        Err(refusal) => refused(said, &refusal),
     }
 }

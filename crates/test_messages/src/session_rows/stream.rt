@@ -1,95 +1,117 @@
 //! Pieces of a stream, and the frames that are handed out behind each.
-use anyhow::{Context, Result, bail, ensure};
-use std::alloc::Global;
-use test_tables::{bytes_of, digits_of};
+use crate::vectors::refused;
+use crate::words::{bytes_of, number_of, push_digits};
+use std::alloc::{AllocError, Global};
+use std::fmt::Write;
 use wire_bytes::{Deframer, FrameError, frame_of};
 
 /// Longest row of pieces and of frames.
 const MANY: usize = 100;
 
 /// Most zeros of a row.
-const MOST: usize = 0x100_0000;
-
-fn piece(alloc: Global, bytes: &[u8]) -> Result<String> {
-    if bytes.is_empty() {
-        Ok(String::from_str(alloc, "empty")?)
-    } else {
-        digits_of(alloc, bytes)
-    }
-}
+const MOST: u32 = 0x100_0000;
 
 // A refusal, for which is asked again.
-fn refused(alloc: Global, frames: &mut Deframer, refusal: FrameError) -> Result<String> {
-    ensure!(refusal != FrameError::Memory, "out of memory");
-    let again = frames.next().err();
-    let word = if again == Some(refusal) {
-        ""
-    } else {
-        "another than "
-    };
-    Ok(format!(in alloc; "{refusal:?}, {word}{refusal:?}")?)
+fn push_refusal(
+    said: &mut String,
+    frames: &mut Deframer,
+    refusal: FrameError,
+) -> Result<(), AllocError> {
+    write!(said, "{refusal:?}, ")?;
+    match frames.next() {
+        Err(again) => refused(said, &again),
+        Ok(_) => said.push_str("no refusal"),
+    }
 }
 
-/// What `next` answers until it hands out nothing.
-fn handed_out(alloc: Global, frames: &mut Deframer) -> Result<String> {
-    let mut line = String::new(alloc);
+fn push_piece(said: &mut String, bytes: &[u8]) -> Result<(), AllocError> {
+    if bytes.is_empty() {
+        return said.push_str("empty, ");
+    }
+    push_digits(said, bytes)?;
+    said.push_str(", ")
+}
+
+// The next frame, and whether more may be handed out.
+fn push_next(said: &mut String, frames: &mut Deframer) -> Result<bool, AllocError> {
+    let (told, more) = match frames.next() {
+        Ok(Some(frame)) => (push_piece(said, frame.bytes.as_slice()), true),
+        Ok(None) => (said.push_str("None"), false),
+        Err(refusal) => (push_refusal(said, frames, refusal), false),
+    };
+    told?;
+    Ok(more)
+}
+
+// What `next` answers until it hands out nothing.
+fn push_frames(said: &mut String, frames: &mut Deframer) -> Result<(), AllocError> {
     for _ in 0..MANY {
-        match frames.next() {
-            Ok(Some(frame)) => {
-                line.push_str(&piece(alloc, frame.bytes.as_slice())?)?;
-                line.push_str(", ")?;
-            }
-            Ok(None) => {
-                line.push_str("None")?;
-                return Ok(line);
-            }
-            Err(refusal) => {
-                line.push_str(&refused(alloc, frames, refusal)?)?;
-                return Ok(line);
-            }
+        if !push_next(said, frames)? {
+            break;
         }
     }
-    Ok(line)
+    Ok(())
+}
+
+// What is handed out behind a piece.
+fn feed(
+    said: &mut String,
+    alloc: Global,
+    frames: &mut Deframer,
+    piece: &str,
+) -> Result<(), AllocError> {
+    frames.feed(&bytes_of(alloc, piece)?)?;
+    push_frames(said, frames)
+}
+
+fn push_pieces(
+    said: &mut String,
+    alloc: Global,
+    frames: &mut Deframer,
+    pieces: &[&str],
+) -> Result<(), AllocError> {
+    let mut mark = "stream: ";
+    for piece in pieces {
+        said.push_str(mark)?;
+        feed(said, alloc, frames, piece)?;
+        mark = "; ";
+    }
+    Ok(())
 }
 
 /// The pieces of a row, fed one after the other.
-pub fn answers(alloc: Global, row: &str) -> Result<String> {
+pub fn answers(said: &mut String, alloc: Global, words: &[&str]) -> Result<(), AllocError> {
     let mut frames = Deframer::new(alloc);
-    let mut line = String::from_str(alloc, "stream:")?;
-    let mut first = true;
-    for piece in row.split_whitespace().skip(1) {
-        frames.feed(&bytes_of(alloc, piece)?)?;
-        let said = handed_out(alloc, &mut frames)?;
-        let mark = if first { "" } else { ";" };
-        line.push_str(&format!(in alloc; "{mark} {said}")?)?;
-        first = false;
+    push_pieces(said, alloc, &mut frames, words.get(1..).unwrap_or(&[]))
+}
+
+// The first bytes of a frame, and how many are behind them.
+fn push_front(said: &mut String, frame: &[u8]) -> Result<(), AllocError> {
+    match frame.split_at_checked(4) {
+        Some((front, rest)) => {
+            push_digits(said, front)?;
+            write!(said, " and {} bytes", rest.len())
+        }
+        None => said.push_str("no frame"),
     }
-    Ok(line)
 }
 
 /// The first bytes of the frame of so many zeros, and how many are behind them.
-pub fn zeros(alloc: Global, count: usize) -> Result<String> {
-    ensure!(count <= MOST, "too many zeros");
-    let message = vec![in alloc; 0u8; count]?;
+pub fn zeros(said: &mut String, alloc: Global, count: &str) -> Result<(), AllocError> {
+    said.push_str("zeros: ")?;
+    let message = vec![in alloc; 0u8; number_of(count).min(MOST) as usize]?;
     match frame_of(alloc, &message) {
-        Ok(bytes) => {
-            let (front, rest) = bytes.as_slice().split_at_checked(4).context("no frame")?;
-            let digits = digits_of(alloc, front)?;
-            Ok(format!(in alloc; "zeros: {digits} and {} bytes", rest.len())?)
-        }
-        Err(FrameError::Memory) => bail!("out of memory"),
-        Err(refusal) => Ok(format!(in alloc; "zeros: {refusal:?}")?),
+        Ok(frame) => push_front(said, frame.as_slice()),
+        Err(refusal) => refused(said, &refusal),
     }
 }
 
 /// The frame of a message.
-pub fn framed(alloc: Global, digits: &str) -> Result<String> {
+pub fn framed(said: &mut String, alloc: Global, digits: &str) -> Result<(), AllocError> {
+    said.push_str("frame: ")?;
     let message = bytes_of(alloc, digits)?;
-    Ok(match frame_of(alloc, &message) {
-        Ok(bytes) => {
-            let digits = digits_of(alloc, bytes.as_slice())?;
-            format!(in alloc; "frame: {digits}")?
-        }
-        Err(refusal) => format!(in alloc; "frame: {refusal:?}")?,
-    })
+    match frame_of(alloc, &message) {
+        Ok(bytes) => push_digits(said, bytes.as_slice()),
+        Err(refusal) => refused(said, &refusal),
+    }
 }

@@ -1,212 +1,226 @@
-// What a client does at the event of a row.
-use crate::client_scripts::bodies::body_of;
-use crate::client_scripts::operations::kind_of;
-use crate::client_scripts::plays::{Fault, Plays, kept};
-use crate::client_scripts::script::Script;
-use crate::client_scripts::words::{number, small, status, tiny, word};
-use crate::client_scripts::{sent, telling};
-use client_events::{Act, Event};
-use client_values::Why;
-use std::alloc::Global;
-use std::fmt::Write;
-use wire_commands::Body;
-use wire_messages::Refusal;
+// The event of a row. Behind a word of its kind stand its numbers.
+use crate::values::{refusal_in, why_in};
+use crate::words::{Fault, Words, kept};
+use client_events::Event;
+use client_values::OpKind;
+use spec_exchange::values::Basic;
+use std::alloc::{AllocError, Global};
+use wire_bytes::{Bytes, Text};
+use wire_commands::{Body, CreateReply, Info, Named};
 
-/// Puts what is answered to a row: what is done at its event, and what settles by it; at the end of a script all that stands.
-pub fn push_answer<P: Plays>(
-    said: &mut String,
-    alloc: Global,
-    script: &mut Script<P>,
-    given: &str,
-) -> Result<(), Fault> {
-    let words: Vec<&str> = given.split(' ').collect(alloc)?;
-    answer_words(said, alloc, script, &words)
-}
-
-fn answer_words<P: Plays>(
-    said: &mut String,
-    alloc: Global,
-    script: &mut Script<P>,
-    words: &[&str],
-) -> Result<(), Fault> {
-    match word(words, 0) {
-        "script" => {
-            *script = Script::new(alloc);
-            kept(said.push_str("nothing"))
-        }
-        "end" => kept(telling::push_all(said, script.played.table())),
-        "wear" => wear(said, alloc, &mut script.played, words),
-        _ => answer_event(said, alloc, script, words),
+pub fn event_of(alloc: Global, kind: &str, words: &mut Words<'_>) -> Result<Event, Fault> {
+    match kind {
+        "submit" => submit_of(alloc, words),
+        "hear" => hear_of(alloc, words),
+        _ => plain_of(kind, words),
     }
 }
 
-fn answer_event<P: Plays>(
-    said: &mut String,
-    alloc: Global,
-    script: &mut Script<P>,
-    words: &[&str],
-) -> Result<(), Fault> {
-    push_done(said, alloc, &mut script.played, words)?;
-    kept(telling::push_news(said, script))
-}
-
-fn push_done<P: Plays>(
-    said: &mut String,
-    alloc: Global,
-    played: &mut P,
-    words: &[&str],
-) -> Result<(), Fault> {
-    let was_ready = played.table().session.is_ready(small(words, 1));
-    let event = event_of(alloc, words)?;
-    let act = played.at_event(event, alloc)?;
-    push_act(said, alloc, played, words, act, was_ready)
-}
-
-// What an event came to.
-fn push_act<P: Plays>(
-    said: &mut String,
-    alloc: Global,
-    played: &P,
-    words: &[&str],
-    act: Act,
-    was_ready: bool,
-) -> Result<(), Fault> {
-    match word(words, 0) {
-        "submit" => kept(write!(said, "{} taken", played.table().ops.len())),
-        "push" => sent::push_sent(said, alloc, played, act),
-        "ready" => kept(said.push_str(readied(act))),
-        "cut" => kept(said.push_str(cut(act, was_ready))),
-        _ => kept(said.push_str(heard(act))),
-    }
-}
-
-fn readied(act: Act) -> &'static str {
-    match act {
-        Act::Nothing => "ready",
-        Act::CloseChannel => "apart",
-        _ => "a dialog asks for more",
-    }
-}
-
-fn cut(act: Act, was_ready: bool) -> &'static str {
-    match act {
-        Act::CloseChannels => "ends",
-        Act::Nothing if was_ready => "lost",
-        Act::Nothing => "nothing",
-        _ => "a cut asks for more",
-    }
-}
-
-fn heard(act: Act) -> &'static str {
-    match act {
-        Act::CloseChannels => "closes all",
-        Act::CloseChannel | Act::Nothing => "nothing",
-        _ => "a response asks for more",
-    }
-}
-
-fn event_of(alloc: Global, words: &[&str]) -> Result<Event, Fault> {
-    let channel = tiny(words, 1);
-    match word(words, 0) {
-        "submit" => submit(alloc, words),
+// An event that owns nothing.
+fn plain_of(kind: &str, words: &mut Words<'_>) -> Result<Event, Fault> {
+    match kind {
         "push" => Ok(Event::Push {
-            channel,
-            credits: small(words, 2),
+            channel: words.tiny(),
+            credits: words.small(),
         }),
-        "hear" => hear(alloc, words),
-        "join" => Ok(hear_of(words, true, Body::Empty)),
-        "cut" => Ok(Event::Cut { channel }),
+        "join" => Ok(Event::Hear {
+            channel: words.tiny(),
+            number: words.small(),
+            asking: true,
+            status: words.status(),
+            body: Body::Empty,
+        }),
+        "cut" => Ok(Event::Cut {
+            channel: words.tiny(),
+        }),
         "ready" => Ok(Event::Ready {
-            channel,
-            session: number(words, 2),
-            tree: small(words, 3),
+            channel: words.tiny(),
+            session: words.number(),
+            tree: words.small(),
         }),
-        "refused" => refused(words),
-        "finish" => finish(words),
-        _ => Err(Fault::Refused),
+        "refused" => Ok(Event::Refused {
+            channel: words.tiny(),
+            why: refusal_in(words),
+        }),
+        "finish" => Ok(Event::Finish { why: why_in(words) }),
+        _ => Err(Fault::Other("an unknown event")),
     }
 }
 
-fn refused(words: &[&str]) -> Result<Event, Fault> {
-    let why = refusal_of(words)?;
-    Ok(Event::Refused {
-        channel: tiny(words, 1),
-        why,
-    })
-}
-
-fn finish(words: &[&str]) -> Result<Event, Fault> {
-    let why = why_of(words)?;
-    Ok(Event::Finish { why })
-}
-
-fn submit(alloc: Global, words: &[&str]) -> Result<Event, Fault> {
-    let kind = kind_of(alloc, words)?;
-    Ok(Event::Submit {
-        number: small(words, 1),
-        kind,
-    })
-}
-
-fn hear_of(words: &[&str], asking: bool, body: Body) -> Event {
-    Event::Hear {
-        channel: tiny(words, 1),
-        number: small(words, 2),
-        asking,
-        status: status(words, 3),
-        body,
-    }
-}
-
-fn hear(alloc: Global, words: &[&str]) -> Result<Event, Fault> {
-    if status(words, 3) != 0 {
-        return Ok(hear_of(words, false, Body::Empty));
-    }
-    let body = body_of(alloc, words)?;
-    Ok(hear_of(words, false, body))
-}
-
-fn wear_once<P: Plays>(alloc: Global, played: &mut P, channel: u8) -> Result<Act, Fault> {
-    let session = played.table().session.id();
-    let tree = played.table().session.tree();
-    let ready = Event::Ready {
+fn hear_of(alloc: Global, words: &mut Words<'_>) -> Result<Event, Fault> {
+    let channel = words.tiny();
+    let number = words.small();
+    let status = words.status();
+    let body = body_of(alloc, status, words)?;
+    Ok(Event::Hear {
         channel,
-        session,
-        tree,
-    };
-    let _ = played.at_event(ready, alloc)?;
-    played.at_event(Event::Cut { channel }, alloc)
+        number,
+        asking: false,
+        status,
+        body,
+    })
 }
 
-/// A channel becomes ready in the session and is cut, so often.
-fn wear<P: Plays>(
-    said: &mut String,
-    alloc: Global,
-    played: &mut P,
-    words: &[&str],
-) -> Result<(), Fault> {
-    for _ in 0..small(words, 2) {
-        let _ = wear_once(alloc, played, tiny(words, 1))?;
+// What a success says. `-`: a body that no operation is answered.
+fn body_of(alloc: Global, status: u32, words: &mut Words<'_>) -> Result<Body, Fault> {
+    if status != 0 {
+        return Ok(Body::Empty);
     }
-    kept(said.push_str("nothing"))
-}
-
-// Behind the channel, or behind `no-session`.
-fn refusal_of(words: &[&str]) -> Result<Refusal, Fault> {
-    match word(words, 2) {
-        "bad-token" => Ok(Refusal::BadToken),
-        "bad-signature" => Ok(Refusal::BadSignature),
-        "no-sha512" => Ok(Refusal::NoSha512),
-        "status" => Ok(Refusal::Status(status(words, 3))),
-        _ => Err(Fault::Refused),
+    match words.next() {
+        "done" => Ok(Body::Empty),
+        "action" => Ok(Body::Created(CreateReply {
+            action: words.small(),
+            id: words.number(),
+            info: info_of(0),
+            timeout: None,
+            maximal: false,
+            disk_id: false,
+        })),
+        "count" => Ok(Body::Count {
+            count: words.small(),
+        }),
+        "length" => Ok(Body::FileInfo {
+            class: 5,
+            path: Text::new(alloc),
+            info: info_of(words.number()),
+            access: 0,
+            options: 0,
+        }),
+        "content" => content_of(alloc, words),
+        "names" => listing_of(alloc, words.rest()),
+        _ => Ok(Body::VolumeInfo {
+            class: 7,
+            room: 0,
+            used: 0,
+        }),
     }
 }
 
-fn why_of(words: &[&str]) -> Result<Why, Fault> {
-    match word(words, 1) {
-        "no-session" => Ok(Why::NoSession(refusal_of(words)?)),
-        "gave-up" => Ok(Why::GaveUp(small(words, 2))),
-        "ended" => Ok(Why::Ended),
-        _ => Err(Fault::Refused),
+fn info_of(size: u64) -> Info {
+    Info {
+        file: 1,
+        is_directory: false,
+        size,
+        is_delete_pending: false,
+        times: Basic {
+            created: 0,
+            accessed: 0,
+            written: 0,
+            changed: 0,
+            attributes: 0,
+        },
+    }
+}
+
+fn content_of(alloc: Global, words: &mut Words<'_>) -> Result<Body, Fault> {
+    let bytes = words.bytes(alloc)?;
+    Ok(Body::Content {
+        bytes: Bytes::from_vec(bytes),
+    })
+}
+
+fn listing_of(alloc: Global, names: &str) -> Result<Body, Fault> {
+    let mut entries = Vec::new(alloc);
+    for name in names.split(" ") {
+        if !name.is_empty() {
+            let name = Text::from_str(alloc, name)?;
+            entries.push(Named {
+                name,
+                info: info_of(0),
+            })?;
+        }
+    }
+    Ok(Body::Listing { class: 12, entries })
+}
+
+// `NUMBER KIND`, and what the operation names.
+fn submit_of(alloc: Global, words: &mut Words<'_>) -> Result<Event, Fault> {
+    let number = words.small();
+    let kind = kind_of(alloc, words)?;
+    Ok(Event::Submit { number, kind })
+}
+
+fn kind_of(alloc: Global, words: &mut Words<'_>) -> Result<OpKind, Fault> {
+    match words.next() {
+        "create" => kept(create_of(alloc, words)),
+        "write" => kept(write_of(alloc, words)),
+        "rename" => kept(rename_of(alloc, words)),
+        kind => operation_of(kind, words),
+    }
+}
+
+// A path of so many letters.
+fn path_in(alloc: Global, words: &mut Words<'_>) -> Result<Text, AllocError> {
+    let mut path = Text::new(alloc);
+    for _ in 0..words.small() {
+        path.push('a')?;
+    }
+    Ok(path)
+}
+
+fn create_of(alloc: Global, words: &mut Words<'_>) -> Result<OpKind, AllocError> {
+    let persist = words.says("persist");
+    let path = path_in(alloc, words)?;
+    Ok(OpKind::Create {
+        path,
+        access: 3,
+        share: 7,
+        disposition: 3,
+        persist,
+        directory: false,
+    })
+}
+
+fn write_of(alloc: Global, words: &mut Words<'_>) -> Result<OpKind, AllocError> {
+    let create = words.small();
+    let at = words.number();
+    let bytes = vec![in alloc; 0u8; words.small() as usize]?;
+    Ok(OpKind::Write {
+        create,
+        at,
+        bytes: Bytes::from_vec(bytes),
+    })
+}
+
+fn rename_of(alloc: Global, words: &mut Words<'_>) -> Result<OpKind, AllocError> {
+    let create = words.small();
+    let path = path_in(alloc, words)?;
+    Ok(OpKind::Rename { create, path })
+}
+
+// An operation that owns nothing.
+fn operation_of(kind: &str, words: &mut Words<'_>) -> Result<OpKind, Fault> {
+    let create = words.small();
+    match kind {
+        "read" => Ok(OpKind::Read {
+            create,
+            at: words.number(),
+            length: words.small(),
+        }),
+        "lock" => Ok(OpKind::Lock {
+            create,
+            at: words.number(),
+            length: words.number(),
+            exclusive: words.says("exclusive"),
+        }),
+        "unlock" => Ok(OpKind::Unlock {
+            create,
+            at: words.number(),
+            length: words.number(),
+        }),
+        "end" => Ok(OpKind::SetEnd {
+            create,
+            length: words.number(),
+        }),
+        "time" => Ok(OpKind::SetTime {
+            create,
+            time: words.number(),
+        }),
+        "remove" => Ok(OpKind::Remove { create }),
+        "flush" => Ok(OpKind::Flush { create }),
+        "stat" => Ok(OpKind::Stat { create }),
+        "list" => Ok(OpKind::List { create }),
+        "close" => Ok(OpKind::Close { create }),
+        _ => Err(Fault::Other("an unknown operation")),
     }
 }

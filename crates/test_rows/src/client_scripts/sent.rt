@@ -1,10 +1,11 @@
 // What goes out at a push, as its request has it.
-use crate::client_scripts::plays::{Fault, Plays, kept};
+use crate::client_scripts::played::Plays;
+use crate::words::{Fault, kept};
 use client_events::Act;
 use client_steps::Head;
 use std::alloc::{AllocError, Global};
 use std::fmt::Write;
-use wire_commands::{Command, CreateRequest};
+use wire_commands::Command;
 
 /// The random bytes of a run, of which no row tells.
 const SALT: u64 = 7;
@@ -17,28 +18,13 @@ pub fn push_sent<P: Plays>(
     act: Act,
 ) -> Result<(), Fault> {
     match act {
-        Act::Sends(index) => sends(said, alloc, played, index),
-        Act::Asks(index) => asks(said, alloc, played, index),
+        Act::Sends(index) => push_request(said, alloc, played, index, false),
+        Act::Asks(index) => push_request(said, alloc, played, index, true),
         Act::Nothing => kept(said.push_str("nothing")),
         Act::CloseChannels => kept(said.push_str("closes all")),
         Act::AllSettled => kept(said.push_str("done")),
-        Act::CloseChannel => Err(Fault::Refused),
+        Act::CloseChannel => Err(Fault::Other("a push closes a channel")),
     }
-}
-
-fn sends<P: Plays>(
-    said: &mut String,
-    alloc: Global,
-    played: &P,
-    index: usize,
-) -> Result<(), Fault> {
-    write!(said, "sends {index}")?;
-    push_request(said, alloc, played, index, false)
-}
-
-fn asks<P: Plays>(said: &mut String, alloc: Global, played: &P, index: usize) -> Result<(), Fault> {
-    write!(said, "asks {index}")?;
-    push_request(said, alloc, played, index, true)
 }
 
 fn push_request<P: Plays>(
@@ -48,6 +34,8 @@ fn push_request<P: Plays>(
     index: usize,
     asking: bool,
 ) -> Result<(), Fault> {
+    let word = if asking { "asks" } else { "sends" };
+    write!(said, "{word} {index}")?;
     let head = played.head_at(index, asking)?;
     push_command(said, alloc, played, index, asking, head)?;
     kept(said.push_str(if head.replay { " replay" } else { "" }))
@@ -65,10 +53,13 @@ fn push_command<P: Plays>(
     kept(push_named(said, &command, head))
 }
 
-/// The FileId that a request names, the ChannelSequence, and the lock slot.
+// The FileId that a request names, the ChannelSequence, and the lock slot. A create names no open; a request to attach one does.
 fn push_named(said: &mut String, command: &Command<'_>, head: Head) -> Result<(), AllocError> {
     match command {
-        Command::Create(request) => push_create(said, request, head),
+        Command::Create(request) => match &request.reconnect {
+            Some(reconnect) => push_file(said, reconnect.file, head),
+            None => write!(said, " sequence {}", head.sequence),
+        },
         Command::Write { file, .. }
         | Command::Read { file, .. }
         | Command::SetInfo { file, .. }
@@ -92,12 +83,4 @@ fn push_named(said: &mut String, command: &Command<'_>, head: Head) -> Result<()
 
 fn push_file(said: &mut String, file: u64, head: Head) -> Result<(), AllocError> {
     write!(said, " file {file} sequence {}", head.sequence)
-}
-
-/// A create names no open; a request to attach one does.
-fn push_create(said: &mut String, request: &CreateRequest, head: Head) -> Result<(), AllocError> {
-    match &request.reconnect {
-        Some(reconnect) => push_file(said, reconnect.file, head),
-        None => write!(said, " sequence {}", head.sequence),
-    }
 }

@@ -1,92 +1,99 @@
 // Calls of a journal, by the words of a row, with `; ` between them: `append BYTES`, `epoch BYTES` where the body is one of an epoch,
 // `reserve LENGTH`, `next`, `bodies`.
-use anyhow::{Result, bail};
+use crate::words::{Fault, Words, push_digits};
 use base_outside::Disk;
-use journal::{BytesList, Journal, JournalError};
-use std::alloc::Global;
-use test_tables::{bytes_of, digits_of};
+use journal::{Journal, JournalError};
+use std::alloc::{AllocError, Global};
+use std::fmt::Write;
 
-fn refusal(alloc: Global, error: &JournalError) -> Result<String> {
-    Ok(format!(in alloc; "{error:?}")?)
-}
-
-// All of them, one behind the other.
-fn joined(alloc: Global, list: &BytesList) -> Result<String> {
-    let mut said = String::new(alloc);
-    for body in list.as_slice() {
-        if !said.is_empty() {
-            said.push(',')?;
-        }
-        said.push_str(&digits_of(alloc, body.as_slice())?)?;
-    }
-    if said.is_empty() {
-        said.push_str("none")?;
-    }
-    Ok(said)
-}
-
-fn appended<D: Disk>(
-    alloc: Global,
-    journal: &mut Journal<D>,
-    body: &[u8],
-    epoch: bool,
-) -> Result<String> {
-    match journal.append(body, epoch) {
-        Ok(number) => Ok(format!(in alloc; "{number}")?),
-        Err(error) => refusal(alloc, &error),
-    }
-}
-
-fn reserved<D: Disk>(alloc: Global, journal: &mut Journal<D>, length: u32) -> Result<String> {
-    match journal.reserve(length, false) {
-        Ok(()) => Ok(String::from_str(alloc, "room")?),
-        Err(error) => refusal(alloc, &error),
-    }
-}
-
-fn next<D: Disk>(alloc: Global, journal: &mut Journal<D>) -> Result<String> {
-    match journal.next_body() {
-        Ok(Some(body)) => digits_of(alloc, body.as_slice()),
-        Ok(None) => Ok(String::from_str(alloc, "none")?),
-        Err(error) => refusal(alloc, &error),
-    }
-}
-
-fn bodies<D: Disk>(alloc: Global, journal: &mut Journal<D>) -> Result<String> {
-    match journal.bodies() {
-        Ok(list) => joined(alloc, &list),
-        Err(error) => refusal(alloc, &error),
-    }
-}
-
-fn answered<D: Disk>(alloc: Global, journal: &mut Journal<D>, call: &str) -> Result<String> {
-    let (word, rest) = call.split_once(' ').unwrap_or((call, "-"));
-    match word {
-        "append" => appended(alloc, journal, &bytes_of(alloc, rest)?, false),
-        "epoch" => appended(alloc, journal, &bytes_of(alloc, rest)?, true),
-        "reserve" => reserved(alloc, journal, rest.parse::<u32>()?),
-        "next" => next(alloc, journal),
-        "bodies" => bodies(alloc, journal),
-        _ => bail!("an unknown call"),
-    }
-}
-
-/// What is answered to the calls, or why there is no journal.
-pub fn said_by<D: Disk + Drop>(
+/// Puts what is answered to the calls, or why there is no journal.
+pub fn push_calls<D: Disk + Drop>(
+    said: &mut String,
     alloc: Global,
     opened: Result<Journal<D>, JournalError>,
     calls: &str,
-) -> Result<String> {
-    let mut journal = match opened {
-        Ok(journal) => journal,
-        Err(error) => return refusal(alloc, &error),
-    };
-    let mut said = String::new(alloc);
+) -> Result<(), Fault> {
+    match opened {
+        Ok(mut journal) => push_each(said, alloc, &mut journal, calls),
+        Err(error) => Ok(push_refusal(said, error)?),
+    }
+}
+
+fn push_refusal(said: &mut String, error: JournalError) -> Result<(), AllocError> {
+    write!(said, "{error:?}")
+}
+
+fn push_each<D: Disk>(
+    said: &mut String,
+    alloc: Global,
+    journal: &mut Journal<D>,
+    calls: &str,
+) -> Result<(), Fault> {
+    let mut is_first = true;
     for call in calls.split("; ") {
-        if !said.is_empty() {
+        if !is_first {
             said.push_str("; ")?;
         }
-        said.push_str(&answered(alloc, &mut journal, call)?)?;
+        push_call(said, alloc, journal, call)?;
+        is_first = false;
     }
-    Ok(said)
+    Ok(())
+}
+
+fn push_call<D: Disk>(
+    said: &mut String,
+    alloc: Global,
+    journal: &mut Journal<D>,
+    call: &str,
+) -> Result<(), Fault> {
+    let mut words = Words::new(call);
+    match words.next() {
+        "append" => push_appended(said, journal, words.bytes(alloc)?.as_slice(), false),
+        "epoch" => push_appended(said, journal, words.bytes(alloc)?.as_slice(), true),
+        "reserve" => match journal.reserve(words.small(), false) {
+            Ok(()) => Ok(said.push_str("room")?),
+            Err(error) => Ok(push_refusal(said, error)?),
+        },
+        "next" => Ok(push_next(said, journal)?),
+        "bodies" => Ok(push_bodies(said, journal)?),
+        _ => Err(Fault::Other("an unknown call")),
+    }
+}
+
+fn push_appended<D: Disk>(
+    said: &mut String,
+    journal: &mut Journal<D>,
+    body: &[u8],
+    epoch: bool,
+) -> Result<(), Fault> {
+    match journal.append(body, epoch) {
+        Ok(number) => Ok(write!(said, "{number}")?),
+        Err(error) => Ok(push_refusal(said, error)?),
+    }
+}
+
+fn push_next<D: Disk>(said: &mut String, journal: &mut Journal<D>) -> Result<(), AllocError> {
+    match journal.next_body() {
+        Ok(Some(body)) => push_digits(said, body.as_slice()),
+        Ok(None) => said.push_str("none"),
+        Err(error) => push_refusal(said, error),
+    }
+}
+
+// All of them, one behind the other.
+fn push_bodies<D: Disk>(said: &mut String, journal: &mut Journal<D>) -> Result<(), AllocError> {
+    let list = match journal.bodies() {
+        Ok(list) => list,
+        Err(error) => return push_refusal(said, error),
+    };
+    if list.as_slice().is_empty() {
+        return said.push_str("none");
+    }
+    let mut between = "";
+    for body in list.as_slice() {
+        said.push_str(between)?;
+        push_digits(said, body.as_slice())?;
+        between = ",";
+    }
+    Ok(())
 }
