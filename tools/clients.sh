@@ -144,7 +144,7 @@ has_impacket=; /usr/bin/python3 -c 'import impacket' 2> /dev/null && has_impacke
 users='user user Password\nuser other Second\n'
 for kind in sealed signed; do
   folder=$kind
-  if [ $kind = sealed ]; then settings="$users"; protection=(); else settings="cipher none\n$users"; protection=(--client-protection=sign); fi
+  if [ $kind = sealed ]; then settings="peers 256\n$users"; protection=(); else settings="cipher none\npeers 256\n$users"; protection=(--client-protection=sign); fi
   begin "$folder" "$settings"
   [ -n "$has_smbclient" ] && with_smbclient
   [ -n "$has_impacket" ] && { [ $kind = sealed ] && with_impacket seal || with_impacket sign; }
