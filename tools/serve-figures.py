@@ -116,7 +116,7 @@ class Ours(Server):
 
     def begin(self):
         cipher = "" if self.sealed else "cipher none\n"
-        self.start([*self.words, f"{HOST}:{PORT}"], f"{cipher}user {USER} {PASSWORD}\nshare {SHARE}\n")
+        self.start([*self.words, f"{HOST}:{PORT}"], f"{cipher}user {USER} {PASSWORD}\nshare {SHARE}\npeers 256\n")
 
 
 class Samba(Server):
