@@ -152,7 +152,7 @@ def server_info():
 
 
 def challenge_of(first_flags):
-    flags = 0x00820204 | first_flags & (1 | 0x10 | 0x80000 | 0x20000000 | 0x40000000)
+    flags = 0x00820204 | first_flags & (1 | 0x10 | 0x20 | 0x8000 | 0x80000 | 0x20000000 | 0x40000000)
     return f.type2(flags, CHALLENGE, utf16("SMB311"), pairs(*server_info()))
 
 

@@ -50,7 +50,7 @@ pub struct Logon {
 fn flags_for(flags: u32) -> u32
     ensures { result ≡ challenge_flags flags }
 {
-    0x0082_0204 | flags & 0x6008_0011
+    0x0082_0204 | flags & 0x6008_8031
 }
 
 fn put_pair(out: &mut FixedOut<80>, id: u16, value: &[u8])

@@ -27,8 +27,8 @@ none_if false x h = h
 
 flags_fit : (flags : ℕ) → challenge_flags flags < 256 ^ 4
 flags_fit flags =
-    let low : bit_and flags 0x6008_0011 < 2 ^ 32 = (let h = and_le_r flags 0x6008_0011 in omega arith) in
-    let all = or_of_32 0x0082_0204 (bit_and flags 0x6008_0011) (omega arith) low in
+    let low : bit_and flags 0x6008_8031 < 2 ^ 32 = (let h = and_le_r flags 0x6008_8031 in omega arith) in
+    let all = or_of_32 0x0082_0204 (bit_and flags 0x6008_8031) (omega arith) low in
     omega arith
 
 writable2 : (v : Type2Value) → v.flags < 256 ^ 4 → length v.challenge ≡ 8 → length v.target_name < 256 ^ 2 → length

@@ -14,10 +14,10 @@ use Rattle.spec_crypto.specs.tokens.Formulas.{utf16, upper, ntowf_in, proof, bas
 
 -- ---- the challenge
 
--- request target 4, NTLM 0x200, target is a server 0x20000, target info 0x800000; and of type 1's flags UNICODE 1, sign 0x10, extended
--- session security 0x80000, 128 bits 0x20000000 and key exchange 0x40000000
+-- request target 4, NTLM 0x200, target is a server 0x20000, target info 0x800000; and of type 1's flags UNICODE 1, sign 0x10, seal 0x20,
+-- always sign 0x8000, extended session security 0x80000, 128 bits 0x20000000 and key exchange 0x40000000 (2.2.2.5)
 abbrev pub challenge_flags : ℕ → ℕ
-challenge_flags flags = bit_or 0x0082_0204 (bit_and flags 0x6008_0011)
+challenge_flags flags = bit_or 0x0082_0204 (bit_and flags 0x6008_8031)
 
 -- `SMB311` and `smb311` in UTF-16
 abbrev pub large_name : List ℕ
