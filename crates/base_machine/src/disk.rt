@@ -1,5 +1,5 @@
 // The edge to the files of the standard library.
-ghost use Rattle.std.specs.Prelude.{◌≡◌, []};
+ghost use Rattle.std.specs.Prelude.{[]};
 ghost use Rattle.base_outside.specs.streams.Faults.{CountsFault};
 
 use base_outside::{Disk, Failed};

@@ -3,7 +3,7 @@ ghost use Rattle.std.specs.Prelude.{◌≡◌, ◌≤◌, [], length, IfOk};
 ghost use Rattle.base_outside.specs.streams.Faults.{CountsFault};
 
 use crate::log_lines::Stamped;
-use crate::shared::{Fill, Shared, Store, fill_of};
+use crate::shared::{Shared, Store, fill_of};
 use base_outside::{Disk, Failed};
 use log::{error, warn};
 use std::alloc::Global;
@@ -145,14 +145,6 @@ fn shorten<R: Files<File = File>>(
     Ok(is_kept)
 }
 
-fn word_of(fill: Fill) -> &'static str {
-    match fill {
-        Fill::Below => "less than three quarters",
-        Fill::ThreeQuarters => "three quarters",
-        Fill::NineTenths => "nine tenths",
-    }
-}
-
 impl<'a, W: Wait + Clock + Eprint, R: Files<File = File>> JournalFile<'a, W, R> {
     ghost use Rattle.std.specs.Prelude.{◌≡◌};
     ghost use Rattle.base_outside.specs.streams.Faults.{CountsFault};
@@ -241,7 +233,7 @@ impl<'a, W: Wait + Clock + Eprint, R: Files<File = File>> JournalFile<'a, W, R> 
         let fill = fill_of(end, MOST);
         if let Some(fill) = self.shared.filled(self.rt, Store::Journal, fill) {
             let log = self.log();
-            warn!(log; "{NAME} has {} of {MOST} bytes", word_of(fill));
+            warn!(log; "{NAME} has {} of {MOST} bytes", fill.word());
         }
     }
 

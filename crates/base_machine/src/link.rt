@@ -4,7 +4,7 @@ ghost use Rattle.base_outside.specs.network.Link.{untold};
 
 use crate::log_lines::Stamped;
 use crate::options::keep_alive;
-use crate::shared::{Fill, Shared, Store, fill_of};
+use crate::shared::{Shared, Store, fill_of};
 use base_outside::{Failed, Link, News, SentName, Standing, is_end};
 use log::{info, warn};
 use std::alloc::{AllocError, Global};
@@ -51,14 +51,6 @@ fn shown(alloc: Global, name: &SentName) -> Result<String, AllocError> {
         }
     }
     Ok(text)
-}
-
-fn word_of(fill: Fill) -> &'static str {
-    match fill {
-        Fill::Below => "less than three quarters",
-        Fill::ThreeQuarters => "three quarters",
-        Fill::NineTenths => "nine tenths",
-    }
 }
 
 // One read, again where a signal came between.
@@ -141,28 +133,35 @@ impl<'a, W: Wait + Clock + Eprint> StdLink<'a, W> {
         }
     }
 
-    // How long the next read may wait: without end where the connection holds an open, and no time where it had its time.
-    fn patience(&self, watched: &Watched) -> Option<Duration> {
+    // How long the next read may wait: no time where a connection without a session had its time.
+    fn patience(&self, watched: &Watched) -> Duration {
         let watch = self.shared.watch(self.rt);
-        if watched.standing.has_opens {
-            return None;
-        }
-        if watched.standing.has_session {
-            return Some(Duration::from_secs(u64::from(watch.idle)));
+        if watched.standing.session.is_some() {
+            return Duration::from_secs(u64::from(watch.idle));
         }
         let whole = Duration::from_secs(u64::from(watch.logon));
         match watched.accepted {
             Some(accepted) => match accepted.elapsed(self.rt) {
-                Ok(past) => Some(whole.saturating_sub(past)),
-                Err(_) => Some(whole),
+                Ok(past) => whole.saturating_sub(past),
+                Err(_) => whole,
             },
-            None => Some(whole),
+            None => whole,
+        }
+    }
+
+    // Whether a read that came to nothing in its time is begun anew: a session may come to have an open, or to have none any more, while
+    // another of its channels is silent, so that is asked each time.
+    fn goes_on(&self, error: &io::Error) -> bool {
+        let is_late = matches!(error.kind(), ErrorKind::WouldBlock | ErrorKind::TimedOut);
+        match &self.watched {
+            Some(watched) => is_late && self.shared.has_opens(self.rt, watched.number),
+            None => false,
         }
     }
 
     // A peer whose logons were refused too often waits before it is heard.
     fn delay(&self, watched: &Watched) {
-        if watched.standing.has_session {
+        if watched.standing.session.is_some() {
             return;
         }
         if let Ok(now) = Instant::now(self.rt) {
@@ -180,10 +179,10 @@ impl<'a, W: Wait + Clock + Eprint> StdLink<'a, W> {
             }
             self.delay(watched);
             let patience = self.patience(watched);
-            if patience == Some(Duration::ZERO) {
+            if patience == Duration::ZERO {
                 return Err(io::Error::from(ErrorKind::TimedOut));
             }
-            self.stream.set_read_timeout(patience)?;
+            self.stream.set_read_timeout(Some(patience))?;
         }
         Ok(())
     }
@@ -191,8 +190,18 @@ impl<'a, W: Wait + Clock + Eprint> StdLink<'a, W> {
     fn received(&self, into: &mut [u8]) -> io::Result<usize>
         ensures { IfOk result (λ count. count ≤ length into.new) }
     {
-        self.ready()?;
-        read_from(&self.stream, into)
+        for _ in self.rt.forever() {
+            self.ready()?;
+            match read_from(&self.stream, into) {
+                Ok(count) => return Ok(count),
+                Err(error) => {
+                    if !self.goes_on(&error) {
+                        return Err(error);
+                    }
+                }
+            }
+        }
+        unreachable!()
     }
 
     // Prints what is new, if it can be printed.
@@ -233,7 +242,7 @@ impl<'a, W: Wait + Clock + Eprint> StdLink<'a, W> {
             let fill = fill_of(standing.used, standing.room);
             if let Some(fill) = self.shared.filled(self.rt, Store::Room, fill) {
                 let log = Stamped::new(self.rt, self.shared.watch(self.rt).printed);
-                warn!(log; "the files have {} of their room of {} bytes", word_of(fill), standing.room);
+                warn!(log; "the files have {} of their room of {} bytes", fill.word(), standing.room);
             }
         }
     }
@@ -242,9 +251,8 @@ impl<'a, W: Wait + Clock + Eprint> StdLink<'a, W> {
     fn heard(&self, watched: &Watched, standing: &Standing, news: &News) -> Watched {
         self.tell(watched, news);
         self.tell_room(standing);
-        if watched.standing.has_session != standing.has_session {
-            self.shared
-                .stands(self.rt, watched.number, standing.has_session);
+        if standing.session.is_some() || watched.standing.session.is_some() {
+            self.shared.stands(self.rt, watched.number, standing);
         }
         let mut next = *watched;
         next.standing = *standing;

@@ -1,6 +1,5 @@
 // The edge to the standard library's network.
-ghost use Rattle.std.specs.Prelude.{◌≡◌, false, IfOk, IfSome};
-ghost use Rattle.base_outside.specs.streams.Faults.{CountsFault};
+ghost use Rattle.std.specs.Prelude.{◌≡◌, false, IfSome};
 
 use crate::link::StdLink;
 use crate::log_lines::Stamped;

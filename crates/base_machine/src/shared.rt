@@ -1,7 +1,7 @@
 //! What a net, its links and the journal's file know of each other while a server serves: how to watch, which links are served, who was
 //! refused, and whether the journal's file has failed.
 use crate::log_lines::Stamped;
-use base_outside::{Printed, Watch};
+use base_outside::{Printed, Standing, Watch};
 use log::error;
 use std::alloc::{AllocError, Global};
 use std::io::Eprint;
@@ -20,7 +20,9 @@ const MOST_REFUSED: u32 = 20;
 struct Peer {
     number: u64,
     ip: u32,
-    has_session: bool,
+    session: Option<u64>,
+    // Whether that session has an open, by what was last heard over any of its channels.
+    has_opens: bool,
     // The link's own stream, so that it can be shut from another thread.
     stream: Arc<TcpStream>,
 }
@@ -39,6 +41,16 @@ pub(crate) enum Fill {
     Below,
     ThreeQuarters,
     NineTenths,
+}
+
+impl Fill {
+    pub(crate) fn word(self) -> &'static str {
+        match self {
+            Fill::Below => "less than three quarters",
+            Fill::ThreeQuarters => "three quarters",
+            Fill::NineTenths => "nine tenths",
+        }
+    }
 }
 
 /// How full so many of so many are.
@@ -134,7 +146,8 @@ impl Shared {
         let peer = Peer {
             number,
             ip,
-            has_session: false,
+            session: None,
+            has_opens: false,
             stream,
         };
         self.state.lock(rt).peers.push(peer)?;
@@ -152,14 +165,33 @@ impl Shared {
         }
     }
 
-    /// Whether a link's connection has a session.
-    pub(crate) fn stands<W: Wait>(&self, rt: &W, number: u64, has_session: bool) {
+    /// How a link's connection stands. Whether its session has an open counts for each of the session's channels, and a session that the
+    /// connection has no more has ended, with its opens.
+    pub(crate) fn stands<W: Wait>(&self, rt: &W, number: u64, standing: &Standing) {
         let mut state = self.state.lock(rt);
+        let mut before = None;
         for peer in state.peers.iter_mut() {
             if peer.number == number {
-                peer.has_session = has_session;
+                before = peer.session;
+                peer.session = standing.session;
             }
         }
+        for peer in state.peers.iter_mut() {
+            if peer.session == standing.session {
+                peer.has_opens = standing.session.is_some() && standing.has_opens;
+            } else if peer.session == before {
+                peer.has_opens = false;
+            }
+        }
+    }
+
+    /// Whether the session of a link's connection has an open, by what was last heard over any of its channels.
+    pub(crate) fn has_opens<W: Wait>(&self, rt: &W, number: u64) -> bool {
+        let state = self.state.lock(rt);
+        state
+            .peers
+            .iter()
+            .any(|peer| peer.number == number && peer.has_opens)
     }
 
     /// Prints why the program ends with this status, where it is one of a server that prints lines.
@@ -194,7 +226,7 @@ impl Shared {
         // Links stand in the order in which they came.
         let state = self.state.lock(rt);
         for peer in state.peers.iter() {
-            if !peer.has_session {
+            if peer.session.is_none() {
                 let _ = peer.stream.shutdown(Shutdown::Both);
                 return true;
             }

@@ -1,25 +1,33 @@
 // The edge to the standard library's writers.
-ghost use Rattle.std.specs.Prelude.{◌≡◌, None};
+ghost use Rattle.std.specs.Prelude.{None};
 
-use base_outside::{Failed, Sink};
-use std::io::Write;
+use crate::log_lines::Stamped;
+use base_outside::{Failed, Printed, Sink};
+use log::error;
+use std::io::{Eprint, Write};
+use std::time::Clock;
 
 /// A sink over a writer of the standard library. It tells nothing of the bytes: what a real
 /// terminal, pipe or file takes is trusted. A write of no byte of a piece that has some is a fault.
 #[derive(Drop)]
-pub struct StdSink<W> {
+pub struct StdSink<'a, R: Clock + Eprint, W> {
+    rt: &'a R,
     writer: W,
     faults: u64,
 }
 
-impl<W: Write> StdSink<W> {
+impl<'a, R: Clock + Eprint, W: Write> StdSink<'a, R, W> {
     /// A sink that has not failed yet.
-    pub fn new(writer: W) -> StdSink<W> {
-        StdSink { writer, faults: 0 }
+    pub fn new(rt: &'a R, writer: W) -> StdSink<'a, R, W> {
+        StdSink {
+            rt,
+            writer,
+            faults: 0,
+        }
     }
 }
 
-impl<W: Write> Sink for StdSink<W> {
+impl<'a, R: Clock + Eprint, W: Write> Sink for StdSink<'a, R, W> {
     ghost written = { λ _. None };
 
     ghost faults = { λ s. s.faults };
@@ -35,5 +43,10 @@ impl<W: Write> Sink for StdSink<W> {
                 Err(Failed)
             }
         }
+    }
+
+    fn explain(&mut self, printed: Printed, refusal: &str) {
+        let log = Stamped::new(self.rt, printed);
+        error!(log; "the settings are refused: {}", refusal.trim_end());
     }
 }

@@ -1,5 +1,5 @@
 // The edge to the standard library's readers.
-ghost use Rattle.std.specs.Prelude.{◌≡◌, None};
+ghost use Rattle.std.specs.Prelude.{None};
 
 use base_outside::{Failed, Source};
 use std::io::Read;

@@ -6,7 +6,7 @@ ghost use Rattle.serve_command.specs.Printing.{PrintsIfRoom, journal_line};
 ghost use Rattle.serve_command.specs.declared.ending.Ending.TheVariants.{NoJournal};
 
 use crate::ending::Ending;
-use crate::server_settings::{Said, Setup, config_in, settings_line};
+use crate::server_settings::{Said, Setup, config_in, printed_by, settings_line};
 use base_outside::{Failed, ReadError, Sink, Source, read_script, write_all};
 use journal::JournalError;
 use script_words::Fault;
@@ -38,10 +38,13 @@ fn taken<O: Sink>(alloc: Global, said: &Said, text: &[u8], sink: &mut O) -> Resu
         Ok(setup) => Ok(setup),
         Err(Fault::Memory) => Err(Ending::Memory),
         Err(Fault::Refused(refusal)) => match settings_line(alloc, &refusal) {
-            Ok(line) => match write_all(sink, line.as_bytes()) {
-                Ok(()) => Err(Ending::Settings),
-                Err(Failed) => Err(Ending::SinkFailed),
-            },
+            Ok(line) => {
+                sink.explain(printed_by(alloc, text), line.as_str());
+                match write_all(sink, line.as_bytes()) {
+                    Ok(()) => Err(Ending::Settings),
+                    Err(Failed) => Err(Ending::SinkFailed),
+                }
+            }
             Err(AllocError) => Err(Ending::Memory),
         },
     }

@@ -8,5 +8,6 @@ mod words;
 
 pub use refusal::SettingsRefusal;
 pub(crate) use refusal::settings_line;
+pub(crate) use settings::printed_by;
 pub use settings::{Setup, config_in};
 pub use words::{Bound, Said, read_words};

@@ -2,8 +2,8 @@
 use base_outside::Standing;
 use server_checks::Tables;
 
-/// Whether a session is live on a connection, whether an open is attached to that session, over whichever of its channels, and the bytes
-/// of all files with their room.
+/// The session that is live on a connection, whether an open is attached to it, over whichever of its channels, and the sum of all files'
+/// lengths with their room.
 pub(crate) fn standing_of(tables: &Tables, connection: u32) -> Standing {
     let session = tables.sessions.on(connection);
     let has_opens = match session {
@@ -11,9 +11,9 @@ pub(crate) fn standing_of(tables: &Tables, connection: u32) -> Standing {
         None => false,
     };
     Standing {
-        has_session: session.is_some(),
+        session,
         has_opens,
-        used: tables.tree.held(),
+        used: tables.tree.used(),
         room: tables.tree.room(),
     }
 }

@@ -54,7 +54,7 @@ where
     W: Wait + Threads + Sync + Net<Listener = TcpListener, Stream = TcpStream> + Clock + Eprint,
 {
     let mut source = StdSource::new(host.stdin());
-    let mut sink = StdSink::new(host.stdout());
+    let mut sink = StdSink::new(rt, host.stdout());
     let shared = Shared::new(host.alloc());
     // It opens nothing yet, so `drill`, `gen` and refused words make no file.
     let disk = JournalFile::new(rt, host, &shared);

@@ -45,7 +45,7 @@ fn readers_and_writers_of_the_library_are_adapted(rt: HostRuntime) -> Result<(),
     assert_eq!(rt; source.read(&mut into), Ok(1));
     assert_eq!(rt; into[0], b'x');
     assert_eq!(rt; source.read(&mut into), Err(Failed));
-    let mut sink = StdSink::new(Breaking { count: 1 });
+    let mut sink = StdSink::new(&rt, Breaking { count: 1 });
     assert_eq!(rt; sink.write(b"ab"), Ok(1));
     assert_eq!(rt;
         sink.write(b"b"),

@@ -6,7 +6,7 @@ use std::net::{Ipv4Addr, SocketAddr, TcpListener};
 use std::sync::Wait;
 use std::test::Fail;
 use std::thread::{self, Threads};
-use std::time::Duration;
+use std::time::{Clock as MachineClock, Duration};
 use wire_bytes::Bytes;
 
 /// Writes a word and reads the answer to it, and then the end.
@@ -109,9 +109,9 @@ fn clocks_count_from_1601(rt: HostRuntime) -> Result<(), Fail> {
     Ok(())
 }
 
-fn standing(has_session: bool, has_opens: bool) -> Standing {
+fn standing(session: Option<u64>, has_opens: bool) -> Standing {
     Standing {
-        has_session,
+        session,
         has_opens,
         used: 0,
         room: 0,
@@ -140,14 +140,14 @@ fn a_silent_peer_is_not_waited_for(rt: HostRuntime) -> Result<(), Fail> {
         link.read(&mut into).is_err(),
         "it has no session after a second"
     );
-    link.note(&standing(true, false), &News::Nothing);
+    link.note(&standing(Some(7), false), &News::Nothing);
     assert!(rt;
         link.read(&mut into).is_err(),
         "it has no open and sends nothing"
     );
     assert_eq!(rt; link.fault_count(), 2);
     drop(silent);
-    link.note(&standing(true, true), &News::Nothing);
+    link.note(&standing(Some(7), true), &News::Nothing);
     assert_eq!(rt; link.read(&mut into), Ok(0));
     let mut peer = net.connect(at)?;
     let mut refused = net.accept()?;
@@ -157,11 +157,55 @@ fn a_silent_peer_is_not_waited_for(rt: HostRuntime) -> Result<(), Fail> {
     };
     assert_eq!(rt; peer.write(b"ping"), Ok(4));
     for _ in 0..9 {
-        refused.note(&standing(false, false), &News::Refused(name));
+        refused.note(&standing(None, false), &News::Refused(name));
     }
     assert_eq!(rt; refused.read(&mut into), Ok(4));
-    refused.note(&standing(false, false), &News::Refused(name));
+    refused.note(&standing(None, false), &News::Refused(name));
     assert_eq!(rt; peer.write(b"ping"), Ok(4));
     assert!(rt; refused.read(&mut into).is_err(), "ten logons were refused");
+    Ok(())
+}
+
+/// Says nothing for longer than its channel is waited for, and then a word.
+fn speak_late<W: Wait + MachineClock, L: Link + Drop>(rt: &W, mut link: L) -> Result<L, Failed> {
+    thread::sleep(rt, Duration::from_millis(1500));
+    link.write(b"ping")?;
+    Ok(link)
+}
+
+// A silent channel is judged by what its session holds when its time is over, whichever channel told that.
+#[test]
+fn a_silent_channel_stays_while_its_session_holds_an_open(rt: HostRuntime) -> Result<(), Fail> {
+    let loopback = SocketAddr::new(Ipv4Addr::LOCALHOST.into(), 0);
+    let port = TcpListener::bind(&rt, loopback)?.local_addr()?.port();
+    let at = Address { ip: AT.ip, port };
+    let shared = Shared::new(rt.alloc());
+    let mut net = StdNet::new(&rt, &shared);
+    net.watch(&Watch {
+        printed: Printed::Nothing,
+        logon: 1,
+        idle: 1,
+        peers: 4,
+    });
+    assert_eq!(rt; net.listen(at), Ok(()));
+    let silent = net.connect(at)?;
+    let mut first = net.accept()?;
+    let _busy = net.connect(at)?;
+    let mut second = net.accept()?;
+    first.note(&standing(Some(7), false), &News::Nothing);
+    second.note(&standing(Some(7), true), &News::Nothing);
+    let mut into = [0u8; 4];
+    let (read, said) = thread::join(&rt, || first.read(&mut into), || speak_late(&rt, silent));
+    assert_eq!(rt; read, Ok(4));
+    let _silent = said?;
+    second.note(&standing(Some(7), false), &News::Nothing);
+    assert!(rt;
+        first.read(&mut into).is_err(),
+        "the open was closed over the other channel"
+    );
+    first.note(&standing(Some(7), true), &News::Nothing);
+    second.note(&standing(None, false), &News::Nothing);
+    assert!(rt; first.read(&mut into).is_err(), "the session has ended");
+    assert_eq!(rt; first.fault_count(), 2);
     Ok(())
 }

@@ -26,10 +26,11 @@ pub enum News {
 /// What a connection has at the server behind its last frame.
 #[derive(Clone, Copy)]
 pub struct Standing {
-    pub has_session: bool,
+    /// The session's id (MS-SMB2 3.3.1.8), where there is one.
+    pub session: Option<u64>,
     /// An open of that session stands, made over whichever of its channels.
     pub has_opens: bool,
-    /// How many bytes all files have, and how many they may have.
+    /// The sum of all files' lengths, and how many bytes it may come to.
     pub used: u64,
     pub room: u64,
 }
@@ -38,7 +39,7 @@ impl Standing {
     /// That of a connection that was just accepted, or has ended.
     pub fn nothing() -> Standing {
         Standing {
-            has_session: false,
+            session: None,
             has_opens: false,
             used: 0,
             room: 0,

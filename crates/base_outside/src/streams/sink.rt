@@ -1,8 +1,9 @@
 // Where bytes go.
-ghost use Rattle.std.specs.Prelude.{ℕ, ◌<◌, ◌≤◌, List, Option, length, IfOk};
+ghost use Rattle.std.specs.Prelude.{◌≡◌, ℕ, ◌<◌, ◌≤◌, List, Option, length, IfOk};
 ghost use Rattle.std.specs.Io.KnownBytes.{WriteAppends};
 ghost use Rattle.base_outside.specs.streams.Faults.{CountsFault};
 
+use crate::network::Printed;
 use crate::streams::Failed;
 
 /// A sink of bytes, as a file or the standard output.
@@ -20,4 +21,11 @@ pub trait Sink {
         ensures progress { IfOk result (λ count. 0 < length from.now → 0 < count) }
         ensures bytes { WriteAppends (written self.old) (written self.new) result from.now }
         ensures cause { CountsFault (faults self.old) (faults self.new) result };
+
+    /// Hears which line of the settings is refused, and which lines of a log these settings ask for, so that it may also be told where the
+    /// log is read. It takes no byte and does not fail.
+    fn explain(&mut self, _printed: Printed, _refusal: &str)
+        ensures bytes { written self.new ≡ written self.old }
+        ensures calm { faults self.new ≡ faults self.old }
+    {}
 }

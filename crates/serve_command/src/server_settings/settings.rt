@@ -8,7 +8,7 @@ ghost use Rattle.serve_command.specs.server_settings.Settings as settings;
 use crate::server_settings::marking::{line_count, mark};
 use crate::server_settings::own::watch_of;
 use crate::server_settings::refusal::SettingsRefusal;
-use base_outside::{Address, Watch};
+use base_outside::{Address, Printed, Watch};
 use crypto_sessions::Users;
 use script_words::text_lines::script;
 use script_words::{Cipher, Command, Fault, Given, User, with_defaults};
@@ -111,4 +111,12 @@ pub fn config_in(alloc: Global, text: &[u8], at: Address) -> Result<Setup, Fault
     let config = config_of(alloc, given, at)?;
     let watch = watch_of(&marked.own);
     Ok(Setup { config, watch })
+}
+
+/// Which lines of a log a text of settings asks for, also where a line of it is refused; nothing where memory runs out.
+pub(crate) fn printed_by(alloc: Global, text: &[u8]) -> Printed {
+    match mark(alloc, text) {
+        Ok(marked) => watch_of(&marked.own).printed,
+        Err(_) => Printed::Nothing,
+    }
 }
