@@ -3,7 +3,9 @@ pub mod Mishaps
 pub mod Trees
 pub mod Bound
 pub mod Owed
+pub mod Probes
 pub mod Replies
 pub mod Others
 pub mod Greetings
 pub mod Requests
+pub mod Opened

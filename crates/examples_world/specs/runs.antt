@@ -3,3 +3,4 @@ pub mod Events
 pub mod Keyed
 pub mod Worked
 pub mod Meeting
+pub mod Opened

@@ -24,8 +24,9 @@ pub use connections::{
     session_flags_example, session_id_example, turn_example,
 };
 pub use runs::{
-    binding_example, cancel_example, given_example, id_taken_twice_example, no_credit_example,
-    no_memory_example, no_mishap_example, related_messages_example, related_session_example,
+    binding_example, cancel_example, first_related_example, given_example, id_taken_twice_example,
+    made_and_closed_example, no_credit_example, no_memory_example, no_mishap_example,
+    refused_create_example, related_messages_example, related_session_example,
     sealed_reply_example, sealing_owed_example, setups_example, short_request_example,
     signed_reply_example, stopped_example, two_echoes_example, worked_create_example,
     worked_greeting_example, worked_setup_example, worked_tree_example,

@@ -2,21 +2,24 @@
 //! found no memory or a server that stopped, what is signed, sealed and bound, and a dialog without credits; and a worked
 //! logon, the bytes of which another implementation makes.
 
-ghost use Rattle.std.specs.Prelude.{◌≡◌, ℕ, [], ◌∷◌, ◌++◌, true, false, Some, None, replicate, length};
+ghost use Rattle.std.specs.Prelude.{◌≡◌, ℕ, [], ◌∷◌, ◌++◌, true, false, Some, None, Err, replicate, length};
 ghost use Rattle.spec_wire.specs.credits.Ids.{ids_from};
 ghost use Rattle.spec_exchange.specs.Client.{SaidFirst, SaidSecond, AskedTree};
-ghost use Rattle.spec_exchange.specs.Commands.{TreeConnect};
+ghost use Rattle.spec_exchange.specs.Commands.{Setup, TreeConnect};
+ghost use Rattle.spec_exchange.specs.Fold.{nothing_yet};
 ghost use Rattle.spec_exchange.specs.Operations.{BadToken};
 ghost use Rattle.spec_crypto.specs.tokens.Tokens.{first_token};
-ghost use Rattle.spec_world.specs.Ends.{OutsideWindow, Stopped};
+ghost use Rattle.spec_world.specs.Ends.{BadFrame, OutsideWindow, Stopped};
+ghost use Rattle.spec_world.specs.Hearing.{is_encrypted, is_too_long, opened_by, text_of};
 ghost use Rattle.spec_world.specs.Related.{file_named};
 ghost use Rattle.spec_world.specs.Dialog.{pays_next};
-ghost use Rattle.spec_world.specs.Logon.{Interim, signer_of, final_keys};
+ghost use Rattle.spec_world.specs.Logon.{Interim, signer_of, final_keys, staying_signer};
 ghost use Rattle.spec_world.specs.Sending.{greeting_text, setup_text, request_text};
-ghost use Rattle.examples_world.specs.runs.Ends.{greeted_end, frame_step, echo, cancel, two_echoes, related_echoes};
-ghost use Rattle.examples_world.specs.runs.Ends.{statuses_of, go_through};
+ghost use Rattle.examples_world.specs.runs.Ends.{greeted_end, frame_step, echo, probe, cancel, two_echoes, related_echoes, statuses_of, go_through, related_probe, first_echo, echo_and_probe};
+ghost use Rattle.examples_world.specs.runs.Opened.{on_a_tree, made_and_closed, refused_and_closed, refused_and_apart};
 ghost use Rattle.examples_world.specs.runs.Keyed.{go_in_session, two_trees, keyed_end, signed_echo, signed_reply};
 ghost use Rattle.examples_world.specs.runs.Keyed.{sealed_echo, sealed_reply, keyed_logons, binding, bound_second};
+ghost use Rattle.examples_world.specs.runs.Keyed.{probe_reply, flagged_transform, unsigned_refusal, bound_request, refused_by};
 ghost use Rattle.examples_world.specs.runs.Events.{two_disconnects, with_mishaps, lacks, halts, setup_behind, penniless};
 ghost use Rattle.examples_world.specs.runs.Events.{granting, fault_at};
 ghost use Rattle.examples_world.specs.runs.Meeting.{client_of_logon, first_id, sent, dialog_sent, create_asked};
@@ -45,10 +48,30 @@ pub fn cancel_example()
     ensures held { (frame_step greeted_end (cancel 1)).server_end.window.held ≡ ids_from 1 8 }
 {}
 
-/// A related message fails with the status of the one before it, and goes its way where that is success.
+/// A related message goes its way whatever the status of the one before it, if it names no open.
 pub fn related_messages_example()
     ensures goes { statuses_of (go_through (related_echoes None)).replies ≡ 0 ∷ 0 ∷ [] }
-    ensures fails { statuses_of (go_through (related_echoes (Some 0xc000_0022))).replies ≡ 0xc000_0022 ∷ 0xc000_0022 ∷ [] }
+    ensures fails { statuses_of (go_through (related_echoes (Some 0xc000_0022))).replies ≡ 0xc000_0022 ∷ 0 ∷ [] }
+{}
+
+/// A file is made, asked for what isn't known and closed in one frame: the CLOSE acts behind the failure.
+pub fn made_and_closed_example()
+    ensures statuses { statuses_of (on_a_tree made_and_closed).replies ≡ 0 ∷ 0xc000_0003 ∷ 0 ∷ [] }
+    ensures opens { (on_a_tree made_and_closed).server.opens ≡ [] }
+{}
+
+/// A CLOSE behind a CREATE that failed fails with its status, also where an ECHO stands between them. Behind a message
+/// that isn't related the CREATE is forgotten: an open of zeros is none (FILE_CLOSED).
+pub fn refused_create_example()
+    ensures related { statuses_of (on_a_tree refused_and_closed).replies ≡ 0xc000_0022 ∷ 0 ∷ 0xc000_0022 ∷ [] }
+    ensures apart { statuses_of (on_a_tree refused_and_apart).replies ≡ 0xc000_0022 ∷ 0xc000_0128 ∷ 0xc000_0128 ∷ [] }
+{}
+
+/// The related flag on a frame's first message breaks its form; what isn't signed as owed is refused before.
+pub fn first_related_example()
+    ensures plain { statuses_of (go_through (first_echo 0 None)).replies ≡ 0 ∷ [] }
+    ensures related { statuses_of (go_through (first_echo 4 None)).replies ≡ 0xc000_000d ∷ [] }
+    ensures refused { statuses_of (go_through (first_echo 4 (Some 0xc000_0022))).replies ≡ 0xc000_0022 ∷ [] }
 {}
 
 /// Without a mishap the frame's step is the connection's own.
@@ -112,9 +135,52 @@ pub fn sealing_owed_example()
     ensures not_owed { (frame_step (keyed_end false) signed_echo).status ≡ Some 0 }
 {}
 
+/// An ECHO of no session is answered where nothing is signed or sealed, and its answer isn't signed; a related one behind it
+/// owes what its own session owes. Behind a message that isn't signed as owed it is refused.
+pub fn probe_example()
+    ensures keyless { (frame_step greeted_end (probe 1 0)).frames ≡ probe_reply ∷ [] }
+    ensures signing { (frame_step (keyed_end false) (probe 1 0)).frames ≡ probe_reply ∷ [] }
+    ensures sealing { (frame_step (keyed_end true) (probe 1 0)).frames ≡ probe_reply ∷ [] }
+    ensures related { (frame_step greeted_end related_probe).status ≡ Some 0xc000_0022 }
+    ensures barred { (frame_step greeted_end echo_and_probe).status ≡ Some 0xc000_0022 }
+{}
+
+/// A transform header of other Flags than 1 is none.
+pub fn transform_flags_example()
+    ensures none { opened_by (Some some_keys) (flagged_transform 0) ≡ None }
+    ensures two { opened_by (Some some_keys) (flagged_transform 2) ≡ None }
+    ensures one { is_encrypted (flagged_transform 1) ≡ true }
+{}
+
+/// A frame before a session has at most 66,000 bytes.
+pub fn first_frames_example()
+    ensures long { text_of None (replicate 66001 0) ≡ Err BadFrame }
+    ensures whole { is_too_long None (replicate 66000 0) ≡ false }
+    ensures later { is_too_long (Some some_keys) (replicate 66001 0) ≡ false }
+{}
+
 /// A signed request has a signed reply.
 pub fn signed_reply_example()
     ensures { (frame_step (keyed_end false) signed_echo).frames ≡ signed_reply ∷ [] }
+{}
+
+/// What isn't signed, or only signed where sealing is owed, has an answer without a signature, though the connection has keys.
+pub fn unsigned_refusal_example()
+    ensures unsigned { (frame_step (keyed_end false) (echo 1 0)).frames ≡ unsigned_refusal ∷ [] }
+    ensures unsealed { (frame_step (keyed_end true) signed_echo).frames ≡ unsigned_refusal ∷ [] }
+{}
+
+/// A refused binding is signed by the live session's key with the algorithm of this connection; not where the request isn't signed,
+/// has a wrong signature, or comes from another client. Where the session isn't live, the connection signs.
+pub fn refused_binding_example()
+    ensures other_algorithm { refused_by true true 0xc000_000d ≡ Some (record some_keys.signing { algorithm = 2 }) }
+    ensures other_user { refused_by true true 0xc000_0022 ≡ Some (record some_keys.signing { algorithm = 2 }) }
+    ensures unsigned { refused_by false false 0xc000_000d ≡ None }
+    ensures ill_signed { refused_by true false 0xc000_0022 ≡ None }
+    ensures without_the_key { refused_by true false 0xc000_000d ≡ None }
+    ensures other_client { refused_by true true 0xc000_0203 ≡ None }
+    ensures in_the_making { staying_signer nothing_yet keyed_logons (keyed_end false) binding (Setup (bound_request true true)) 0xc000_00d0
+        ≡ Some some_keys.signing }
 {}
 
 /// A sealed request has a sealed reply, which takes a nonce.

@@ -1,24 +1,23 @@
 -- What the server's end of a connection makes of one frame (MS-SMB2 3.3.5.2): a function of the frame, of this end, the server, its
 -- logons, the moment and 8 random bytes alone.
-use Rattle.std.specs.Prelude.{ℕ, ◌+◌, ◌==◌, Bool, ◌&&◌, ◌||◌, not, if◌then◌else◌, List, [], ◌∷◌, ◌++◌, length, Option}
-use Rattle.std.specs.Prelude.{Some, None, Result, Ok, Err}
-use Rattle.spec_wire.specs.messages.Bare.{bare_fault}
+use Rattle.std.specs.Prelude.{ℕ, ◌+◌, ◌==◌, Bool, false, ◌&&◌, ◌||◌, not, if◌then◌else◌, List, [], ◌∷◌, ◌++◌, length, Option}
+use Rattle.std.specs.Prelude.{Some, None, option_map, Result, Ok, Err}
 use Rattle.spec_wire.specs.messages.Error.{error_response_spelling}
-use Rattle.spec_exchange.specs.Status.{success}
-use Rattle.spec_exchange.specs.Commands.{Command, has_bit}
-use Rattle.spec_exchange.specs.State.{Server, Message, Reply, Answer}
+use Rattle.spec_exchange.specs.Status.{success, invalid_parameter}
+use Rattle.spec_exchange.specs.Commands.{Command, Unreadable, Aside, Setup, has_bit}
+use Rattle.spec_exchange.specs.State.{Server, Message, Answer}
 use Rattle.spec_exchange.specs.Network.{answer_to}
-use Rattle.spec_commands.specs.CommandOf.{Told, message_of, echo_status}
+use Rattle.spec_commands.specs.CommandOf.{Told, message_of}
 use Rattle.spec_wire.specs.credits.Window.{HeldIds, granted, after_grant}
 use Rattle.spec_crypto.specs.declared.sessions.material.Keys.{Keys}
 use Rattle.spec_crypto.specs.sessions.Signing.{verifies}
 use Rattle.spec_world.specs.Settings.{ServerSettings}
 use Rattle.spec_world.specs.Ends.{ServerEnd, Logons, no_keys, chosen_on, client_on, signer_on, ConnEnd, Spent, Full}
-use Rattle.spec_world.specs.Hearing.{Checked, Frame, check_frame, is_negotiate, is_cancel}
+use Rattle.spec_world.specs.Hearing.{Checked, Frame, check_frame, is_negotiate, is_cancel, is_misplaced}
 use Rattle.spec_world.specs.Negotiate.{negotiate_status, client_told}
 use Rattle.spec_world.specs.Related.{Carry, Turn, Goes, Fails, turn_of, failed_as, carried_behind, carried_past}
 use Rattle.spec_world.specs.Logon.{Progress, Stays, Final, progress, token_in, token_shows, exported, answer_token_by}
-use Rattle.spec_world.specs.Logon.{final_keys, logons_behind, signer_of}
+use Rattle.spec_world.specs.Logon.{final_keys, logons_behind, signer_by, unless_faulty}
 use Rattle.spec_world.specs.Answering.{SaidReply, reply_header, said_body, joined_in, text_limit, all_texts}
 use Rattle.spec_world.specs.Answering.{each_joined, concatenated, Seal}
 use Rattle.spec_world.specs.Answering.{has_nonces, frames_by, seals_by, Ending, told_each}
@@ -41,9 +40,22 @@ told_of z L k f c = record {
   negotiated = negotiate_status c.bytes;
 }
 
+-- of a message whose form is broken by its place, whatever its body says; check 2's fault comes before it
+abbrev pub misplaced_command : Option ℕ → Command → Command
+misplaced_command (Some fault) command = command
+misplaced_command None (Aside status) = Aside invalid_parameter
+misplaced_command None (Setup request) = Setup (record request { readable = false })
+misplaced_command None _ = Unreadable invalid_parameter
+
+abbrev pub misplaced : Message → Message
+misplaced m = record m { command = misplaced_command m.fault m.command }
+
+abbrev pub placed : Bool → Option Message → Option Message
+placed broken m = if broken then option_map misplaced m else m
+
 -- none of a CANCEL
 abbrev pub heard_message : ServerSettings → Logons → ℕ → ServerEnd → Checked → Option Message
-heard_message z L k f c = message_of (told_of z L k f c) c.header c.bytes
+heard_message z L k f c = placed (is_misplaced c) (message_of (told_of z L k f c) c.header c.bytes)
 
 -- ---- one message after the other
 
@@ -81,25 +93,26 @@ keys_said z L k f c (Final binding channel encrypts) = final_keys z.users L k f 
 keys_said z L k f c _ = no_keys
 
 -- the reply to a message, of the credits that the window grants it
-abbrev pub said_to : ServerSettings → ℕ → ℕ → List ℕ → ServerEnd → Logons → HeldIds → Checked → Command → Reply → SaidReply
-said_to z k now fresh f L w c command r =
+abbrev pub said_to : ServerSettings → ℕ → ℕ → List ℕ → ServerEnd → Logons → HeldIds → Checked → Command → Answer → SaidReply
+said_to z k now fresh f L w c command A =
+    let r = A.reply in
     let p = progress command r in
     record {
       header = reply_header c r.status r.session_id r.tree_id (granted c.header.credits w);
       body = said_body z.guid f.salt now c (answer_token_by z.users (L.pending k) (token_in c.bytes) fresh now p) command r;
-      signer = signer_of z.users L k f c p;
+      signer = unless_faulty c.fault (signer_by A.server z.users L k f c command r.status p);
       request = c;
       progress = p;
       base = exported z.users (L.pending k) (token_in c.bytes);
       keys = keys_said z L k f c p;
     }
 
--- a related message that fails with the one before it
+-- a related message that fails with a CREATE before it
 abbrev pub said_failed : ServerEnd → HeldIds → Checked → ℕ → SaidReply
 said_failed f w c status = record {
   header = reply_header c status c.header.session c.header.tree (granted c.header.credits w);
   body = error_response_spelling (record { error_context_count = 0; byte_count = 0 });
-  signer = signer_on f.keys;
+  signer = unless_faulty c.fault (signer_on f.keys);
   request = c;
   progress = Stays;
   base = [];
@@ -111,14 +124,14 @@ went_by z k now fresh f g c m A = record {
   server = A.server;
   logons = logons_behind z.users g.logons k f c fresh now (progress m.command A.reply);
   window = after_grant c.header.credits g.window;
-  carried = Some (carried_behind c A.reply);
+  carried = Some (carried_behind g.carried c A.reply);
   taken = Some (taken_with g.taken m A);
-  replies = g.replies ++ said_to z k now fresh f g.logons g.window c m.command A.reply ∷ [];
+  replies = g.replies ++ said_to z k now fresh f g.logons g.window c m.command A ∷ [];
 }
 
 -- a CANCEL has neither event nor reply
 abbrev pub went_heard : ServerSettings → ℕ → ℕ → List ℕ → ServerEnd → Going → Checked → Option Message → Going
-went_heard z k now fresh f g c None = record g { carried = Some (carried_past c (echo_status c.fault (bare_fault c.bytes))) }
+went_heard z k now fresh f g c None = record g { carried = Some (carried_past g.carried c success) }
 went_heard z k now fresh f g c (Some m) = went_by z k now fresh f g c m (answer_to g.server now m m.command)
 
 abbrev pub went_turn : ServerSettings → ℕ → ℕ → List ℕ → ServerEnd → Going → Checked → Turn → Going

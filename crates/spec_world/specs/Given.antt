@@ -43,12 +43,12 @@ pub record Dealt : Type 0 where
   pub missing : Bool  -- nothing was given for an event
   pub stopped : Option ℕ
 
--- ---- an error in place of a reply: its status is handed on, with the message's own ids
+-- ---- an error in place of a reply: the message's own ids are handed on
 
 abbrev pub went_refused : ServerEnd → Going → Checked → ℕ → Going
 went_refused f g c status = record g {
   window = after_grant c.header.credits g.window;
-  carried = Some (carried_past c status);
+  carried = Some (carried_past g.carried c status);
   replies = g.replies ++ said_failed f g.window c status ∷ [];
 }
 

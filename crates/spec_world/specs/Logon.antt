@@ -1,6 +1,6 @@
 -- SESSION_SETUP at the server (MS-SMB2 3.3.5.5, 3.3.5.5.2, 3.3.5.5.3): what its token shows, the tokens that answer it, and the keys
 -- that a logon comes to.
-use Rattle.std.specs.Prelude.{ℕ, ◌==◌, Bool, false, if◌then◌else◌, List, [], ◌∷◌, ◌++◌, take, Option, Some, None}
+use Rattle.std.specs.Prelude.{ℕ, ◌==◌, Bool, false, not, ◌&&◌, ◌||◌, if◌then◌else◌, List, [], ◌∷◌, ◌++◌, take, Option, Some, None}
 use Rattle.spec_wire.specs.messages.SessionSetup.{session_setup_request_in}
 use Rattle.spec_crypto.specs.declared.sessions.material.Keys.{Keys}
 use Rattle.spec_crypto.specs.declared.sessions.material.Signer.{Signer}
@@ -11,11 +11,11 @@ use Rattle.spec_crypto.specs.tokens.Tokens.{Begun, Pending, Shown, Begins as Tok
 use Rattle.spec_crypto.specs.tokens.Tokens.{Refused as TokenRefused, LoggedOn}
 use Rattle.spec_crypto.specs.tokens.Tokens.{begun_by, second_of, challenge_token, shown, final_token}
 use Rattle.spec_exchange.specs.Table.{put}
-use Rattle.spec_exchange.specs.Status.{success, more_processing_required}
-use Rattle.spec_exchange.specs.Commands.{Command, Setup, Shows, Begins, Bad, Refused, Logon}
-use Rattle.spec_exchange.specs.State.{Body, SetUp, Reply}
+use Rattle.spec_exchange.specs.Status.{success, more_processing_required, user_session_deleted}
+use Rattle.spec_exchange.specs.Commands.{Command, Setup, SetupRequest, Shows, Begins, Bad, Refused, Logon}
+use Rattle.spec_exchange.specs.State.{Body, SetUp, Reply, Server}
 use Rattle.spec_world.specs.Ends.{ServerEnd, Greeting, Logons, chosen_on, signer_on}
-use Rattle.spec_world.specs.Hearing.{Checked}
+use Rattle.spec_world.specs.Hearing.{Checked, is_probe}
 use Rattle.spec_commands.specs.ReplyBody.{seals_in}
 
 -- ---- tokens
@@ -140,3 +140,40 @@ abbrev pub signer_of : List User → Logons → ℕ → ServerEnd → Checked �
 signer_of users L k f c Stays = signer_on f.keys
 signer_of users L k f c (Interim binding) = if binding then Some (L.keys c.header.session).signing else None
 signer_of users L k f c (Final binding channel encrypts) = Some (final_keys users L k f c binding).signing
+
+-- ---- and any other reply. A refusal of a binding to a live session is signed by that session's own key, with what this connection
+-- chose to sign with. It isn't signed where that key didn't sign the request, nor where it says that there is no such session for
+-- this client (this project's; 3.3.5.5.2). Nobody signs the answer to an ECHO of SessionId 0.
+
+-- The request has no signature, or a wrong one, whatever it is refused for: else who doesn't have the key would have it sign under
+-- message ids of his choice, and AES-GMAC doesn't bear an id twice.
+abbrev pub is_ill_signed : SetupRequest → Bool
+is_ill_signed q = not q.signed || not q.verified
+
+abbrev pub binding_signer : Bool → Keys → Option Signer → SetupRequest → ℕ → Option Signer
+binding_signer live own here q status =
+    if status == user_session_deleted then None
+    else if not live then here
+    else if is_ill_signed q then None
+    else Some (record own.signing { algorithm = q.signing })
+
+abbrev pub plain_signer : ServerEnd → Checked → Option Signer
+plain_signer f c = if is_probe c.header c.bytes then None else signer_on f.keys
+
+-- s is the server behind the message, which has the same sessions where it was refused
+abbrev pub staying_signer : Server → Logons → ServerEnd → Checked → Command → ℕ → Option Signer
+staying_signer s L f c (Setup q) status =
+    if q.binding then binding_signer (s.present c.header.session) (L.keys c.header.session) (signer_on f.keys) q status
+    else signer_on f.keys
+staying_signer s L f c _ status = plain_signer f c
+
+abbrev pub signer_by : Server → List User → Logons → ℕ → ServerEnd → Checked → Command → ℕ → Progress → Option Signer
+signer_by s users L k f c command status Stays = staying_signer s L f c command status
+signer_by s users L k f c command status (Interim binding) = signer_of users L k f c (Interim binding)
+signer_by s users L k f c command status (Final binding channel encrypts) = signer_of users L k f c (Final binding channel encrypts)
+
+-- What answers a request that isn't signed or sealed as owed isn't signed (this project's; 3.3.4.1.1): else a request that was given
+-- to another channel would have there an answer that its client trusts.
+abbrev pub unless_faulty : Option ℕ → Option Signer → Option Signer
+unless_faulty None signer = signer
+unless_faulty (Some status) signer = None

@@ -1,13 +1,15 @@
 -- Related messages (MS-SMB2 3.2.4.1.4, 3.3.5.2.7.2): what a message of a frame hands on to the next one that is related to it.
-use Rattle.std.specs.Prelude.{ℕ, ◌+◌, ◌==◌, nat_le, if◌then◌else◌, List, ◌++◌, length, take, drop}
-use Rattle.std.specs.Prelude.{replicate, Option, Some, None}
+use Rattle.std.specs.Prelude.{ℕ, ◌+◌, ◌==◌, nat_le, Bool, not, ◌||◌, if◌then◌else◌, List, ◌++◌, length, take, drop}
+use Rattle.std.specs.Prelude.{replicate, Option, Some, None, is_some}
 use Rattle.std.specs.Str.{bytes_eq}
 use Rattle.spec_wire.specs.messages.Places.{bytes_at}
+use Rattle.spec_exchange.specs.Status.{success}
 use Rattle.spec_exchange.specs.State.{Body, Created, Reply}
 use Rattle.spec_commands.specs.Ids.{file_id}
 use Rattle.spec_world.specs.Hearing.{Checked}
 
--- the status that a message was answered with, and the ids that a related one takes over
+-- The ids that a related message takes over. A chain begins at a message that isn't related; status is that of its last CREATE so far,
+-- success where it has none.
 pub record Carry : Type 0 where
   pub status : ℕ
   pub session : ℕ
@@ -58,20 +60,34 @@ abbrev pub file_behind : Checked → Body → List ℕ
 file_behind c (Created reply) = file_id reply.id
 file_behind c _ = handed_on (file_named c.header.command c.bytes)
 
--- behind a message that was answered, NEGOTIATE and ECHO too
-abbrev pub carried_behind : Checked → Reply → Carry
-carried_behind c r = record { status = r.status; session = r.session_id; tree = r.tree_id; file = file_behind c r.body }
+-- the status of the last CREATE in front of a message in its chain
+abbrev pub create_before : Option Carry → Checked → ℕ
+create_before None c = success
+create_before (Some y) c = if c.related then y.status else success
 
--- behind a CANCEL, of this status
-abbrev pub carried_past : Checked → ℕ → Carry
-carried_past c status = record {
-  status = status;
+-- and behind it, where it was answered with this status
+abbrev pub create_behind : Option Carry → Checked → ℕ → ℕ
+create_behind before c status = if c.header.command == 5 then status else create_before before c
+
+-- behind a message that was answered, NEGOTIATE and ECHO too
+abbrev pub carried_behind : Option Carry → Checked → Reply → Carry
+carried_behind before c r = record {
+  status = create_behind before c r.status;
+  session = r.session_id;
+  tree = r.tree_id;
+  file = file_behind c r.body;
+}
+
+-- behind one that has no answer of its own, of this status
+abbrev pub carried_past : Option Carry → Checked → ℕ → Carry
+carried_past before c status = record {
+  status = create_behind before c status;
   session = c.header.session;
   tree = c.header.tree;
   file = handed_on (file_named c.header.command c.bytes);
 }
 
--- ---- what becomes of a message: it goes its way, or fails with the status of the one before, which then stays handed on
+-- ---- what becomes of a message: it goes its way, or fails with the status of its chain's last CREATE; what was handed on then stays
 
 pub data Turn : Type 0 where
   Goes : (message : Checked) → Turn
@@ -88,8 +104,12 @@ abbrev pub failed_as : Option Carry → Checked → Checked
 failed_as None c = c
 failed_as (Some y) c = record c { header = record c.header { session = y.session; tree = y.tree } }
 
+-- Only what names an open fails with a CREATE (3.3.5.2.7.2): behind any other failure it is carried out.
+abbrev pub can_follow : Checked → Carry → Bool
+can_follow c y = not (is_some (file_place c.header.command)) || (y.status == success)
+
 abbrev pub related_turn : Checked → Carry → Turn
-related_turn c y = if y.status == 0 then Goes (with_ids c y) else Fails y.status
+related_turn c y = if can_follow c y then Goes (with_ids c y) else Fails y.status
 
 abbrev pub turn_of : Option Carry → Checked → Turn
 turn_of None c = Goes c

@@ -11,7 +11,7 @@ use Rattle.spec_crypto.specs.sessions.Signing.{verifies}
 use Rattle.spec_crypto.specs.sessions.Sealing.{sealed}
 use Rattle.spec_world.specs.Settings.{WorldSettings, values_of}
 use Rattle.spec_world.specs.Ends.{ClientEnd, ServerEnd, nonce_at}
-use Rattle.spec_world.specs.Hearing.{Checked, Frame, begins_sealed, check_frame, signed_by, is_negotiate, is_setup}
+use Rattle.spec_world.specs.Hearing.{Checked, Frame, begins_sealed, check_frame, signed_by, is_negotiate, is_setup, is_probe}
 use Rattle.spec_world.specs.Answering.{Ending, Seal}
 use Rattle.spec_world.specs.World.{World, paid, step_at}
 use Rattle.spec_world.specs.Events.{ByteEvent, Plain, bytes_happen, bytes_run, bytes_start}
@@ -163,13 +163,13 @@ RequestsAreHeard z w =
     (w.values.conns k).server_open ≡ true → (w.wires k).up ≡ b ∷ bs → (w.values.conns k).up ≡ x ∷ xs →
     (step_at z w k b).taken ≡ Some (record { message = x.message; answer = answer w.values x })
 
--- ---- behind a logon nothing is taken unsigned, nor unsealed where sealing is owed, but a SESSION_SETUP, and a
--- NEGOTIATE, which no connection hears twice
+-- ---- behind a logon nothing is taken unsigned, nor unsealed where sealing is owed, but a SESSION_SETUP, an ECHO of SessionId 0,
+-- and a NEGOTIATE, which no connection hears twice
 
 abbrev pub IsGuarded : ServerEnd → Frame → Checked → Type 0
 IsGuarded f x c =
     (x.sealed ≡ true) ⊎ (f.encrypts ≡ false) × (has_bit c.header.flags 8 ≡ true) × (signed_by f.keys c.raw ≡ true)
-    ⊎ (is_setup c.header ≡ true) ⊎ (is_negotiate c.header ≡ true)
+    ⊎ (is_setup c.header ≡ true) ⊎ (is_negotiate c.header ≡ true) ⊎ (is_probe c.header c.raw ≡ true)
 
 abbrev pub FramesAreGuarded : Type 0
 FramesAreGuarded =

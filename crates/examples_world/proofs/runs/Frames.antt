@@ -18,7 +18,8 @@ use Rattle.spec_world.specs.Messages.{has_header, header_in, messages_from, mess
 use Rattle.spec_world.specs.Related.{file_place, file_named, with_file}
 use Rattle.spec_crypto.specs.sessions.Signing.{signed, verifies, signature}
 use Rattle.spec_world.specs.Ends.{OutsideWindow}
-use Rattle.examples_world.specs.runs.Ends.{greeted_end, frame_step, echo, cancel, two_echoes, related_echoes, statuses_of, go_through}
+use Rattle.examples_world.specs.runs.Ends.{greeted_end, frame_step, echo, cancel, two_echoes, related_echoes, first_echo}
+use Rattle.examples_world.specs.runs.Ends.{statuses_of, go_through}
 
 pub two_echoes_are :
     (length (frame_step greeted_end two_echoes).frames ≡ 1) × ((frame_step greeted_end two_echoes).status ≡ Some 0xc000_0022)
@@ -50,10 +51,21 @@ cancel_is = (refl, refl, refl)
 
 pub related_are :
     (statuses_of (go_through (related_echoes None)).replies ≡ 0 ∷ 0 ∷ [])
-    × (statuses_of (go_through (related_echoes (Some 0xc000_0022))).replies ≡ 0xc000_0022 ∷ 0xc000_0022 ∷ [])
+    × (statuses_of (go_through (related_echoes (Some 0xc000_0022))).replies ≡ 0xc000_0022 ∷ 0 ∷ [])
 unfolding has_bit text_size opened_size record_size records_size entry_bytes fits due_in is_filled command_of message_of
     reply_body bit_if number_of le bytes_at part_fault count_fault said_body gathered texts_of all_texts concatenated
     each_joined told_each went_all last_status begins_sealed checked_behind token_in exported pending_by answer_token_by
     has_header header_in messages_from messages_in message_spelling file_place file_named with_file signed verifies
     signature
 related_are = (refl, refl)
+
+pub first_are :
+    (statuses_of (go_through (first_echo 0 None)).replies ≡ 0 ∷ [])
+    × ((statuses_of (go_through (first_echo 4 None)).replies ≡ 0xc000_000d ∷ [])
+    × (statuses_of (go_through (first_echo 4 (Some 0xc000_0022))).replies ≡ 0xc000_0022 ∷ []))
+unfolding has_bit text_size opened_size record_size records_size entry_bytes fits due_in is_filled command_of message_of
+    reply_body bit_if number_of le bytes_at part_fault count_fault said_body gathered texts_of all_texts concatenated
+    each_joined told_each went_all last_status begins_sealed checked_behind token_in exported pending_by answer_token_by
+    has_header header_in messages_from messages_in message_spelling file_place file_named with_file signed verifies
+    signature
+first_are = (refl, (refl, refl))

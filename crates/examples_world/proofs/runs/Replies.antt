@@ -1,6 +1,6 @@
 -- A sealed request and its sealed reply, computed but for the cipher.
 use Rattle.std.proofs.Common.{◌≡◌, ℕ, ◌+◌, ◌≤◌, ◌<◌, ◌^◌, nat_lt, true, false, if◌then◌else◌, List, [], ◌∷◌, ◌++◌, length, length-append}
-use Rattle.std.proofs.Common.{replicate, Some, Result, Ok, Err, refl, ap, ◌∙◌, arith}
+use Rattle.std.proofs.Common.{replicate, Some, None, Result, Ok, Err, refl, ap, ◌∙◌, arith}
 use Rattle.std.proofs.lemmas.Bool.Decides.{nat_tests}
 use Rattle.spec_exchange.specs.Commands.{has_bit}
 use Rattle.spec_exchange.specs.Records.{text_size, opened_size, record_size, records_size, entry_bytes, fits}
@@ -15,9 +15,10 @@ use Rattle.spec_wire.specs.messages.Fault.{part_fault, count_fault}
 use Rattle.spec_wire.proofs.messages.Numbers.{length-le}
 use Rattle.spec_crypto.specs.declared.sessions.material.Keys.{Keys}
 use Rattle.spec_crypto.specs.sessions.Nonces.{nonce_of}
-use Rattle.spec_crypto.specs.sessions.Sealing.{protocol, key_for, added_of, ciphertext, tag_of, sealed_by, sealed, if_given}
+use Rattle.spec_crypto.specs.sessions.Sealing.{protocol, key_for, added_of, ciphertext, tag_of, sealed_by, sealed, if_given, opened}
 use Rattle.law_crypto.proofs.sealing.Frames.{tag_length, ciphertext_length}
 use Rattle.law_crypto.proofs.sealing.Opening.{opens}
+use Rattle.law_ties.proofs.wire_facts.Ciphers.{flagged}
 use Rattle.spec_world.specs.Ends.{no_logons, nonce_at, ConnEnd, BadFrame}
 use Rattle.spec_world.specs.Messages.{HeardMessage, heard_in, has_header, header_in, messages_from, messages_in, message_spelling}
 use Rattle.spec_world.specs.Hearing.{FrameText, is_too_long, begins_sealed, opened_by, split_text}
@@ -67,7 +68,8 @@ begins keys nonce text = refl
 
 -- ---- it opens to its only message
 
-read_as : (keys : Keys) (frame text : List ℕ) (messages : List HeardMessage) → is_too_long frame ≡ false → begins_sealed frame ≡ true
+read_as : (keys : Keys) (frame text : List ℕ) (messages : List HeardMessage) → is_too_long (Some keys) frame ≡ false
+    → begins_sealed frame ≡ true
     → opened_by (Some keys) frame ≡ Some text → messages_in text ≡ Some messages
     → text_of (Some keys) frame ≡ Ok (record { sealed = true; messages = messages })
 read_as keys frame text messages long begun shown heard =
@@ -105,7 +107,8 @@ echo_read =
     read_as some_keys sealed_echo (echo 1 0) (heard_in (echo 1 0) ∷ [])
     (not_above 1114112 (length sealed_echo) frame_short)
     (begins some_keys (nonce_at 1 0) (echo 1 0))
-    (ap if_given (opens 2 (replicate 32 2) 9 (nonce_at 1 0) (echo 1 0) nonce_length few id_fits))
+    (ap (λ b. if b then opened some_keys true sealed_echo else None) (flagged some_keys true 1 0 (echo 1 0))
+    ∙ ap if_given (opens 2 (replicate 32 2) 9 (nonce_at 1 0) (echo 1 0) nonce_length few id_fits))
     only_message
 
 -- ---- and is answered

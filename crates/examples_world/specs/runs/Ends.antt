@@ -42,8 +42,15 @@ header_of command id flags next = record {
   signature = unsigned_field;
 }
 
+-- of session 9, and one of none, by which a client asks whether the connection lives
+abbrev pub echo_header : ℕ → ℕ → ℕ → Header
+echo_header id flags next = record (header_of 13 id flags next) { session = 9 }
+
 abbrev pub echo : ℕ → ℕ → List ℕ
-echo id next = message_spelling (header_of 13 id 0 next) bare_spelling
+echo id next = message_spelling (echo_header id 0 next) bare_spelling
+
+abbrev pub probe : ℕ → ℕ → List ℕ
+probe id next = message_spelling (header_of 13 id 0 next) bare_spelling
 
 abbrev pub cancel : ℕ → List ℕ
 cancel id = message_spelling (header_of 12 id 0 0) bare_spelling
@@ -51,6 +58,14 @@ cancel id = message_spelling (header_of 12 id 0 0) bare_spelling
 -- two, the first padded to 72 bytes
 abbrev pub two_echoes : List ℕ
 two_echoes = echo 1 72 ++ (replicate 4 0 ++ echo 2 0)
+
+-- a probe, and behind it a related ECHO of session 9
+abbrev pub related_probe : List ℕ
+related_probe = probe 1 72 ++ (replicate 4 0 ++ message_spelling (echo_header 2 4 0) bare_spelling)
+
+-- an ECHO of session 9, which nobody signed, and behind it a probe
+abbrev pub echo_and_probe : List ℕ
+echo_and_probe = echo 1 72 ++ (replicate 4 0 ++ probe 2 0)
 
 -- ---- related messages
 
@@ -67,6 +82,10 @@ checked h body related = record {
 abbrev pub related_echoes : Option ℕ → List Checked
 related_echoes fault =
     record (checked (header_of 13 1 0 0) bare_spelling false) { fault = fault } ∷ checked (header_of 13 2 4 0) bare_spelling true ∷ []
+
+-- an ECHO that is a frame's first message, of these flags, in which the connection found this fault
+abbrev pub first_echo : ℕ → Option ℕ → List Checked
+first_echo flags fault = record (checked (header_of 13 1 flags 0) bare_spelling false) { fault = fault } ∷ []
 
 abbrev pub statuses_of : List SaidReply → List ℕ
 statuses_of [] = []

@@ -1,20 +1,20 @@
 -- An end of a connection with keys: what is signed, sealed and bound, and related messages of a session.
-use Rattle.std.specs.Prelude.{ℕ, ◌==◌, Bool, true, false, if◌then◌else◌, List, [], ◌∷◌, ◌++◌, take, drop, replicate, Some}
+use Rattle.std.specs.Prelude.{ℕ, ◌==◌, Bool, true, false, if◌then◌else◌, List, [], ◌∷◌, ◌++◌, take, drop, replicate, Option, Some}
 use Rattle.spec_wire.specs.messages.Bare.{bare_spelling}
-use Rattle.spec_exchange.specs.Commands.{TreeConnect}
+use Rattle.spec_exchange.specs.Commands.{TreeConnect, Setup, SetupRequest, Bad}
 use Rattle.spec_exchange.specs.State.{Server}
 use Rattle.spec_exchange.specs.Fold.{nothing_yet}
 use Rattle.spec_commands.specs.BodyOf.{body_of}
-use Rattle.spec_crypto.specs.declared.sessions.material.Keys.{Keys}
-use Rattle.spec_crypto.specs.sessions.Sealing.{sealed}
-use Rattle.spec_world.specs.Settings.{WorldSettings}
+use Rattle.spec_crypto.specs.sessions.Sealing.{protocol, sealed}
+use Rattle.spec_crypto.specs.declared.sessions.material.Signer.{Signer}
 use Rattle.spec_world.specs.Messages.{message_spelling, heard_in}
 use Rattle.spec_world.specs.Ends.{ClientEnd, ServerEnd, Logons, no_logons, no_keys, nonce_at}
 use Rattle.spec_world.specs.Hearing.{Checked}
+use Rattle.spec_world.specs.Logon.{staying_signer}
 use Rattle.spec_world.specs.Connection.{Going, went_all, beginning}
 use Rattle.spec_world.specs.World.{channel_bound}
 use Rattle.spec_world.specs.Events.{bytes_start}
-use Rattle.examples_world.specs.runs.Ends.{greeted_end, nobody, header_of, echo, checked}
+use Rattle.examples_world.specs.runs.Ends.{greeted_end, nobody, header_of, echo_header, echo, checked}
 use Rattle.examples_world.specs.connections.Parts.{some_keys, some_settings}
 
 -- ---- related messages, signed as owed: session 9 is on connection 0
@@ -45,28 +45,42 @@ keyed_end encrypts = record greeted_end { keys = Some some_keys; encrypts = encr
 
 -- an ECHO that is to be signed, and signed, and its response: AES-CMAC, by OpenSSL
 abbrev pub flagged_echo : List ℕ
-flagged_echo = message_spelling (header_of 13 1 8 0) bare_spelling
+flagged_echo = message_spelling (echo_header 1 8 0) bare_spelling
 
 abbrev pub echo_signature : List ℕ
-echo_signature = 131 ∷ 179 ∷ 82 ∷ 127 ∷ 52 ∷ 246 ∷ 59 ∷ 77 ∷ 204 ∷ 33 ∷ 20 ∷ 249 ∷ 59 ∷ 255 ∷ 159 ∷ 49 ∷ []
+echo_signature = 243 ∷ 104 ∷ 39 ∷ 191 ∷ 220 ∷ 219 ∷ 39 ∷ 63 ∷ 94 ∷ 247 ∷ 79 ∷ 231 ∷ 116 ∷ 161 ∷ 135 ∷ 219 ∷ []
 
 abbrev pub signed_echo : List ℕ
 signed_echo = take 48 flagged_echo ++ (echo_signature ++ drop 64 flagged_echo)
 
 abbrev pub reply_signature : List ℕ
-reply_signature = 147 ∷ 151 ∷ 248 ∷ 33 ∷ 120 ∷ 193 ∷ 77 ∷ 73 ∷ 183 ∷ 185 ∷ 238 ∷ 171 ∷ 193 ∷ 129 ∷ 75 ∷ 107 ∷ []
+reply_signature = 190 ∷ 210 ∷ 106 ∷ 76 ∷ 222 ∷ 252 ∷ 82 ∷ 59 ∷ 121 ∷ 10 ∷ 178 ∷ 168 ∷ 173 ∷ 206 ∷ 194 ∷ 90 ∷ []
 
 abbrev pub signed_reply : List ℕ
 signed_reply =
-    take 48 (message_spelling (header_of 13 1 9 0) bare_spelling)
-    ++ (reply_signature ++ drop 64 (message_spelling (header_of 13 1 9 0) bare_spelling))
+    take 48 (message_spelling (echo_header 1 9 0) bare_spelling)
+    ++ (reply_signature ++ drop 64 (message_spelling (echo_header 1 9 0) bare_spelling))
+
+-- what answers an ECHO that isn't protected as owed: a header without a signature, and the error response
+abbrev pub unsigned_refusal : List ℕ
+unsigned_refusal =
+    254 ∷ 83 ∷ 77 ∷ 66 ∷ 64 ∷ 0 ∷ 1 ∷ 0 ∷ 34 ∷ 0 ∷ 0 ∷ 192 ∷ 13 ∷ 0 ∷ 1 ∷ 0 ∷ 1 ∷ 0 ∷ 0 ∷ 0 ∷ 0 ∷ 0 ∷ 0 ∷ 0
+    ∷ 1 ∷ (replicate 15 0 ++ 9 ∷ (replicate 23 0 ++ 9 ∷ replicate 8 0))
 
 -- an ECHO that is sealed, and its response, sealed under the first nonce of the channel
 abbrev pub sealed_echo : List ℕ
 sealed_echo = sealed some_keys true (nonce_at 1 0) (echo 1 0)
 
 abbrev pub sealed_reply : List ℕ
-sealed_reply = sealed some_keys false (nonce_at 1 0) (message_spelling (header_of 13 1 1 0) bare_spelling)
+sealed_reply = sealed some_keys false (nonce_at 1 0) (message_spelling (echo_header 1 1 0) bare_spelling)
+
+-- the response to a probe, which nobody signs
+abbrev pub probe_reply : List ℕ
+probe_reply = message_spelling (header_of 13 1 1 0) bare_spelling
+
+-- a transform header of these Flags, and nothing sealed behind it
+abbrev pub flagged_transform : ℕ → List ℕ
+flagged_transform flags = protocol ++ (replicate 38 0 ++ (flags ∷ replicate 9 0))
 
 -- ---- a binding to session 9
 
@@ -75,6 +89,24 @@ keyed_logons = record no_logons { keys = λ x. if x == 9 then some_keys else no_
 
 abbrev pub binding : Checked
 binding = checked (record (header_of 1 1 8 0) { session = 9 }) bare_spelling false
+
+-- of another algorithm than the session's, which has AES-CMAC
+abbrev pub bound_request : Bool → Bool → SetupRequest
+bound_request signed verified = record {
+  readable = true;
+  binding = true;
+  signed = signed;
+  verified = verified;
+  previous = 0;
+  cipher = 0;
+  signing = 2;
+  shows = Bad;
+}
+
+-- who signs its refusal of this status, where session 9 is live
+abbrev pub refused_by : Bool → Bool → ℕ → Option Signer
+refused_by signed verified status =
+    staying_signer one_session keyed_logons (keyed_end false) binding (Setup (bound_request signed verified)) status
 
 -- the client's end behind the binding of a second channel
 abbrev pub bound_second : ClientEnd

@@ -16,7 +16,7 @@ use Rattle.spec_world.specs.Settings.{WorldSettings, draw}
 use Rattle.spec_world.specs.Messages.{HeardMessage}
 use Rattle.spec_world.specs.Hearing.{behind_turn, window_behind}
 use Rattle.spec_world.specs.Logon.{Progress, Interim, progress, token_in, pending_by, challenge_of, answer_token_by, greeting_transcript}
-use Rattle.spec_world.specs.Logon.{made_or_greeted, signer_of}
+use Rattle.spec_world.specs.Logon.{made_or_greeted}
 use Rattle.spec_world.specs.Answering.{server_end_moved}
 use Rattle.spec_world.specs.Sending.{answer_of}
 use Rattle.spec_world.specs.Dialog.{body_reads, has_form, has_token, is_signed, setup_token, pays_next}
@@ -29,7 +29,7 @@ use Rattle.law_ties.proofs.requests.Answering.{no_greeting}
 use Rattle.law_ties.proofs.requests.Hearing.{with_flags}
 use Rattle.law_ties.proofs.requests.Line.{fresh_of, checked_of, token_of, few_granted, body_is}
 use Rattle.law_dialogs.proofs.dialog_requests.Credit.{pays}
-use Rattle.law_dialogs.proofs.dialog_requests.Step.{said_by, text_by, end_by, counted_by, logons_by, logons_to, progress_by, interim_is}
+use Rattle.law_dialogs.proofs.dialog_requests.Step.{said_by, text_by, end_by, counted_by, logons_by, logons_to, progress_by, interim_is, signer_now}
 use Rattle.law_dialogs.proofs.dialog_requests.Told.{right_by}
 use Rattle.law_dialogs.proofs.dialog_requests.Front.{Front, head_by, told_at, hears_it, form_is, no_fault, IsComing, comes}
 
@@ -117,8 +117,7 @@ signed_now z law w k b x h true F ok =
     let own = F.bound refl in
     let keys : w.logons.keys h.header.session ≡ n.keys = ap w.logons.keys binding.0 ∙ (own.0 ∙ sym binding.1) in
     let signer : (said_by z w k h x).signer ≡ Some n.keys.signing =
-    ap (signer_of z.server.users w.logons k (behind_turn f h.header) (checked_of w k false h)) (interim z w k b x h true F ok)
-    ∙ ap (λ (q : Keys). Some q.signing) keys in
+    signer_now z w k h x (Interim true) F.header (interim z w k b x h true F ok) ∙ ap (λ (q : Keys). Some q.signing) keys in
     right_by z law (said_by z w k h x) h.header (answer w.values x).reply (granted h.header.credits (window_behind f.window h.header))
     n.keys.signing signer refl F.head F.fits (few_granted h.header.credits (window_behind f.window h.header))
 

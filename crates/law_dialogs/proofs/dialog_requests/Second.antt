@@ -21,7 +21,7 @@ use Rattle.spec_world.specs.Messages.{HeardMessage}
 use Rattle.spec_world.specs.Ends.{ClientEnd, ServerEnd, Logons, chosen_on}
 use Rattle.spec_world.specs.Hearing.{behind_turn, window_behind}
 use Rattle.spec_world.specs.Logon.{Progress, Final, progress, channel_in, token_in, exported, challenge_of, final_of}
-use Rattle.spec_world.specs.Logon.{answer_token_by, before_setup, full_transcript, keys_behind, final_keys, signer_of}
+use Rattle.spec_world.specs.Logon.{answer_token_by, before_setup, full_transcript, keys_behind, final_keys}
 use Rattle.spec_world.specs.Answering.{server_end_moved}
 use Rattle.spec_world.specs.Connection.{keys_said}
 use Rattle.spec_world.specs.Sending.{answer_of}
@@ -36,7 +36,7 @@ use Rattle.law_ties.proofs.requests.Hearing.{with_flags}
 use Rattle.law_ties.proofs.requests.Line.{fresh_of, checked_of, token_of, few_granted, body_is}
 use Rattle.law_dialogs.proofs.dialog_requests.Sparing.{with_logons}
 use Rattle.law_dialogs.proofs.dialog_requests.Credit.{pays}
-use Rattle.law_dialogs.proofs.dialog_requests.Step.{said_by, text_by, end_by, counted_by, logons_by, logons_to, progress_by, final_is}
+use Rattle.law_dialogs.proofs.dialog_requests.Step.{said_by, text_by, end_by, counted_by, logons_by, logons_to, progress_by, final_is, signer_now}
 use Rattle.law_dialogs.proofs.dialog_requests.Told.{right_by}
 use Rattle.law_dialogs.proofs.dialog_requests.Front.{Front, shared_at, head_by, told_at, hears_it, form_is, no_fault, IsComing, comes}
 use Rattle.law_dialogs.proofs.dialog_requests.First.{one_is, same_greeting}
@@ -219,7 +219,7 @@ second_comes z law w k b x h bound place F =
     comes z law w k b x h stage place F refl t
     (λ ok. (let v = done ok in
     let signer : said.signer ≡ Some (own_final n bound 0).signing =
-    ap (signer_of z.server.users w.logons k (behind_turn f h.header) (checked_of w k false h)) v.progress_is
+    signer_now z w k h x (Final bound (channel_in reply.body) (seals_in reply.body)) F.header v.progress_is
     ∙ (ap (λ (q : Keys). Some q.signing) v.keys ∙ ap Some (own_signing n bound h.header.session 0)) in
     no_fault (has_form n stage y) (has_token z.client n stage text) (is_signed n stage text) (flags_fit n stage text)
     (pays_next n stage y.header) None (form_is z w k b x h stage F t.flags text t.answers v.reads) refl v.token_final

@@ -8,7 +8,7 @@ use Rattle.spec_exchange.specs.Operations.{Op}
 use Rattle.spec_exchange.specs.Client.{Stage, Apart, SaidNegotiate, SaidFirst, SaidSecond, AskedTree}
 use Rattle.spec_exchange.specs.Network.{World as Values, Sent, Received, ForDialog, Serve, answer, behind_front, say_down}
 use Rattle.spec_exchange.specs.Network.{serve_front}
-use Rattle.spec_commands.specs.CommandOf.{unless, tree_connect_of, tree_connect_in, named_command}
+use Rattle.spec_commands.specs.CommandOf.{unless, tree_connect_of, tree_connect_in, named_command, message_of}
 use Rattle.spec_commands.specs.Text.{text_in}
 use Rattle.spec_wire.specs.credits.Ids.{counted, outside}
 use Rattle.spec_wire.specs.credits.Window.{HeldIds, after_take, granted, after_grant}
@@ -17,7 +17,7 @@ use Rattle.spec_crypto.specs.declared.sessions.material.Keys.{Keys}
 use Rattle.spec_world.specs.Settings.{WorldSettings}
 use Rattle.spec_world.specs.Messages.{HeardMessage}
 use Rattle.spec_world.specs.Ends.{ClientEnd, ServerEnd, Logons, ConnEnd}
-use Rattle.spec_world.specs.Hearing.{FrameText, text_of, behind_turn, window_behind, checked_as}
+use Rattle.spec_world.specs.Hearing.{FrameText, text_of, behind_turn, window_behind, checked_as, is_misplaced}
 use Rattle.spec_world.specs.Logon.{Progress, Stays, Interim, Final, final_keys, pending_by, token_in}
 use Rattle.spec_world.specs.Connection.{told_of}
 use Rattle.spec_world.specs.World.{World, answered_wires, served_on, served_by, step_at, serve_frame}
@@ -31,7 +31,7 @@ use Rattle.law_ties.proofs.events.Serving.{told_at, said_values}
 use Rattle.law_ties.proofs.events.InStep.{next_low, front_held, has_frame_up}
 use Rattle.law_ties.proofs.events.Took.{reach_more}
 use Rattle.law_ties.specs.requests.Lines.{is_lines}
-use Rattle.law_ties.proofs.requests.Commands.{named_at}
+use Rattle.law_ties.proofs.requests.Commands.{named_at, well_placed}
 use Rattle.law_ties.proofs.requests.Linking.{line_less, served_is, window_is}
 use Rattle.law_ties.proofs.requests.Line.{split_by, fresh_of, checked_of, conn_twice, said_conn, open_by, next_by, served_world}
 use Rattle.law_dialogs.specs.dialog_requests.Serving.{Spare, IsApart, IsTalk, IsDialogFront, DialogServesAreKept}
@@ -60,6 +60,15 @@ plain_by : (line sealed : Bool) → (line ≡ true → ⊥) → (line ≡ false 
 plain_by true sealed e f = absurd (e refl)
 plain_by false sealed e f = f refl
 
+-- it is heard by its bytes alone
+pub read_as : (z : WorldSettings) (L : Logons) (k : ℕ) (f : ServerEnd) (b : List ℕ) (x : Sent) (q : ℕ × ℕ) (a : Asked z L k f b x q)
+    → message_of (told_of z.server L k f (checked_as f a.reads.sealed false true a.reads.heard)) a.reads.heard.header a.reads.heard.bytes
+    ≡ Some x.message
+read_as z L k f b x q a =
+    let r = a.reads in
+    let c = checked_as f r.sealed false true r.heard in
+    well_placed (is_misplaced c) (message_of (told_of z.server L k f c) r.heard.header r.heard.bytes) (Some x.message) a.apart r.message
+
 pub plain_front : (z : WorldSettings) (L : Logons) (k : ℕ) (f : ServerEnd) (b : List ℕ) (x : Sent) (q : ℕ × ℕ) (a : Asked z L k f b x q)
     → x.token ≡ ForDialog → is_lines x.message.command ≡ false → a.reads.sealed ≡ false
 plain_front z L k f b x q a own talks =
@@ -70,7 +79,7 @@ plain_front z L k f b x q a own talks =
     plain_by (is_line r.heard) r.sealed
     (λ line. (let tree = a.tree own line in
     let command : named_command 3 t h r.heard.bytes ≡ x.message.command =
-    ap (λ n. named_command n t h r.heard.bytes) (sym tree) ∙ named_at t h r.heard.bytes x.message r.message in
+    ap (λ n. named_command n t h r.heard.bytes) (sym tree) ∙ named_at t h r.heard.bytes x.message (read_as z L k f b x q a) in
     let bad : true ≡ false = sym (tree_is r.heard.bytes) ∙ (ap is_lines command ∙ talks) in cc))
     a.plain
 
@@ -131,7 +140,7 @@ apart_at z w k b x q a talk =
     let r = a.reads in
     let c = checked_as f r.sealed false true r.heard in
     subst (λ s. IsApart w s (progress_by w x))
-    (session_at (told_of z.server w.logons k f c) r.heard.header r.heard.bytes x.message r.message) talk.apart
+    (session_at (told_of z.server w.logons k f c) r.heard.header r.heard.bytes x.message (read_as z w.logons k f b x q a)) talk.apart
 
 -- ---- the line behind it
 

@@ -22,14 +22,14 @@ use Rattle.spec_crypto.specs.sessions.Signing.{verifies}
 use Rattle.spec_world.specs.Settings.{WorldSettings, ServerSettings}
 use Rattle.spec_world.specs.Messages.{HeardMessage}
 use Rattle.spec_world.specs.Ends.{ClientEnd, ServerEnd, Logons}
-use Rattle.spec_world.specs.Hearing.{Checked, checked_as}
+use Rattle.spec_world.specs.Hearing.{Checked, checked_as, is_misplaced}
 use Rattle.spec_world.specs.Logon.{token_shows, challenge_of}
 use Rattle.spec_world.specs.Connection.{told_of, heard_message}
 use Rattle.spec_world.specs.Sending.{answer_of}
 use Rattle.spec_world.specs.Dialog.{status_due}
 use Rattle.law_ties.specs.events.Links.{Shared, Asked, AllAsked, Linked, IsLinkBegun, LinkCarries, Waiting, IsAhead, IsLasting, Talks}
 use Rattle.law_ties.specs.events.Links.{Waits, Comes, Lost, Tied, is_lined}
-use Rattle.law_ties.proofs.requests.Commands.{same_of, named_at}
+use Rattle.law_ties.proofs.requests.Commands.{same_of, named_at, placed_well, well_placed}
 use Rattle.law_dialogs.specs.dialog_requests.Serving.{AllSpared, is_new_second, PendingSpared}
 
 pub record Sparing (L M : Logons) (k : ℕ) (spared : ℕ → Type 0) : Type 0 where
@@ -129,17 +129,19 @@ abbrev IsSpared : (ℕ → Type 0) → Message → Type 0
 IsSpared spared x = (r : SetupRequest) → x.command ≡ Setup r → r.signed ≡ true → spared x.session_id
 
 heard_spared : (z : ServerSettings) (L M : Logons) (k : ℕ) (f : ServerEnd) (c : Checked) (spared : ℕ → Type 0) → Sparing L M k spared
-    → (x : Message) → heard_message z L k f c ≡ Some x → IsSpared spared x → heard_message z M k f c ≡ Some x
-heard_spared z L M k f c spared s x e all =
+    → (x : Message) → is_misplaced c ≡ false → heard_message z L k f c ≡ Some x → IsSpared spared x → heard_message z M k f c ≡ Some x
+heard_spared z L M k f c spared s x apart heard all =
     let t = told_of z L k f c in
     let h = c.header in
+    let e : message_of t h c.bytes ≡ Some x = well_placed (is_misplaced c) (message_of t h c.bytes) (Some x) apart heard in
     let v = has_bit h.flags 8 && verifies (M.keys h.session).signing c.raw in
     let same : (h.command == 1) ≡ true → t.verified ≡ v = λ first. (let g = heard_setup t h c.bytes x e first in
     both_alike (has_bit h.flags 8) (verifies (L.keys h.session).signing c.raw) (verifies (M.keys h.session).signing c.raw)
     (λ b. ap (λ (q : Keys). verifies q.signing c.raw)
     (sym (s.keys h.session (subst spared (session_at t h c.bytes x e) (all g.request g.is (g.signed ∙ b))))))) in
-    ap (λ p. message_of (record t { verified = v; shows = token_shows z.users p }) h c.bytes) s.pending
-    ∙ (sym (heard_alike t v h c.bytes same) ∙ e)
+    placed_well (is_misplaced c) (message_of (told_of z M k f c) h c.bytes) (Some x) apart
+    (ap (λ p. message_of (record t { verified = v; shows = token_shows z.users p }) h c.bytes) s.pending
+    ∙ (sym (heard_alike t v h c.bytes same) ∙ e))
 
 asked_spared : (z : WorldSettings) (L M : Logons) (k : ℕ) (f : ServerEnd) (b : List ℕ) (x : Sent) (q : ℕ × ℕ) (spared : ℕ → Type 0)
     → Sparing L M k spared → IsSpared spared x.message → Asked z L k f b x q → Asked z M k f b x q
@@ -149,7 +151,8 @@ asked_spared z L M k f b x q spared s all a =
         sealed = r.sealed;
         heard = r.heard;
         text = r.text;
-        message = heard_spared z.server L M k f (checked_as f r.sealed false true r.heard) spared s x.message r.message all;
+        message = heard_spared z.server L M k f (checked_as f r.sealed false true r.heard) spared s x.message a.apart
+            r.message all;
         id = r.id;
         charge = r.charge;
         turn = r.turn;
@@ -158,6 +161,7 @@ asked_spared z L M k f b x q spared s all a =
       fault = a.fault;
       credits = a.credits;
       counts = a.counts;
+      apart = a.apart;
       charge_fits = a.charge_fits;
       command_fits = a.command_fits;
       message_fits = a.message_fits;

@@ -1,17 +1,19 @@
 -- The step of a dialog's request, which isn't sealed: its end, its logons and its one frame, spelled out.
-use Rattle.std.proofs.Common.{◌≡◌, ℕ, ◌==◌, ◌≤◌, Bool, true, false, if◌then◌else◌, List, [], ◌∷◌, refl, sym, ap, ◌∙◌}
-use Rattle.std.proofs.Common.{subst, arith, Option}
+use Rattle.std.proofs.Common.{◌≡◌, ℕ, ◌==◌, ◌≤◌, Bool, true, false, ◌&&◌, ◌||◌, if◌then◌else◌, List, [], ◌∷◌, refl, sym, ap, ◌∙◌}
+use Rattle.std.proofs.Common.{subst, arith, Option, Some, None}
 use Rattle.std.proofs.lemmas.List.{append-nil}
-use Rattle.spec_exchange.specs.Status.{success, more_processing_required}
+use Rattle.spec_exchange.specs.Status.{success, more_processing_required, access_denied}
 use Rattle.spec_exchange.specs.State.{Server, Reply}
 use Rattle.spec_exchange.specs.Network.{Sent, answer}
+use Rattle.spec_wire.specs.messages.Places.{number}
 use Rattle.spec_wire.specs.credits.Window.{HeldIds}
 use Rattle.spec_world.specs.Settings.{WorldSettings}
 use Rattle.spec_world.specs.Messages.{HeardMessage}
 use Rattle.spec_world.specs.Ends.{ServerEnd, Logons}
-use Rattle.spec_world.specs.Hearing.{behind_turn, checked_as}
+use Rattle.spec_world.specs.Hearing.{behind_turn, checked_as, fault_of, is_protected}
 use Rattle.spec_world.specs.Related.{Carry}
 use Rattle.spec_world.specs.Logon.{Progress, Stays, Interim, Final, setup_progress, progress, channel_in, logons_behind}
+use Rattle.spec_world.specs.Logon.{signer_by, unless_faulty}
 use Rattle.spec_world.specs.Answering.{SaidReply, said_text, gathered, texts_of, all_texts, concatenated, each_joined}
 use Rattle.spec_world.specs.Answering.{server_end_moved, server_end_behind, told_each}
 use Rattle.spec_world.specs.Connection.{LastTaken, answered, went_by, beginning}
@@ -49,6 +51,24 @@ logons_to z w k h p =
 
 abbrev pub logons_by : WorldSettings → World → ℕ → HeardMessage → Sent → Logons
 logons_by z w k h x = logons_to z w k h (progress_by w x)
+
+-- ---- who signs it, by what it comes to: a SESSION_SETUP owes nothing here
+
+setup_owes : (f : ServerEnd) (h : HeardMessage) → h.header.command ≡ 1 → fault_of f false false h ≡ None
+setup_owes f h e =
+    ap (λ n. if (n == 0) || ((n == 1) || ((n == 13) && (number 8 h.bytes 40 == 0))) then None
+    else if is_protected f false h then None else Some access_denied) e
+
+pub signer_now : (z : WorldSettings) (w : World) (k : ℕ) (h : HeardMessage) (x : Sent) (p : Progress) → h.header.command ≡ 1
+    → progress_by w x ≡ p
+    → (said_by z w k h x).signer
+    ≡ signer_by (answer w.values x).server z.server.users w.logons k (behind_turn (w.wires k).server_end h.header) (checked_of w k false h)
+    x.message.command (answer w.values x).reply.status p
+signer_now z w k h x p e is =
+    let A = answer w.values x in
+    let f = (w.wires k).server_end in
+    let by = signer_by A.server z.server.users w.logons k (behind_turn f h.header) (checked_of w k false h) x.message.command A.reply.status in
+    ap (λ (o : Option ℕ). unless_faulty o (by (progress_by w x))) (setup_owes f h e) ∙ ap by is
 
 one_dialog : (f : ServerEnd) (s : Server) (L : Logons) (window : HeldIds) (carried : Option Carry)
     (taken : Option LastTaken) (r : SaidReply)

@@ -16,7 +16,7 @@ use Rattle.spec_crypto.specs.sessions.Signing.{signed, verifies}
 use Rattle.spec_world.specs.Settings.{WorldSettings, chosen_of}
 use Rattle.spec_world.specs.Messages.{HeardMessage, messages_in}
 use Rattle.spec_world.specs.Ends.{ClientEnd, ServerEnd, Logons}
-use Rattle.spec_world.specs.Hearing.{is_too_long, begins_sealed, opened_text, opened_by, text_of, checked_as}
+use Rattle.spec_world.specs.Hearing.{is_too_long, begins_sealed, opened_text, opened_by, text_of, checked_as, is_misplaced}
 use Rattle.spec_world.specs.Logon.{token_in, token_shows}
 use Rattle.spec_world.specs.Connection.{told_of, heard_message}
 use Rattle.spec_world.specs.Sending.{request_header, setup_text, setup_frame}
@@ -25,7 +25,8 @@ use Rattle.law_ties.specs.wire_facts.Lawful.{header_as, heard_under, IsLawful}
 use Rattle.law_ties.proofs.wire_facts.Setups.{request_fits, setup_value, setup_fits, SetupSent, setup_message}
 use Rattle.law_ties.specs.events.Links.{Asked, GreetedAs}
 use Rattle.law_ties.proofs.events.Keeping.{false_open}
-use Rattle.law_ties.proofs.requests.Asking.{not_long, plain_by_tests, replay_told, small_low}
+use Rattle.law_ties.proofs.requests.Asking.{not_long, plain_by_tests, related_not, replay_told, small_low}
+use Rattle.law_ties.proofs.requests.Commands.{placed_well}
 
 -- what the client asks
 pub record IsSetupMessage (z : WorldSettings) (k : ℕ) (m : Message) (bound : Bool) (previous : ℕ) (shown : Shows) : Type 0 where
@@ -53,7 +54,7 @@ signed_told false true = refl
 signed_told false false = refl
 
 setup_length : (bound : Bool) (previous : ℕ) (token : List ℕ) → previous < 256 ^ 8 → length token < 256 ^ 2
-    → length (session_setup_request_spelling (setup_value bound previous token)) ≤ 1000000
+    → length (session_setup_request_spelling (setup_value bound previous token)) ≤ 65900
 unfolding size_of
 setup_length bound previous token p short =
     let v = setup_value bound previous token in
@@ -91,8 +92,8 @@ setup_opens z law n bound previous token m sent p short =
     let heads = law.headers in
     let size : length frame ≡ 64 + length body = heads.size h body frame fit is in
     let low = setup_length bound previous token p short in
-    plain_by_tests (is_too_long frame) (begins_sealed frame) (opened_text (opened_by None frame)) (messages_in frame) (heard_under h frame)
-    (not_long (length frame) (omega (arith, size, low))) (heads.plain h body frame is) (heads.alone h body frame fit refl is)
+    plain_by_tests (is_too_long None frame) (begins_sealed frame) (opened_text (opened_by None frame)) (messages_in frame) (heard_under h frame)
+    (not_long 66000 (length frame) (omega (arith, size, low))) (heads.plain h body frame is) (heads.alone h body frame fit refl is)
 
 -- ---- the message
 
@@ -192,8 +193,9 @@ setup_asked z law L k f n bound previous token m shown next i no_keys greeted ow
     let t = told_of z.server L k f c in
     let all = setups.setup t bound previous token m frame s p short (sent_as n bound previous token m) in
     let message : heard_message z.server L k f c ≡ Some m =
-    message_is z k m bound previous shown t token frame i refl greeted.client refl
-    (verified_is z law n (L.keys m.session_id) bound previous token m s own) greeted.cipher greeted.signing shows all.1 in record {
+    placed_well (is_misplaced c) (message_of t x.header frame) (Some m) (related_not bound m.replay)
+    (message_is z k m bound previous shown t token frame i refl greeted.client refl
+    (verified_is z law n (L.keys m.session_id) bound previous token m s own) greeted.cipher greeted.signing shows all.1) in record {
       reads = record {
         sealed = false;
         heard = x;
@@ -207,6 +209,7 @@ setup_asked z law L k f n bound previous token m shown next i no_keys greeted ow
       fault = refl;
       credits = refl;
       counts = refl;
+      apart = related_not bound m.replay;
       charge_fits = omega arith;
       command_fits = omega arith;
       message_fits = s.message_id;

@@ -28,7 +28,7 @@ use Rattle.law_dialogs.specs.runs.Bounds.{PushBounds, LineBounds, DialogBounds, 
 
 -- all that they ask but for `IsWaitingDue`
 pub record Supplies (z : WorldSettings) (w : World) : Type 0 where
-  pub opens : (k : ℕ) → length (greeting_of z w k) ≤ 1114112
+  pub opens : (k : ℕ) → length (greeting_of z w k) ≤ 66000
   pub pushes :
       (k : ℕ) (slotless : List ℕ) (pick : Option Pick) → w.values.client.ready k ≡ true → PushFits z w k slotless (paid w k slotless pick)
   pub lines :

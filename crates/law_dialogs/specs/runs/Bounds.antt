@@ -66,7 +66,7 @@ pub record AcceptingBounds (z : WorldSettings) (w : World) : Type 0 where
 
 -- numbers fit their fields and messages their frames, what waits is of whom it may be of, and an answer tells what was asked
 pub record RunBounds (z : WorldSettings) (w : World) : Type 0 where
-  pub opens : (k : ℕ) → length (greeting_of z w k) ≤ 1114112
+  pub opens : (k : ℕ) → length (greeting_of z w k) ≤ 66000
   pub pushes :
       (k : ℕ) (slotless : List ℕ) (pick : Option Pick) → w.values.client.ready k ≡ true →
       PushBounds z w k slotless (paid w k slotless pick)

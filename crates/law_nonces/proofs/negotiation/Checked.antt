@@ -5,8 +5,8 @@ use Rattle.std.proofs.Common.{Option, Some, None, is_some, Result, Ok, Err}
 use Rattle.law_server.proofs.tables.Logic.{either}
 use Rattle.spec_world.specs.Messages.{HeardMessage}
 use Rattle.spec_world.specs.Ends.{ServerEnd, Greeting, ConnEnd, BadFrame}
-use Rattle.spec_world.specs.Hearing.{FrameText, text_of, is_negotiate, is_setup, turn_end, behind_turn}
-use Rattle.spec_world.specs.Hearing.{fault_of, is_protected}
+use Rattle.spec_world.specs.Hearing.{FrameText, text_of, is_negotiate, turn_end, behind_turn, bars}
+use Rattle.spec_world.specs.Hearing.{fault_of, is_protected, owes_nothing}
 use Rattle.spec_world.specs.Hearing.{Checked, checked_as, Frame, in_front, if_in_turn, checked_behind, checked_in}
 use Rattle.spec_world.specs.Hearing.{checked_text, check_frame}
 use Rattle.law_nonces.proofs.negotiation.Making.{FaultFine}
@@ -27,7 +27,7 @@ FrameFine g m (Ok x) = (x.server_end.greeting ≡ g) × (x.server_end.making ≡
 fault_fine : (f : ServerEnd) (sealed behind : Bool) (x : HeardMessage) → FaultFine (fault_of f sealed behind x)
 fault_fine f sealed behind x =
     either FaultFine behind _ _ (λ _. record { fails = refl; ends = refl })
-    (λ _. either FaultFine (is_negotiate x.header || is_setup x.header) _ _ (λ _. tt)
+    (λ _. either FaultFine (owes_nothing x) _ _ (λ _. tt)
     (λ _. either FaultFine (is_protected f sealed x) _ _ (λ _. tt) (λ _. record { fails = refl; ends = refl })))
 
 -- a message that doesn't end its connection is a NEGOTIATE, or comes behind a greeting
@@ -58,14 +58,14 @@ behind_fine f sealed behind [] = (refl, refl, tt)
 behind_fine f sealed behind (x ∷ xs) =
     in_turn f.greeting f.making (turn_end f x.header) _
     (λ e. with_front f.greeting f.making (checked_as f sealed behind false x) _ (one_fine f sealed behind false x e)
-    (behind_fine (behind_turn f x.header) sealed (behind || is_setup x.header) xs))
+    (behind_fine (behind_turn f x.header) sealed (bars f sealed behind x) xs))
 
 in_fine : (f : ServerEnd) (sealed : Bool) (xs : List HeardMessage) → FrameFine f.greeting f.making (checked_in f sealed xs)
 in_fine f sealed [] = tt
 in_fine f sealed (x ∷ xs) =
     in_turn f.greeting f.making (turn_end f x.header) _
     (λ e. with_front f.greeting f.making (checked_as f sealed false true x) _ (one_fine f sealed false true x e)
-    (behind_fine (behind_turn f x.header) sealed (is_setup x.header) xs))
+    (behind_fine (behind_turn f x.header) sealed (bars f sealed false x) xs))
 
 text_fine : (f : ServerEnd) (t : Result FrameText ConnEnd) → FrameFine f.greeting f.making (checked_text f t)
 text_fine f (Err e) = tt

@@ -4,7 +4,8 @@ use Rattle.std.proofs.Common.{refl, sym, ◌∙◌, ap, subst}
 use Rattle.std.proofs.Common.{Option, Some, None, is_some}
 use Rattle.std.specs.Prelude.{option_map}
 use Rattle.spec_wire.specs.declared.messages.header.Header.{Header}
-use Rattle.spec_exchange.specs.Commands.{Command, Aside, Setup, SetupRequest}
+use Rattle.spec_exchange.specs.Status.{invalid_parameter}
+use Rattle.spec_exchange.specs.Commands.{Command, Unreadable, Aside, Setup, SetupRequest}
 use Rattle.spec_exchange.specs.State.{Server, Message, Making, Reply, Answer}
 use Rattle.spec_exchange.specs.Network.{answer_to}
 use Rattle.spec_commands.specs.CommandOf.{Told, command_of, message_of, heard_as}
@@ -12,11 +13,11 @@ use Rattle.law_server.proofs.tables.Logic.{either}
 use Rattle.spec_world.specs.Settings.{ServerSettings}
 use Rattle.spec_world.specs.Ends.{ServerEnd, Greeting, Logons}
 use Rattle.spec_wire.specs.credits.Window.{after_grant}
-use Rattle.spec_world.specs.Hearing.{Checked, is_negotiate, is_cancel}
-use Rattle.spec_world.specs.Related.{Carry, Turn, Goes, Fails, turn_of, failed_as, related_turn}
+use Rattle.spec_world.specs.Hearing.{Checked, is_negotiate, is_cancel, is_misplaced}
+use Rattle.spec_world.specs.Related.{Carry, Turn, Goes, Fails, turn_of, failed_as, can_follow, related_turn}
 use Rattle.spec_world.specs.Logon.{Progress, Stays, Interim, Final, progress, setup_progress}
 use Rattle.spec_world.specs.Connection.{told_of, heard_message, LastTaken, taken_with, Going, went_by, went_heard}
-use Rattle.spec_world.specs.Connection.{went_turn, went_all, said_to, said_failed}
+use Rattle.spec_world.specs.Connection.{went_turn, went_all, said_to, said_failed, misplaced_command, misplaced, placed}
 use Rattle.law_nonces.proofs.negotiation.Making.{Shape, Moves, answered, FaultFine}
 use Rattle.law_nonces.proofs.negotiation.Checked.{IsFine, AreFine}
 use Rattle.law_nonces.proofs.negotiation.Telling.{FollowsOn, Follow, made_behind, next_made, made_with, follow_with}
@@ -48,12 +49,36 @@ told_message k c t (Some x) m a b n e =
     subst (λ y. IsHeard k c y) same
     (record { connection = a; fault = b; setup = λ q h. n q (ap Some h) })
 
+-- a misplaced message is a SESSION_SETUP where it was one
+setup_placed : {P : Type 0} (fault : Option ℕ) (c : Command) (q : SetupRequest) → misplaced_command fault c ≡ Setup q
+    → ((r : SetupRequest) → c ≡ Setup r → P) → P
+setup_placed (Some fault) c q e f = f q e
+setup_placed None (Setup r) q e f = f r refl
+setup_placed None (Aside status) q e f = absurd (let h : Aside invalid_parameter ≡ Setup q = e in cc)
+setup_placed None c q e f = absurd (let h : Unreadable invalid_parameter ≡ Setup q = e in cc)
+
+placed_heard : (k : ℕ) (c : Checked) (m : Message) → IsHeard k c m → IsHeard k c (misplaced m)
+placed_heard k c m h = record {
+  connection = h.connection;
+  fault = h.fault;
+  setup = λ q e. setup_placed m.fault m.command q e (λ r d. h.setup r d);
+}
+
+placed_message : (k : ℕ) (c : Checked) (broken : Bool) (o : Option Message) (m : Message) → ((n : Message) → o ≡ Some n → IsHeard k c n)
+    → placed broken o ≡ Some m → IsHeard k c m
+placed_message k c false o m f e = f m e
+placed_message k c true None m f e = absurd (let h : None ≡ Some m = e in cc)
+placed_message k c true (Some n) m f e =
+    let same : misplaced n ≡ m = (let h : Some (misplaced n) ≡ Some m = e in cc) in
+    subst (λ y. IsHeard k c y) same (placed_heard k c n (f n refl))
+
 pub heard_is : (z : ServerSettings) (L : Logons) (k : ℕ) (f : ServerEnd) (c : Checked) (m : Message)
     → heard_message z L k f c ≡ Some m → IsHeard k c m
 unfolding message_of
 heard_is z L k f c m e =
-    told_message k c (told_of z L k f c) (command_of (told_of z L k f c) c.header c.bytes) m refl refl
-    (λ q h. command_apart (told_of z L k f c) c.header c.bytes q h) e
+    placed_message k c (is_misplaced c) (message_of (told_of z L k f c) c.header c.bytes) m
+    (λ n d. told_message k c (told_of z L k f c) (command_of (told_of z L k f c) c.header c.bytes) n refl refl
+    (λ q h. command_apart (told_of z L k f c) c.header c.bytes q h) d) e
 
 -- ---- what holds behind some of the messages
 
@@ -97,7 +122,7 @@ went_keeps : (old : ℕ → Option Making) (s : Server) (z : ServerSettings) (k 
     → IsFine f.greeting c → IsHeard k c m → Moves g.server.making m A → GoesOn old s k f g
     → GoesOn old s k f (went_by z k now fresh f g c m A)
 went_keeps old s z k now fresh f g c m A fine is moves i =
-    let r = said_to z k now fresh f g.logons g.window c m.command A.reply in
+    let r = said_to z k now fresh f g.logons g.window c m.command A in
     let b = is_some f.making in
     let here : Shape (progress m.command A.reply) (is_some (g.server.making k)) (is_some (A.server.making k)) =
     subst (λ j. Shape (progress m.command A.reply) (is_some (g.server.making j)) (is_some (A.server.making j)))
@@ -157,7 +182,7 @@ TurnFine g (Goes c) = IsFine g c
 TurnFine g (Fails status) = Unit {0}
 
 related_fine : (g : Option Greeting) (c : Checked) (y : Carry) → IsFine g c → TurnFine g (related_turn c y)
-related_fine g c y fine = either (TurnFine g) (y.status == 0) _ _ (λ _. record { greeted = fine.greeted; fault = fine.fault }) (λ _. tt)
+related_fine g c y fine = either (TurnFine g) (can_follow c y) _ _ (λ _. record { greeted = fine.greeted; fault = fine.fault }) (λ _. tt)
 
 pub turn_fine : (g : Option Greeting) (o : Option Carry) (c : Checked) → IsFine g c → TurnFine g (turn_of o c)
 turn_fine g None c fine = fine

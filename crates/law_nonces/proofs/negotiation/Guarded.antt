@@ -7,7 +7,7 @@ use Rattle.spec_exchange.specs.Commands.{has_bit}
 use Rattle.spec_crypto.specs.declared.sessions.material.Keys.{Keys}
 use Rattle.spec_world.specs.Messages.{HeardMessage}
 use Rattle.spec_world.specs.Ends.{ServerEnd, ConnEnd}
-use Rattle.spec_world.specs.Hearing.{FrameText, text_of, is_negotiate, is_setup, turn_end, behind_turn, signed_by}
+use Rattle.spec_world.specs.Hearing.{FrameText, text_of, is_negotiate, is_setup, is_probe, turn_end, behind_turn, signed_by, bars}
 use Rattle.spec_world.specs.Hearing.{Checked, checked_as, Frame, in_front, if_in_turn, checked_behind, checked_in}
 use Rattle.spec_world.specs.Hearing.{checked_text}
 use Rattle.spec_world.specs.Statements.{FramesAreGuarded}
@@ -16,7 +16,7 @@ use Rattle.spec_world.specs.Statements.{FramesAreGuarded}
 abbrev IsSafe : Option Keys → Bool → Bool → Checked → Type 0
 IsSafe keys owes sealed c =
     c.fault ≡ None → (sealed ≡ true) ⊎ (owes ≡ false) × (has_bit c.header.flags 8 ≡ true) × (signed_by keys c.raw ≡ true)
-    ⊎ (is_setup c.header ≡ true) ⊎ (is_negotiate c.header ≡ true)
+    ⊎ (is_setup c.header ≡ true) ⊎ (is_negotiate c.header ≡ true) ⊎ (is_probe c.header c.raw ≡ true)
 
 abbrev AreSafe : Option Keys → Bool → Bool → List Checked → Type 0
 AreSafe keys owes sealed cs = (i : ℕ) (c : Checked) → slice_get cs i ≡ Some c → IsSafe keys owes sealed c
@@ -25,24 +25,26 @@ abbrev FrameSafe : Option Keys → Bool → Bool → Result Frame ConnEnd → Ty
 FrameSafe keys owes sealed (Err e) = Unit {0}
 FrameSafe keys owes sealed (Ok x) = (x.sealed ≡ sealed) × AreSafe keys owes sealed x.messages
 
--- by the tests: behind a SESSION_SETUP, sealed, encrypts, flagged, signed, NEGOTIATE, SESSION_SETUP
-safe_by : (behind sealed encrypts flagged signed negotiate setup : Bool)
-    → (if behind then Some access_denied else if negotiate || setup then None else if sealed
+-- by the tests: behind a SESSION_SETUP, sealed, encrypts, flagged, signed, NEGOTIATE, SESSION_SETUP, an ECHO of SessionId 0
+safe_by : (behind sealed encrypts flagged signed negotiate setup probe : Bool)
+    → (if behind then Some access_denied else if negotiate || (setup || probe) then None else if sealed
     || (not encrypts && (flagged && signed)) then None else Some access_denied) ≡ None
-    → (sealed ≡ true) ⊎ (encrypts ≡ false) × (flagged ≡ true) × (signed ≡ true) ⊎ (setup ≡ true) ⊎ (negotiate ≡ true)
-safe_by true sealed encrypts flagged signed negotiate setup e = absurd (let q : Some access_denied ≡ None = e in cc)
-safe_by false sealed encrypts flagged signed true setup e = inr (inr (inr refl))
-safe_by false sealed encrypts flagged signed false true e = inr (inr (inl refl))
-safe_by false true encrypts flagged signed false false e = inl refl
-safe_by false false true flagged signed false false e = absurd (let q : Some access_denied ≡ None = e in cc)
-safe_by false false false true true false false e = inr (inl (refl, refl, refl))
-safe_by false false false true false false false e = absurd (let q : Some access_denied ≡ None = e in cc)
-safe_by false false false false signed false false e = absurd (let q : Some access_denied ≡ None = e in cc)
+    → (sealed ≡ true) ⊎ (encrypts ≡ false) × (flagged ≡ true) × (signed ≡ true) ⊎ (setup ≡ true) ⊎ (negotiate ≡ true) ⊎ (probe ≡ true)
+safe_by true sealed encrypts flagged signed negotiate setup probe e = absurd (let q : Some access_denied ≡ None = e in cc)
+safe_by false sealed encrypts flagged signed true setup probe e = inr (inr (inr (inl refl)))
+safe_by false sealed encrypts flagged signed false true probe e = inr (inr (inl refl))
+safe_by false sealed encrypts flagged signed false false true e = inr (inr (inr (inr refl)))
+safe_by false true encrypts flagged signed false false false e = inl refl
+safe_by false false true flagged signed false false false e = absurd (let q : Some access_denied ≡ None = e in cc)
+safe_by false false false true true false false false e = inr (inl (refl, refl, refl))
+safe_by false false false true false false false false e = absurd (let q : Some access_denied ≡ None = e in cc)
+safe_by false false false false signed false false false e = absurd (let q : Some access_denied ≡ None = e in cc)
 
 one_safe : (f : ServerEnd) (sealed behind first : Bool) (x : HeardMessage) → IsSafe f.keys f.encrypts sealed
     (checked_as f sealed behind first x)
 one_safe f sealed behind first x e =
-    safe_by behind sealed f.encrypts (has_bit x.header.flags 8) (signed_by f.keys x.bytes) (is_negotiate x.header) (is_setup x.header) e
+    safe_by behind sealed f.encrypts (has_bit x.header.flags 8) (signed_by f.keys x.bytes) (is_negotiate x.header) (is_setup x.header)
+    (is_probe x.header x.bytes) e
 
 with_safe : (keys : Option Keys) (owes sealed : Bool) (c : Checked) (cs : List Checked) → IsSafe keys owes sealed c
     → AreSafe keys owes sealed cs → AreSafe keys owes sealed (c ∷ cs)
@@ -71,14 +73,14 @@ behind_safe f sealed behind [] = (refl, none_safe f.keys f.encrypts sealed)
 behind_safe f sealed behind (x ∷ xs) =
     turn_safe f.keys f.encrypts sealed (turn_end f x.header) _
     (front_safe f.keys f.encrypts sealed (checked_as f sealed behind false x) _ (one_safe f sealed behind false x)
-    (behind_safe (behind_turn f x.header) sealed (behind || is_setup x.header) xs))
+    (behind_safe (behind_turn f x.header) sealed (bars f sealed behind x) xs))
 
 in_safe : (f : ServerEnd) (sealed : Bool) (xs : List HeardMessage) → FrameSafe f.keys f.encrypts sealed (checked_in f sealed xs)
 in_safe f sealed [] = tt
 in_safe f sealed (x ∷ xs) =
     turn_safe f.keys f.encrypts sealed (turn_end f x.header) _
     (front_safe f.keys f.encrypts sealed (checked_as f sealed false true x) _ (one_safe f sealed false true x)
-    (behind_safe (behind_turn f x.header) sealed (is_setup x.header) xs))
+    (behind_safe (behind_turn f x.header) sealed (bars f sealed false x) xs))
 
 text_safe : (f : ServerEnd) (t : Result FrameText ConnEnd) (x : Frame) → checked_text f t ≡ Ok x
     → AreSafe f.keys f.encrypts x.sealed x.messages

@@ -22,12 +22,12 @@ use Rattle.law_records.proofs.recovery.Steps.{Runs}
 use Rattle.law_records.proofs.recovery.Worlds.{stepped as still_recovers}
 use Rattle.spec_world.specs.Settings.{ServerSettings}
 use Rattle.spec_world.specs.Ends.{ServerEnd, Logons}
-use Rattle.spec_world.specs.Hearing.{Checked, is_cancel}
+use Rattle.spec_world.specs.Hearing.{Checked, is_cancel, is_misplaced}
 use Rattle.spec_world.specs.Related.{Turn, Goes, Fails, turn_of, failed_as}
 use Rattle.spec_world.specs.Logon.{Progress, Stays, Interim, Final, progress, logons_behind, final_keys}
 use Rattle.spec_world.specs.Answering.{SaidReply}
 use Rattle.spec_world.specs.Connection.{told_of, heard_message, LastTaken, taken_with, Going, went_by, went_heard}
-use Rattle.spec_world.specs.Connection.{went_turn, went_all, said_to, said_failed, keys_said}
+use Rattle.spec_world.specs.Connection.{went_turn, went_all, said_to, said_failed, keys_said, misplaced, placed}
 use Rattle.law_nonces.proofs.negotiation.Making.{FaultFine}
 use Rattle.law_nonces.proofs.negotiation.Checked.{IsFine, AreFine}
 use Rattle.law_nonces.proofs.negotiation.Going.{IsHeard, heard_is, TurnFine, turn_fine, answer_server, taken_server}
@@ -150,10 +150,21 @@ told_session c t (Some x) m e =
     let same : heard_as t c.header x ≡ m = (let h : Some (heard_as t c.header x) ≡ Some m = e in cc) in
     ap (λ (y : Message). y.session_id) (sym same)
 
+-- misplaced or not
+placed_session : (session : ℕ) (broken : Bool) (o : Option Message) (m : Message)
+    → ((n : Message) → o ≡ Some n → n.session_id ≡ session) → placed broken o ≡ Some m → m.session_id ≡ session
+placed_session session false o m f e = f m e
+placed_session session true None m f e = absurd (let h : None ≡ Some m = e in cc)
+placed_session session true (Some n) m f e =
+    let same : misplaced n ≡ m = (let h : Some (misplaced n) ≡ Some m = e in cc) in
+    ap (λ (y : Message). y.session_id) (sym same) ∙ f n refl
+
 heard_session : (z : ServerSettings) (L : Logons) (k : ℕ) (f : ServerEnd) (c : Checked) (m : Message)
     → heard_message z L k f c ≡ Some m → m.session_id ≡ c.header.session
 unfolding message_of
-heard_session z L k f c m e = told_session c (told_of z L k f c) (command_of (told_of z L k f c) c.header c.bytes) m e
+heard_session z L k f c m e =
+    placed_session c.header.session (is_misplaced c) (message_of (told_of z L k f c) c.header c.bytes) m
+    (λ n d. told_session c (told_of z L k f c) (command_of (told_of z L k f c) c.header c.bytes) n d) e
 
 -- ---- behind some of the messages
 
@@ -170,7 +181,7 @@ went_keeps : (rs : List Record) (s : Server) (drawn : ℕ → ℕ) (z : ServerSe
     → Drew m A (drawn_behind drawn g.replies) (key_sessions g.logons) → GoesOn rs s drawn g
     → GoesOn rs s drawn (went_by z k now fresh f g c m A)
 went_keeps rs s drawn z k now fresh f g c m A session tables d i =
-    let r = said_to z k now fresh f g.logons g.window c m.command A.reply in
+    let r = said_to z k now fresh f g.logons g.window c m.command A in
     let p = progress m.command A.reply in
     let now_drawn = drawn_behind drawn g.replies in
     let e : DrewBy A.server c.header.session p now_drawn (key_sessions g.logons) =

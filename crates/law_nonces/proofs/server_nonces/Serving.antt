@@ -17,7 +17,7 @@ use Rattle.law_records.proofs.recovery.Restarts.{restarted}
 use Rattle.spec_world.specs.Settings.{ServerSettings, WorldSettings, draw}
 use Rattle.spec_world.specs.Messages.{HeardMessage}
 use Rattle.spec_world.specs.Ends.{ServerEnd, Logons, ConnEnd, Spent}
-use Rattle.spec_world.specs.Hearing.{FrameText, text_of, is_setup, turn_end, behind_turn, Checked, checked_as, Frame, in_front}
+use Rattle.spec_world.specs.Hearing.{FrameText, text_of, turn_end, behind_turn, Checked, checked_as, Frame, in_front, bars}
 use Rattle.spec_world.specs.Hearing.{if_in_turn, checked_behind, checked_in, checked_text, check_frame}
 use Rattle.spec_world.specs.Answering.{all_texts, joined_in, text_limit, each_joined, concatenated, has_nonces, Seal}
 use Rattle.spec_world.specs.Connection.{LastTaken, Going, ConnectionStep, ended_by, counted_on, answered_with}
@@ -58,13 +58,13 @@ unfolding checked_behind
 behind_same f sealed behind [] = (refl, refl, refl)
 behind_same f sealed behind (x ∷ xs) =
     turn_same f (turn_end f x.header) _ (front_same f (checked_as f sealed behind false x) _
-    (behind_same (behind_turn f x.header) sealed (behind || is_setup x.header) xs))
+    (behind_same (behind_turn f x.header) sealed (bars f sealed behind x) xs))
 
 in_same : (f : ServerEnd) (sealed : Bool) (xs : List HeardMessage) → FrameSame f (checked_in f sealed xs)
 in_same f sealed [] = tt
 in_same f sealed (x ∷ xs) =
     turn_same f (turn_end f x.header) _ (front_same f (checked_as f sealed false true x) _
-    (behind_same (behind_turn f x.header) sealed (is_setup x.header) xs))
+    (behind_same (behind_turn f x.header) sealed (bars f sealed false x) xs))
 
 text_same : (f : ServerEnd) (t : Result FrameText ConnEnd) → FrameSame f (checked_text f t)
 text_same f (Err e) = tt

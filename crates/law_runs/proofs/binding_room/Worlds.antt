@@ -23,7 +23,7 @@ use Rattle.law_dialogs.specs.dialog_requests.Serving.{IsDialogFront}
 use Rattle.law_dialogs.proofs.dialog_requests.Sparing.{session_at}
 use Rattle.law_dialogs.proofs.dialog_requests.Step.{progress_by, text_by, logons_by, served as served_dialog}
 use Rattle.law_dialogs.proofs.dialog_requests.Front.{shared_at}
-use Rattle.law_dialogs.proofs.dialog_requests.Serve.{plain_front, AloneTied, Fronted, fronted, front_is}
+use Rattle.law_dialogs.proofs.dialog_requests.Serve.{plain_front, read_as, AloneTied, Fronted, fronted, front_is}
 use Rattle.law_nonces.proofs.negotiation.Making.{FaultFine}
 use Rattle.law_nonces.specs.server_nonces.Numbering.{AreTables, NonceDraws, next_drawn, DrawsOn, key_sessions, NonceKeeps}
 use Rattle.law_nonces.proofs.server_nonces.Drawing.{DrewBy, drew}
@@ -160,7 +160,8 @@ by_dialog held z law w k b bs x drawn i F front t empty d given few =
     let y = x.message.session_id in
     let p = progress_by w x in
     let c = checked_as f r.sealed false true h in
-    let told : y ≡ h.header.session = session_at (told_of z.server w.logons k f c) h.header h.bytes x.message r.message in
+    let told : y ≡ h.header.session = session_at (told_of z.server w.logons k f c) h.header h.bytes x.message
+    (read_as z w.logons k f b x G.bill a) in
     let e = d.by in
     let more = next_drawn drawn y p in
     let logons : Given (logons_by z w k h x) more =

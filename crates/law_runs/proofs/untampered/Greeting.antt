@@ -162,7 +162,7 @@ sent c k = record {
   session_id = omega arith;
 }
 
-pub greeting_short : (z : WorldSettings) → IsLawful z → IsFitting z → (w : World) (k : ℕ) → length (greeting_of z w k) ≤ 1114112
+pub greeting_short : (z : WorldSettings) → IsLawful z → IsFitting z → (w : World) (k : ℕ) → length (greeting_of z w k) ≤ 66000
 unfolding greeting_text
 greeting_short z law fit w k =
     let c = w.values.client in

@@ -43,7 +43,7 @@ nothing_sealed false false (Some ms) t e s =
 
 pub sealed_keys : (keys : Option Keys) (b : List ℕ) (t : FrameText) → text_of keys b ≡ Ok t → t.sealed ≡ true → is_some keys ≡ true
 sealed_keys (Some keys) b t e s = refl
-sealed_keys None b t e s = absurd (nothing_sealed (is_too_long b) (begins_sealed b) (messages_in b) t e s)
+sealed_keys None b t e s = absurd (nothing_sealed (is_too_long None b) (begins_sealed b) (messages_in b) t e s)
 
 -- ---- its turn
 
@@ -176,7 +176,7 @@ told_at z w k b x bill r may =
     let m = x.message in
     let A = answer w.values x in
     let G = went_by z.server k now fresh F (beginning s L F) c m A in
-    let said = said_to z.server k now fresh F L F.window c m.command A.reply in
+    let said = said_to z.server k now fresh F L F.window c m.command A in
     subst (λ S. IsTold S (Some (record { message = m; answer = A }))) (sym (step_is z w k b x bill r may))
     (one_told F r.sealed G.server G.logons G.window G.carried G.taken said
     (λ e. sealed_keys f.keys b (record { sealed = r.sealed; messages = r.heard ∷ [] }) r.text e) may.nonce)

@@ -19,8 +19,7 @@ use Rattle.spec_crypto.specs.sessions.Sealing.{sealed, opened}
 use Rattle.spec_world.specs.Settings.{WorldSettings}
 use Rattle.spec_world.specs.Messages.{HeardMessage, messages_in, message_spelling}
 use Rattle.spec_world.specs.Ends.{ClientEnd, ServerEnd, Logons, ConnEnd, BadFrame, client_on, nonce_at}
-use Rattle.spec_world.specs.Hearing.{FrameText, begins_sealed, opened_by, opened_text, split_text, is_too_long, text_of, is_negotiate}
-use Rattle.spec_world.specs.Hearing.{is_setup, signed_by, is_protected, fault_of, checked_as}
+use Rattle.spec_world.specs.Hearing.{FrameText, begins_sealed, opened_by, opened_text, split_text, is_too_long, text_of, is_negotiate, is_setup, signed_by, is_protected, fault_of, checked_as, is_misplaced, is_encrypted, owes_nothing}
 use Rattle.spec_world.specs.Negotiate.{client_told}
 use Rattle.spec_world.specs.Connection.{told_of, heard_message}
 use Rattle.spec_world.specs.Sending.{request_header, request_text, line_frame}
@@ -28,6 +27,7 @@ use Rattle.law_ties.specs.wire_facts.Fitting.{IsMessage, Bare, Signed}
 use Rattle.law_ties.specs.wire_facts.Lawful.{header_as, heard_under, IsLawful}
 use Rattle.law_ties.specs.events.Links.{is_line, is_operations, Asked}
 use Rattle.law_ties.specs.requests.Sending.{IsLineMessage}
+use Rattle.law_ties.proofs.requests.Commands.{placed_well}
 
 -- ---- the header
 
@@ -49,6 +49,14 @@ replay_told true true = refl
 replay_told true false = refl
 replay_told false true = refl
 replay_told false false = refl
+
+-- a client's request isn't related
+pub related_not : (a b : Bool) → has_bit (bit_if a 8 + bit_if b 0x2000_0000) 4 ≡ false
+unfolding bit_if has_bit
+related_not true true = refl
+related_not true false = refl
+related_not false true = refl
+related_not false false = refl
 
 abbrev pub head_of : Message → ℕ → Bool → Header
 head_of m charge is_signed = request_header m charge (number_of_command m.command) is_signed
@@ -81,8 +89,8 @@ head_fits z n k m charge is_signed i =
 
 -- ---- the frame's text
 
-pub not_long : (n : ℕ) → n ≤ 1114112 → nat_lt 1114112 n ≡ false
-not_long n e = grind (arith, nat_tests)
+pub not_long : (limit n : ℕ) → n ≤ limit → nat_lt limit n ≡ false
+not_long limit n e = grind (arith, nat_tests)
 
 sealed_by_tests : (long begins : Bool) (o : Option (List ℕ)) (rest : Result FrameText ConnEnd) (x : HeardMessage)
     (text : List ℕ) → long ≡ false
@@ -99,9 +107,11 @@ plain_by_tests true begins o m x e f g = absurd (let q : true ≡ false = e in c
 plain_by_tests false true o m x e f g = absurd (let q : true ≡ false = f in cc)
 plain_by_tests false false o m x e f g = ap (split_text false) g
 
-opens_by : (b : Bool) (o : Option (List ℕ)) → b ≡ false → (if b then None else o) ≡ o
-opens_by true o e = absurd (let q : true ≡ false = e in cc)
-opens_by false o e = refl
+opens_by : (none flagged : Bool) (o : Option (List ℕ)) → none ≡ false → flagged ≡ true
+    → (if none then None else if flagged then o else None) ≡ o
+opens_by true flagged o e f = absurd (let q : true ≡ false = e in cc)
+opens_by false true o e f = refl
+opens_by false false o e f = absurd (let q : false ≡ true = f in cc)
 
 pub record IsTexted (keys : Keys) (m : Message) (charge : ℕ) (encrypts : Bool) (frame : List ℕ) : Type 0 where
   pub bytes : List ℕ
@@ -129,11 +139,13 @@ texted z law n k m charge true e i id sealable =
     let short = i.short in
     let low : length plain ≤ 1114060 = omega (arith, size, short) in
     let frame = sealed n.keys true (nonce_at n.channel n.counter) plain in
-    let long : is_too_long frame ≡ false = not_long (length frame) (ciphers.short n.keys true n.channel n.counter plain low) in
+    let long : is_too_long (Some n.keys) frame ≡ false =
+    not_long 1114112 (length frame) (ciphers.short n.keys true n.channel n.counter plain low) in
     let opens : opened_by (Some n.keys) frame ≡ Some plain =
-    opens_by (n.keys.cipher == 0) (opened n.keys true frame) (sealable refl) ∙ ciphers.opens n.keys true n.channel n.counter plain low id in
+    opens_by (n.keys.cipher == 0) (is_encrypted frame) (opened n.keys true frame) (sealable refl)
+    (ciphers.flagged n.keys true n.channel n.counter plain) ∙ ciphers.opens n.keys true n.channel n.counter plain low id in
     let whole : text_of (Some n.keys) frame ≡ Ok (record { sealed = true; messages = heard_under h plain ∷ [] }) =
-    sealed_by_tests (is_too_long frame) (begins_sealed frame) (opened_by (Some n.keys) frame) (split_text false (messages_in frame))
+    sealed_by_tests (is_too_long (Some n.keys) frame) (begins_sealed frame) (opened_by (Some n.keys) frame) (split_text false (messages_in frame))
     (heard_under h plain) plain long (ciphers.begins n.keys true (nonce_at n.channel n.counter) plain) opens
     (heads.alone h body plain fit refl is) in
     let same : line_frame n m charge ≡ frame =
@@ -157,9 +169,9 @@ texted z law n k m charge false e i id sealable =
     let size : length frame ≡ 64 + length body = heads.size h body frame fit is in
     let plain_size : length plain ≡ 64 + length body = heads.size h body plain fit (Bare refl) in
     let short = i.short in
-    let long : is_too_long frame ≡ false = not_long (length frame) (omega (arith, size, short)) in
+    let long : is_too_long (Some n.keys) frame ≡ false = not_long 1114112 (length frame) (omega (arith, size, short)) in
     let whole : text_of (Some n.keys) frame ≡ Ok (record { sealed = false; messages = heard_under h frame ∷ [] }) =
-    plain_by_tests (is_too_long frame) (begins_sealed frame) (opened_text (opened_by (Some n.keys) frame)) (messages_in frame)
+    plain_by_tests (is_too_long (Some n.keys) frame) (begins_sealed frame) (opened_text (opened_by (Some n.keys) frame)) (messages_in frame)
     (heard_under h frame) long (heads.plain h body frame is) (heads.alone h body frame fit refl is) in
     let same : line_frame n m charge ≡ frame =
     ap (λ b. if b then sealed n.keys true (nonce_at n.channel n.counter) (request_text m charge false) else frame) e in record {
@@ -175,14 +187,10 @@ texted z law n k m charge false e i id sealable =
 pub small_low : (n : ℕ) → n < 256 ^ 2 → n % 65536 ≡ n
 small_low n e = omega (arith, e)
 
-either_not : (first second : Bool) → first ≡ false → second ≡ false → (first || second) ≡ false
-either_not first second e f = ap (λ b. b || second) e ∙ f
-
-fault_none : (first protected : Bool) → first ≡ false → protected ≡ true
-    → (if first then None else if protected then None else Some access_denied) ≡ None
-fault_none true protected e f = refl
-fault_none false true e f = refl
-fault_none false false e f = absurd (let q : false ≡ true = f in cc)
+fault_none : (free protected : Bool) → protected ≡ true → (if free then None else if protected then None else Some access_denied) ≡ None
+fault_none true protected e = refl
+fault_none false true e = refl
+fault_none false false e = absurd (let q : false ≡ true = e in cc)
 
 protected_by : (encrypts end_encrypts flagged right : Bool) → end_encrypts ≡ encrypts → (encrypts ≡ false → flagged ≡ true)
     → (encrypts ≡ false → right ≡ true) → (encrypts || (not end_encrypts && (flagged && right))) ≡ true
@@ -242,16 +250,15 @@ asked_new z law L n f k token m charge next i asks id sealable keys encrypts gre
     let right : e ≡ false → signed_by f.keys t.bytes ≡ true = λ q. ap (λ o. signed_by o t.bytes) keys ∙ t.verified q in
     let protected : is_protected f e x ≡ true =
     protected_by e f.encrypts (has_bit x.header.flags 8) (signed_by f.keys t.bytes) encrypts (λ q. flagged_if e m.replay q) right in
-    let fault : fault_of f e false x ≡ None =
-    fault_none (is_negotiate x.header || is_setup x.header) (is_protected f e x)
-    (either_not (is_negotiate x.header) (is_setup x.header) first second) protected in
+    let fault : fault_of f e false x ≡ None = fault_none (owes_nothing x) (is_protected f e x) protected in
     let c = checked_as f e false true x in
     let told = told_of z.server L k f c in
     let command = i.reads told h t.bytes t.fits t.is refl in
     let message : heard_message z.server L k f c ≡ Some m =
-    message_is z n k m charge (not e) told t.bytes i refl
+    placed_well (is_misplaced c) (message_of told x.header t.bytes) (Some m) (related_not (not e) m.replay)
+    (message_is z n k m charge (not e) told t.bytes i refl
     (client_not (is_negotiate x.header) (client_told t.bytes) (client_on f.greeting) first
-    ∙ (client ∙ sym i.client)) fault command in
+    ∙ (client ∙ sym i.client)) fault command) in
     let line : is_line x ≡ true = there (is_negotiate x.header) (is_setup x.header) first second in record {
       reads = record {
         sealed = e;
@@ -266,6 +273,7 @@ asked_new z law L n f k token m charge next i asks id sealable keys encrypts gre
       fault = fault;
       credits = refl;
       counts = i.cancels_not;
+      apart = related_not (not e) m.replay;
       charge_fits = s.charge_fits;
       command_fits = i.small;
       message_fits = s.message_id;

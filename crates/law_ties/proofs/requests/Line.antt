@@ -7,16 +7,18 @@ use Rattle.spec_exchange.specs.Commands.{Command}
 use Rattle.spec_exchange.specs.State.{Reply}
 use Rattle.spec_exchange.specs.Network.{World as Values, Conn, Sent, Received, Serve, answer, behind_front, say_down}
 use Rattle.spec_exchange.specs.Network.{serve_front, is_possible}
+use Rattle.spec_wire.specs.messages.Places.{number}
 use Rattle.spec_wire.specs.credits.Ids.{counted, outside}
 use Rattle.spec_wire.specs.credits.Window.{HeldIds, granted, after_take}
 use Rattle.spec_wire.specs.credits.Exchange.{Line, FrontIsHeld, NothingIsRefused}
+use Rattle.spec_commands.specs.CommandOf.{message_of}
 use Rattle.spec_commands.specs.ReplyBody.{reply_body}
 use Rattle.spec_crypto.specs.declared.sessions.material.Keys.{Keys}
 use Rattle.spec_world.specs.Settings.{WorldSettings, draw}
 use Rattle.spec_world.specs.Messages.{HeardMessage}
 use Rattle.spec_world.specs.Ends.{signer_on}
-use Rattle.spec_world.specs.Hearing.{is_negotiate, is_setup, window_behind, behind_turn, Checked, checked_as}
-use Rattle.spec_world.specs.Logon.{Stays, progress, token_in, answer_token_by, logons_behind, signer_of}
+use Rattle.spec_world.specs.Hearing.{is_negotiate, is_setup, window_behind, behind_turn, Checked, checked_as, is_misplaced, is_probe}
+use Rattle.spec_world.specs.Logon.{Stays, progress, token_in, answer_token_by, logons_behind, signer_by, unless_faulty, signer_of}
 use Rattle.spec_world.specs.Answering.{SaidReply, said_body}
 use Rattle.spec_world.specs.Connection.{told_of, said_to, went_by, beginning, answered}
 use Rattle.spec_world.specs.World.{World, Wires, answered_wires, served_on, served_by, step_at, serve_frame}
@@ -29,7 +31,7 @@ use Rattle.law_ties.proofs.events.Taking.{put_same}
 use Rattle.law_ties.proofs.events.Serving.{step_is, told_at, said_values}
 use Rattle.law_ties.proofs.events.InStep.{next_low, front_held, has_frame_up}
 use Rattle.law_ties.specs.requests.Lines.{is_lines, ReplyFits, TellsToken, IsLineFront, LineServesAreKept}
-use Rattle.law_ties.proofs.requests.Commands.{line_header, line_stays}
+use Rattle.law_ties.proofs.requests.Commands.{line_header, line_stays, line_signer, well_placed, line_asks}
 use Rattle.law_ties.proofs.requests.Answering.{LineStep, answer_frame, one_line}
 use Rattle.law_ties.proofs.requests.Hearing.{plain_flags, told_header, with_flags, IsSaid, answered_to, body_told, tree_told}
 use Rattle.law_ties.proofs.requests.Linking.{end_behind, window_is, served_link}
@@ -59,6 +61,10 @@ key_of (Some keys) e = (keys, refl)
 same_keys : (o : Option Keys) (a b : Keys) → o ≡ Some a → o ≡ Some b → a ≡ b
 same_keys o a b e f = (let h : Some a ≡ Some b = sym e ∙ f in cc)
 
+no_probe : (echo zeros : Bool) → echo ≡ false → (echo && zeros) ≡ false
+no_probe true zeros e = absurd (let q : true ≡ false = e in cc)
+no_probe false zeros e = refl
+
 line_there : (first second : Bool) → first ≡ false → second ≡ false → (not first && not second) ≡ true
 line_there first second e f = ap (λ b. not b && not second) e ∙ ap not f
 
@@ -87,7 +93,7 @@ abbrev pub said_of : WorldSettings → World → ℕ → Bool → HeardMessage �
 said_of z w k sealed h x =
     let F = behind_turn (w.wires k).server_end h.header in
     said_to z.server k w.values.moment (fresh_of z w) F w.logons F.window (checked_of w k sealed h) x.message.command
-    (answer w.values x).reply
+    (answer w.values x)
 
 abbrev pub token_of : WorldSettings → World → ℕ → HeardMessage → Sent → List ℕ
 token_of z w k h x =
@@ -124,7 +130,12 @@ served z w k b x q a may line =
     let A = answer w.values x in
     let now = w.values.moment in
     let fresh = fresh_of z w in
-    let both = line_header (told_of z.server w.logons k f c) h r.heard.bytes m r.message line in
+    let told = told_of z.server w.logons k f c in
+    let read : message_of told h r.heard.bytes ≡ Some m =
+    well_placed (is_misplaced c) (message_of told h r.heard.bytes) (Some m) a.apart r.message in
+    let both = line_header told h r.heard.bytes m read line in
+    let asks : is_probe h r.heard.bytes ≡ false =
+    no_probe (h.command == 13) (number 8 r.heard.bytes 40 == 0) (line_asks told h r.heard.bytes m read line) in
     let there : is_line r.heard ≡ true = line_there (is_negotiate h) (is_setup h) both.0 both.1 in
     let owed = a.sealing there in
     let key = key_of f.keys owed.1 in
@@ -144,7 +155,11 @@ served z w k b x q a may line =
       said = record {
         header = refl;
         says = body_is z.server.guid F.salt now c (token_of z w k r.heard x) m.command A.reply both.0;
-        signer = ap (signer_of z.server.users w.logons k F c) stays ∙ ap signer_on key.1;
+        signer = ap (λ (o : Option ℕ). unless_faulty o
+            (signer_by A.server z.server.users w.logons k F c m.command A.reply.status (progress m.command A.reply))) a.fault
+            ∙ (ap (signer_by A.server z.server.users w.logons k F c m.command A.reply.status) stays
+            ∙ (line_signer A.server w.logons F c m.command A.reply.status line
+            ∙ (ap (λ b. if b then None else signer_on F.keys) asks ∙ ap signer_on key.1)));
       };
     }
 

@@ -41,6 +41,7 @@ asked_later z L k f h sealed b x q later a =
       fault = a.fault;
       credits = a.credits;
       counts = a.counts;
+      apart = a.apart;
       charge_fits = a.charge_fits;
       command_fits = a.command_fits;
       message_fits = a.message_fits;

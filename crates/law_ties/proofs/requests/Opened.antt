@@ -23,7 +23,7 @@ use Rattle.spec_world.specs.Settings.{WorldSettings, draw}
 use Rattle.spec_world.specs.Messages.{messages_in}
 use Rattle.spec_world.specs.Ends.{ClientEnd, ServerEnd, Logons, no_keys, first_server_end}
 use Rattle.spec_world.specs.Negotiate.{negotiate_request_body, negotiate_status, client_told}
-use Rattle.spec_world.specs.Hearing.{is_too_long, begins_sealed, opened_text, opened_by, text_of, checked_as}
+use Rattle.spec_world.specs.Hearing.{is_too_long, begins_sealed, opened_text, opened_by, text_of, checked_as, is_misplaced}
 use Rattle.spec_world.specs.Connection.{told_of, heard_message}
 use Rattle.spec_world.specs.Sending.{request_header, greeting_text}
 use Rattle.spec_world.specs.World.{World, salt_of, greeting_of, first_client_end, fresh_wires, opened_wires}
@@ -33,7 +33,8 @@ use Rattle.law_ties.specs.wire_facts.Lawful.{header_as, heard_under, IsLawful}
 use Rattle.law_ties.specs.events.Links.{Shared, shared_of, Asked, AllAsked, Waiting, Talks, Waits, Lost, TieOf, IsTied}
 use Rattle.law_ties.proofs.events.Keeping.{both_tables, false_open}
 use Rattle.law_ties.specs.requests.Opened.{OpensAreKept}
-use Rattle.law_ties.proofs.requests.Asking.{not_long, plain_by_tests}
+use Rattle.law_ties.proofs.requests.Asking.{not_long, plain_by_tests, related_not}
+use Rattle.law_ties.proofs.requests.Commands.{placed_well}
 
 -- ---- the bytes that are drawn
 
@@ -118,7 +119,7 @@ greeting_heard z law w k =
     (sent w.values.client k) in record { status = all.0; client = all.2 }
 
 -- it is read as what it was made for, by an end that heard nothing yet
-greeting_text_is : (z : WorldSettings) → IsLawful z → (w : World) (k : ℕ) → length (greeting_of z w k) ≤ 1114112
+greeting_text_is : (z : WorldSettings) → IsLawful z → (w : World) (k : ℕ) → length (greeting_of z w k) ≤ 66000
     → text_of None (greeting_of z w k)
     ≡ Ok (record { sealed = false; messages = heard_under (greeting_header w.values.client k) (greeting_of z w k) ∷ [] })
 greeting_text_is z law w k short =
@@ -127,11 +128,11 @@ greeting_text_is z law w k short =
     let body = negotiate_request_body z.client (salt_of z w) in
     let heads = law.headers in
     let is = greeting_is z w k in
-    plain_by_tests (is_too_long b) (begins_sealed b) (opened_text (opened_by None b)) (messages_in b) (heard_under h b)
-    (not_long (length b) short) (heads.plain h body b is) (heads.alone h body b (header_fits w.values.client k) refl is)
+    plain_by_tests (is_too_long None b) (begins_sealed b) (opened_text (opened_by None b)) (messages_in b) (heard_under h b)
+    (not_long 66000 (length b) short) (heads.plain h body b is) (heads.alone h body b (header_fits w.values.client k) refl is)
 
 greeting_asked : (z : WorldSettings) → IsLawful z → (w : World) (k : ℕ) (salt : List ℕ) → w.values.client.who.guid ≡ number_of z.client.guid
-    → length (greeting_of z w k) ≤ 1114112
+    → length (greeting_of z w k) ≤ 66000
     → Asked z w.logons k (first_server_end salt) (greeting_of z w k) (record {
       token = ForDialog;
       message = greeting_message w.values.client k;
@@ -144,7 +145,9 @@ greeting_asked z law w k salt guid short =
     let x = heard_under h b in
     let d = checked_as f false false true x in
     let message : heard_message z.server w.logons k f d ≡ Some (greeting_message c k) =
-    greeted_message z c k (told_of z.server w.logons k f d) b guid (greeting_heard z law w k) refl refl refl refl in record {
+    placed_well (is_misplaced d) (message_of (told_of z.server w.logons k f d) x.header b) (Some (greeting_message c k))
+    (related_not false false)
+    (greeted_message z c k (told_of z.server w.logons k f d) b guid (greeting_heard z law w k) refl refl refl refl) in record {
       reads = record {
         sealed = false;
         heard = x;
@@ -158,6 +161,7 @@ greeting_asked z law w k salt guid short =
       fault = refl;
       credits = refl;
       counts = refl;
+      apart = related_not false false;
       charge_fits = omega arith;
       command_fits = omega arith;
       message_fits = omega arith;
@@ -188,7 +192,7 @@ asked_if z L k f b x false a e = false_open e
 live_keys : (live : Bool) (keys : Keys) → live ≡ true → (if live then keys else no_keys) ≡ keys
 live_keys live keys e = ap (λ b. if b then keys else no_keys) e
 
-greeting_waits : (z : WorldSettings) → IsLawful z → (w : World) (k : ℕ) → length (greeting_of z w k) ≤ 1114112
+greeting_waits : (z : WorldSettings) → IsLawful z → (w : World) (k : ℕ) → length (greeting_of z w k) ≤ 66000
     → Waiting z (shared_of w.values.client w.keys w.logons) k (first_client_end z w (greeting_of z w k))
     (first_server_end (take 32 (draw z.seed (w.draws + 3)))) (greeting_of z w k) (record {
       token = ForDialog;
@@ -229,7 +233,7 @@ talks_if z s k n f b x l stage true i = Waits b x refl refl refl refl (λ e. i)
 talks_if z s k n f b x l stage false i = Lost refl refl refl refl refl
 
 opened_tie : (z : WorldSettings) → IsLawful z → (w : World) (k : ℕ) (served : Bool) → w.values.client.who.guid ≡ number_of z.client.guid
-    → length (greeting_of z w k) ≤ 1114112
+    → length (greeting_of z w k) ≤ 66000
     → TieOf z w.values.client.op (shared_of w.values.client w.keys w.logons) k (fresh w.values.client k served)
     (fresh_wires z w (greeting_of z w k) served)
 opened_tie z law w k served guid short =
@@ -263,7 +267,7 @@ opened_tie z law w k served guid short =
     }
 
 opened_ties : (z : WorldSettings) → IsLawful z → (w : World) (k : ℕ) → IsTied z w → w.values.client.who.guid ≡ number_of z.client.guid
-    → length (greeting_of z w k) ≤ 1114112 → IsTied z (opened_wires z w k)
+    → length (greeting_of z w k) ≤ 66000 → IsTied z (opened_wires z w k)
 opened_ties z law w k i guid short =
     let c = w.values.client in
     let s = shared_of c w.keys w.logons in

@@ -3,7 +3,7 @@ use Rattle.std.specs.Prelude.{◌≡◌, ℕ, ◌+◌, ◌==◌, ◌≤◌, ◌<
 use Rattle.std.specs.Prelude.{Some, None, is_some, Ok}
 use Rattle.spec_wire.specs.messages.Places.{number_of}
 use Rattle.spec_exchange.specs.Status.{success}
-use Rattle.spec_exchange.specs.Commands.{Command, Aside, Setup, SetupRequest}
+use Rattle.spec_exchange.specs.Commands.{Command, Aside, Setup, SetupRequest, has_bit}
 use Rattle.spec_exchange.specs.State.{Message}
 use Rattle.spec_exchange.specs.Operations.{Op}
 use Rattle.spec_exchange.specs.Client.{Client, Stage, Apart, SaidNegotiate, SaidFirst, SaidSecond, AskedTree}
@@ -57,6 +57,7 @@ pub record Asked (z : WorldSettings) (L : Logons) (k : ℕ) (f : ServerEnd) (b :
   pub fault : fault_of f reads.sealed false reads.heard ≡ None
   pub credits : reads.heard.header.credits ≡ 512
   pub counts : is_cancel reads.heard.header ≡ false
+  pub apart : has_bit reads.heard.header.flags 4 ≡ false  -- it isn't related
   pub charge_fits : reads.heard.header.charge < 256 ^ 2
   pub command_fits : reads.heard.header.command < 256 ^ 2
   pub message_fits : reads.heard.header.message < 256 ^ 8

@@ -24,7 +24,7 @@ use Rattle.spec_world.specs.Settings.{WorldSettings, chosen_of, logon_of}
 use Rattle.spec_world.specs.Messages.{HeardMessage, messages_in}
 use Rattle.spec_world.specs.Ends.{ClientEnd, nonce_at}
 use Rattle.spec_world.specs.Negotiate.{negotiate_status, negotiated, client_told, negotiate_response_body}
-use Rattle.spec_world.specs.Hearing.{begins_sealed}
+use Rattle.spec_world.specs.Hearing.{begins_sealed, is_encrypted}
 use Rattle.spec_world.specs.Logon.{token_in, token_shows, exported, pending_by, challenge_of, final_of}
 use Rattle.spec_world.specs.Sending.{greeting_text, setup_text, request_header, answer_of}
 use Rattle.spec_world.specs.Dialog.{response_in, body_reads, has_contexts, choice_fault, chosen_told, is_hint, setup_token, setup_flags}
@@ -45,6 +45,8 @@ pub record AreCiphersLawful : Type 0 where
   pub opens : (keys : Keys) (from_client : Bool) (channel counter : ℕ) (text : List ℕ) → length text ≤ 1114060 → keys.session < 2 ^ 64 →
       opened keys from_client (sealed keys from_client (nonce_at channel counter) text) ≡ Some text
   pub begins : (keys : Keys) (from_client : Bool) (nonce text : List ℕ) → begins_sealed (sealed keys from_client nonce text) ≡ true
+  pub flagged : (keys : Keys) (from_client : Bool) (channel counter : ℕ) (text : List ℕ) →
+      is_encrypted (sealed keys from_client (nonce_at channel counter) text) ≡ true
   pub short : (keys : Keys) (from_client : Bool) (channel counter : ℕ) (text : List ℕ) → length text ≤ 1114060 →
       length (sealed keys from_client (nonce_at channel counter) text) ≤ 1114112
 
