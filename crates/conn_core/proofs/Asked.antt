@@ -3,7 +3,7 @@ use Rattle.std.proofs.Common.{◌≡◌, Bool, true, false, ◌||◌, List, [], 
 use Rattle.std.specs.Prelude.{is_some}
 use Rattle.spec_world.specs.Ends.{ServerEnd, ConnEnd}
 use Rattle.spec_world.specs.Messages.{HeardMessage}
-use Rattle.spec_world.specs.Hearing.{Checked, Frame, FrameText, is_negotiate, is_setup, turn_end, behind_turn, in_front, checked_as}
+use Rattle.spec_world.specs.Hearing.{Checked, Frame, FrameText, is_negotiate, turn_end, behind_turn, in_front, checked_as, bars}
 use Rattle.spec_world.specs.Hearing.{checked_in, checked_behind, checked_text}
 use Rattle.conn_ends.proofs.frame_messages.Greets.{in_turn}
 use Rattle.conn_core.specs.message_replies.Replying.{AreAsked}
@@ -49,7 +49,7 @@ kept_behind f sealed setup [] F e =
 kept_behind f sealed setup (x ∷ xs) F e =
     let t = in_turn (turn_end f x.header) _ F e in
     let b = front_is (checked_as f sealed setup false x) _ F t.1 in
-    let k = kept_behind (behind_turn f x.header) sealed (setup || is_setup x.header) xs b.0 b.1 in
+    let k = kept_behind (behind_turn f x.header) sealed (bars f sealed setup x) xs b.0 b.1 in
     subst (λ (y : Frame). KeptBehind f y) b.2
     (one_kept f (behind_turn f x.header) (checked_as f sealed setup false x) b.0 k refl
     (λ a. ap (λ (y : Bool). is_negotiate x.header || y) a ∙ or_true (is_negotiate x.header))
@@ -60,7 +60,7 @@ kept_in f sealed [] F e = absurd cc
 kept_in f sealed (x ∷ xs) F e =
     let t = in_turn (turn_end f x.header) _ F e in
     let b = front_is (checked_as f sealed false true x) _ F t.1 in
-    let k = kept_behind (behind_turn f x.header) sealed (is_setup x.header) xs b.0 b.1 in
+    let k = kept_behind (behind_turn f x.header) sealed (bars f sealed false x) xs b.0 b.1 in
     subst (λ (y : Frame). KeptBehind f y) b.2
     (one_kept f (behind_turn f x.header) (checked_as f sealed false true x) b.0 k refl
     (λ a. ap (λ (y : Bool). is_negotiate x.header || y) a ∙ or_true (is_negotiate x.header))

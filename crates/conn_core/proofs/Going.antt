@@ -54,7 +54,7 @@ behind_goes f sealed setup (x ∷ xs) =
     turn_goes (not (is_some f.greeting) && not (hearing.is_negotiate x.header)) (hearing.is_negotiate x.header && f.asked)
     (hearing.outside_of f.window x.header) _
     (front_goes (hearing.checked_as f sealed setup false x) _
-    (behind_goes (hearing.behind_turn f x.header) sealed (setup || hearing.is_setup x.header) xs))
+    (behind_goes (hearing.behind_turn f x.header) sealed (hearing.bars f sealed setup x) xs))
 
 in_goes : (f : ServerEnd) (sealed : Bool) (xs : List HeardMessage) → stops (checked_in f sealed xs) ≡ false
 in_goes f sealed [] = refl
@@ -62,7 +62,7 @@ in_goes f sealed (x ∷ xs) =
     turn_goes (not (is_some f.greeting) && not (hearing.is_negotiate x.header)) (hearing.is_negotiate x.header && f.asked)
     (hearing.outside_of f.window x.header) _
     (front_goes (hearing.checked_as f sealed false true x) _
-    (behind_goes (hearing.behind_turn f x.header) sealed (hearing.is_setup x.header) xs))
+    (behind_goes (hearing.behind_turn f x.header) sealed (hearing.bars f sealed false x) xs))
 
 whole_goes : (f : ServerEnd) (t : Result FrameText ends.ConnEnd) → stops t ≡ false → stops (checked_text f t) ≡ false
 whole_goes f (Ok t) h = in_goes f t.sealed t.messages
@@ -71,7 +71,7 @@ whole_goes f (Err why) h = h
 frame_goes : (f : ServerEnd) (frame : List ℕ) → stops (check_frame f frame) ≡ false
 frame_goes f frame =
     whole_goes f (text_of f.keys frame)
-    (text_by (hearing.is_too_long frame) (hearing.begins_sealed frame) (hearing.opened_by f.keys frame) frame)
+    (text_by (hearing.is_too_long f.keys frame) (hearing.begins_sealed frame) (hearing.opened_by f.keys frame) frame)
 
 ends_by : (heard : Result Frame ends.ConnEnd) (count : ℕ) → stops heard ≡ false → EndsAll heard (Stopped count) → ⊥
 ends_by (Ok F) count goes h = h

@@ -4,4 +4,4 @@ mod carrying;
 mod related;
 
 pub use carrying::{carry, inherit};
-pub use related::{Carry, bare_status};
+pub use related::{Carry, bare_status, breaks_form};

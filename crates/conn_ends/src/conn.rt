@@ -33,6 +33,10 @@ pub struct Logon {
 #[derive(Clone, Copy, Debug, PartialEq, Eq)]
 pub enum Progress {
     Stays,
+    /// The refusal of a binding, which its session signs in the place of this connection, or nobody.
+    Refused {
+        signer: Option<Signer>,
+    },
     /// The interim response. In a binding the session signs it, and else nobody does.
     Interim {
         signer: Option<Signer>,

@@ -13,6 +13,6 @@ pub mod reply_sealing;
 
 pub use conn::{Conn, Greeting, Logon, Progress};
 pub use end::ConnEnd;
-pub use frame_messages::{Checked, CheckedFrame, check};
+pub use frame_messages::{Checked, CheckedFrame, check, is_probe};
 pub use negotiating::{Greeter, Hello, hello_to};
 pub use reply_sealing::{Frames, Placed, Said};

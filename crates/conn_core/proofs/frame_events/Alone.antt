@@ -4,7 +4,7 @@ use Rattle.std.proofs.Common.{Option, Some, None, Result, Ok, Err, refl, sym, ap
 use Rattle.std.specs.Prelude.{is_some}
 use Rattle.spec_world.specs.Ends.{ServerEnd, ConnEnd, BadFrame, SecondNegotiate}
 use Rattle.spec_world.specs.Messages.{HeardMessage}
-use Rattle.spec_world.specs.Hearing.{Checked, Frame, is_negotiate, is_setup, turn_end, behind_turn, in_front, end_by_id, outside_of}
+use Rattle.spec_world.specs.Hearing.{Checked, Frame, is_negotiate, turn_end, behind_turn, in_front, end_by_id, outside_of, bars}
 use Rattle.spec_world.specs.Hearing.{checked_as, checked_in, checked_behind}
 use Rattle.conn_ends.specs.frame_messages.Checking.{NoneGreets, GreetsFirst}
 use Rattle.conn_ends.proofs.frame_messages.Greets.{in_turn, greets_first}
@@ -77,7 +77,7 @@ alone f sealed (x ∷ xs) F met e =
     let b = behind (checked_as f sealed false true x) _ F t.1 in
     let none : NoneGreets b.0.messages = subst GreetsFirst b.2 (greets_first f sealed (x ∷ xs) F met e) in
     let first : is_negotiate x.header ≡ true → b.0.messages ≡ [] =
-    λ is. none_behind (behind_turn f x.header) sealed (is_setup x.header) xs b.0
+    λ is. none_behind (behind_turn f x.header) sealed (bars f sealed false x) xs b.0
     (unmet_first (is_some f.greeting) (is_negotiate x.header) f.asked (end_by_id (outside_of f.window x.header)) is met t.0)
     (ap (λ (a : Bool). a || f.asked) is) b.1 in
     subst (λ (cs : List Checked). Alone cs) (sym b.2) (alone_in (checked_as f sealed false true x) b.0.messages none first)

@@ -1,21 +1,19 @@
 -- A message that goes its way, by what its event gives.
-use Rattle.std.proofs.Common.{◌≡◌, ℕ, ◌+◌, ◌==◌, ◌<◌, Bool, true, false, not}
-use Rattle.std.proofs.Common.{◌||◌, if◌then◌else◌, List, [], ◌∷◌, ◌++◌, length, Option, Some, None}
-use Rattle.std.proofs.Common.{Result, Ok, Err, refl, sym, ap, ◌∙◌, append-nil}
+use Rattle.std.proofs.Common.{◌≡◌, ℕ, ◌==◌, Bool, true, false, not}
+use Rattle.std.proofs.Common.{◌||◌, if◌then◌else◌, List, [], ◌∷◌, ◌++◌, Option, Some, None}
+use Rattle.std.proofs.Common.{Result, Ok, Err, refl, sym, ap, ◌∙◌, append-nil, arith}
 use Rattle.std.specs.Prelude.{is_some}
 use Rattle.spec_wire.specs.declared.messages.header.Header.{Header}
-use Rattle.spec_wire.specs.messages.Bare.{bare_fault}
 use Rattle.spec_exchange.specs.Commands as asks
 use Rattle.spec_exchange.specs.State as model
-use Rattle.spec_exchange.specs.Status.{no_memory}
+use Rattle.spec_exchange.specs.Status.{no_memory, success}
 use Rattle.spec_exchange.specs.Network.{answer_to}
-use Rattle.spec_commands.specs.CommandOf.{Told, echo_status, heard_as}
+use Rattle.spec_commands.specs.CommandOf.{Told, heard_as}
 use Rattle.spec_world.specs.Settings.{ServerSettings}
 use Rattle.spec_world.specs.Ends.{ServerEnd, Logons}
 use Rattle.spec_world.specs.Hearing as hearing
 use Rattle.spec_world.specs.Answering as answering
 use Rattle.spec_world.specs.Logon as logon
-use Rattle.spec_world.specs.Negotiate.{negotiate_status}
 use Rattle.spec_world.specs.Related as related
 use Rattle.spec_world.specs.Connection as connection
 use Rattle.spec_world.specs.Connection.{LastTaken, heard_message, said_failed, said_to, taken_with}
@@ -31,7 +29,7 @@ use Rattle.conn_core.specs.declared.related.related.Carry.{Carry}
 use Rattle.conn_core.specs.declared.served.serve.Reply.{Reply}
 use Rattle.conn_core.specs.served.Replies.{event_acts, event_lacks, some_acted, some_lacked}
 use Rattle.conn_core.specs.served.Serving.{Showing}
-use Rattle.conn_core.specs.message_replies.Replying.{aside_status, said_aside}
+use Rattle.conn_core.specs.message_replies.Replying.{aside_status, echo_due, negotiate_due, said_aside}
 use Rattle.conn_core.proofs.requests.Events.{with_event, of_cancel, of_negotiate, of_echo}
 use Rattle.conn_core.specs.frame_events.Dealing.{GivesReply, LosesReply, takes, taken_records}
 use Rattle.conn_core.specs.frame_events.SoFar.{DealtSoFar}
@@ -125,20 +123,20 @@ pub no_negotiate : (z : ServerSettings) (L : Logons) (k : ℕ) (f : ServerEnd) (
 no_negotiate z L k f t m e event =
     let u = connection.told_of z L k f t in
     of_bool (t.header.command == 0)
-    (λ is. no_aside m t.header u u.negotiated (heard_message z L k f t) (of_negotiate z L k f t is) e event)
+    (λ is. no_aside m t.header u (negotiate_due t) (heard_message z L k f t) (of_negotiate z L k f t is) e event)
 
 pub no_echo : (z : ServerSettings) (L : Logons) (k : ℕ) (f : ServerEnd) (t : hearing.Checked) (m : model.Message)
     → heard_message z L k f t ≡ Some m → has_event m.command ≡ true → (t.header.command == 13) ≡ false
 no_echo z L k f t m e event =
     let u = connection.told_of z L k f t in
-    of_bool (t.header.command == 13) (λ is. no_aside m t.header u (echo_status t.fault (bare_fault t.bytes)) (heard_message z L k f t)
+    of_bool (t.header.command == 13) (λ is. no_aside m t.header u (echo_due t) (heard_message z L k f t)
     (of_echo z L k f t is) e event)
 
 pub not_aside : (t : hearing.Checked) → (t.header.command == 0) ≡ false → (t.header.command == 13) ≡ false → aside_status t ≡ None
 not_aside t zero echo =
-    ap (λ (b : Bool). if b then Some (negotiate_status t.bytes)
-    else if t.header.command == 13 then Some (echo_status t.fault (bare_fault t.bytes)) else None) zero
-    ∙ ap (λ (b : Bool). if b then Some (echo_status t.fault (bare_fault t.bytes)) else None) echo
+    ap (λ (b : Bool). if b then Some (negotiate_due t)
+    else if t.header.command == 13 then Some (echo_due t) else None) zero
+    ∙ ap (λ (b : Bool). if b then Some (echo_due t) else None) echo
 
 -- ---- the step's own answer
 
@@ -146,7 +144,7 @@ pub answered : (shown : Showing) (z : ServerSettings) (k now : ℕ) (fresh : Lis
     (records : List model.Record) (f : ServerEnd) (cs : List hearing.Checked) (at from : ℕ) (x : CheckedFrame) (n : Checked)
     (t : hearing.Checked) (m : model.Message) (r : Reply) (d e : Dealt) (y : Option related.Carry) (b : Carry) (more : List model.Record)
     (w : Owned) → heard_message z w.dealt.going.logons k f t ≡ Some m → has_event m.command ≡ true → n.fails ≡ None
-    → e.replies.items.items ≡ d.replies.items.items ++ Ok r ∷ [] → e.took ≡ (d.took || true) → RelatedCarries t (Some (Ok r)) b
+    → e.replies.items.items ≡ d.replies.items.items ++ Ok r ∷ [] → e.took ≡ (d.took || true) → RelatedCarries y t (Some (Ok r)) b
     → GivesReply shown z k now fresh w.dealt.going.server w.dealt.going.logons records f t m r
     → DealtSoFar z k now fresh s L f cs at from x d y more w
     → Behind z now f cs at n t d e (Some (carry_of b))
@@ -164,13 +162,15 @@ answered shown z k now fresh s L records f cs at from x n t m r d e y b more w h
           ∙ (sym (lacked_more d.replies.items.items (Ok r)) ∙ ap (λ (l : Answers). some_lacked l) (sym items)));
       took = sym (took ∙ or_one d.took);
       records_are = λ none. ap (λ (l : List model.Record). l ++ A.records) (far.records_are none) ∙ sym (records_with o m A);
-      carried_is = λ less. ap (λ (q : related.Carry). Some q) (sym (carries A.reply gives.named));
+      carried_is = λ less. ap (λ (q : related.Carry). Some q)
+          (ap (λ (v : Option related.Carry). related.carried_behind v t A.reply) (far.carried_is (omega (arith, less)))
+          ∙ sym (carries A.reply gives.named));
       answers = Ok r ∷ [];
-      replies = said_to z k now fresh f w.dealt.going.logons w.dealt.going.window t m.command A.reply ∷ [];
+      replies = said_to z k now fresh f w.dealt.going.logons w.dealt.going.window t m.command A ∷ [];
       answers_are = items;
       replies_are = refl;
       said = saids.of_reply z now f n t w.dealt.going.window (Ok r)
-          (said_to z k now fresh f w.dealt.going.logons w.dealt.going.window t m.command A.reply)
+          (said_to z k now fresh f w.dealt.going.logons w.dealt.going.window t m.command A)
           (no_cancel z w.dealt.going.logons k f t m heard) goes
           (not_aside t (no_negotiate z w.dealt.going.logons k f t m heard event) (no_echo z w.dealt.going.logons k f t m heard event))
           (gives.said w.dealt.going.window, (refl, refl, refl));
@@ -183,7 +183,7 @@ pub lacking : (z : ServerSettings) (k now : ℕ) (fresh : List ℕ) (s : model.S
     (y : Option related.Carry) (b : Carry) (more further : List model.Record) (w : Owned) (v : model.Server)
     → heard_message z w.dealt.going.logons k f t ≡ Some m → has_event m.command ≡ true → n.fails ≡ None
     → e.replies.items.items ≡ d.replies.items.items ++ Err errors.Memory ∷ [] → e.took ≡ (d.took || false)
-    → RelatedCarries t (Some (Err errors.Memory)) b → DealtSoFar z k now fresh s L f cs at from x d y more w
+    → RelatedCarries y t (Some (Err errors.Memory)) b → DealtSoFar z k now fresh s L f cs at from x d y more w
     → Behind z now f cs at n t d e (Some (carry_of b)) (more ++ further) w (behind_lack f w t v)
 lacking z k now fresh s L f cs at from x n t m d e y b more further w v heard event goes items took carries far = record {
   goes = far.goes;
@@ -194,7 +194,8 @@ lacking z k now fresh s L f cs at from x n t m d e y b more further w v heard ev
       ∙ (sym (lacked_more d.replies.items.items (Err errors.Memory)) ∙ ap (λ (l : Answers). some_lacked l) (sym items));
   took = far.took ∙ sym (took ∙ or_none d.took);
   records_are = λ none. absurd (true_false none);
-  carried_is = λ less. ap (λ (q : related.Carry). Some q) (sym carries);
+  carried_is = λ less. ap (λ (q : related.Carry). Some q)
+      (ap (λ (v : Option related.Carry). related.carried_past v t no_memory) (far.carried_is (omega (arith, less))) ∙ sym carries);
   answers = Err errors.Memory ∷ [];
   replies = said_failed f w.dealt.going.window t no_memory ∷ [];
   answers_are = items;
@@ -244,10 +245,10 @@ cancel_is z L k f t false is e = absurd (heard_other z L k f t (t.header.command
         → (t.header.command == 0) ≡ p → (t.header.command == 13) ≡ q → (t.header.command == 12) ≡ false
         → heard_message z L k f t ≡ None → ⊥
     heard_other z L k f t true q zero echo is e =
-        none_some (heard_as (connection.told_of z L k f t) t.header (asks.Aside (connection.told_of z L k f t).negotiated))
+        none_some (heard_as (connection.told_of z L k f t) t.header (asks.Aside (negotiate_due t)))
         (sym e ∙ of_negotiate z L k f t zero)
     heard_other z L k f t false true zero echo is e =
-        none_some (heard_as (connection.told_of z L k f t) t.header (asks.Aside (echo_status t.fault (bare_fault t.bytes))))
+        none_some (heard_as (connection.told_of z L k f t) t.header (asks.Aside (echo_due t)))
         (sym e ∙ of_echo z L k f t echo)
     heard_other z L k f t false false zero echo is e =
         let h = with_event z L k f t zero echo is in none_some h.0 (sym e ∙ h.1)
@@ -256,7 +257,7 @@ pub cancelled : (z : ServerSettings) (k now : ℕ) (fresh : List ℕ) (s : model
     (cs : List hearing.Checked) (at from : ℕ) (x : CheckedFrame) (n : Checked) (t : hearing.Checked) (d e : Dealt)
     (y : Option related.Carry) (b : Carry) (more : List model.Record) (w : Owned) → heard_message z w.dealt.going.logons k f t ≡ None
     → t.header ≡ n.header → e.replies.items.items ≡ d.replies.items.items ++ [] → e.took ≡ (d.took || takes n None)
-    → RelatedCarries t None b → DealtSoFar z k now fresh s L f cs at from x d y more w
+    → RelatedCarries y t None b → DealtSoFar z k now fresh s L f cs at from x d y more w
     → Behind z now f cs at n t d e (Some (carry_of b)) more w (behind_none z k now fresh f w t)
 cancelled z k now fresh s L f cs at from x n t d e y b more w heard header items took carries far =
     let cancel : (t.header.command == 12) ≡ true = cancel_is z w.dealt.going.logons k f t (t.header.command == 12) refl heard in
@@ -270,7 +271,8 @@ cancelled z k now fresh s L f cs at from x n t d e y b more w heard header items
       lacked = far.lacked ∙ ap (λ (l : Answers). some_lacked l) (sym same);
       took = far.took ∙ sym untaken;
       records_are = far.records_are;
-      carried_is = λ less. ap (λ (q : related.Carry). Some q) (sym carries);
+      carried_is = λ less. ap (λ (q : related.Carry). Some q)
+          (ap (λ (v : Option related.Carry). related.carried_past v t success) (far.carried_is (omega (arith, less))) ∙ sym carries);
       answers = [];
       replies = [];
       answers_are = items;
@@ -282,7 +284,7 @@ cancelled z k now fresh s L f cs at from x n t d e y b more w heard header items
 
 said_beside : (z : ServerSettings) (k now : ℕ) (fresh : List ℕ) (f : ServerEnd) (w : Owned) (t : hearing.Checked) (u : Told) (status : ℕ)
     → let A = answer_to w.dealt.going.server now (heard_as u t.header (asks.Aside status)) (asks.Aside status) in
-    said_to z k now fresh f w.dealt.going.logons w.dealt.going.window t (asks.Aside status) A.reply
+    said_to z k now fresh f w.dealt.going.logons w.dealt.going.window t (asks.Aside status) A
     ≡ record (said_aside z now f w.dealt.going.window t status) {
       base = logon.exported z.users (w.dealt.going.logons.pending k)
           (logon.token_in t.bytes);
@@ -292,19 +294,38 @@ said_beside z k now fresh f w t u status =
     let g = w.dealt.going in
     let none : logon.answer_token_by z.users (g.logons.pending k) (logon.token_in t.bytes) fresh now logon.Stays ≡ [] =
     no_token z.users (g.logons.pending k) (logon.token_in t.bytes) fresh now logon.Stays refl in
-    ap (λ (token : List ℕ). record (said_to z k now fresh f g.logons g.window t (asks.Aside status) A.reply) {
+    ap (λ (token : List ℕ). record (said_to z k now fresh f g.logons g.window t (asks.Aside status) A) {
       body = answering.said_body z.guid f.salt now t token (asks.Aside status) A.reply;
     }) none
+
+-- what it hands on is what a message without an answer does, since it is no CREATE
+same_before : (b : Bool) (p q r : ℕ) → b ≡ false → (if b then p else r) ≡ (if b then q else r)
+same_before true p q r e = absurd (true_false e)
+same_before false p q r e = refl
+
+aside_carries : (y : Option related.Carry) (t : hearing.Checked) (u : Told) (status now : ℕ) (s : model.Server)
+    → (t.header.command == 5) ≡ false
+    → related.carried_behind y t (answer_to s now (heard_as u t.header (asks.Aside status)) (asks.Aside status)).reply
+    ≡ related.carried_past y t success
+aside_carries y t u status now s e =
+    let same : related.create_behind y t status ≡ related.create_behind y t success =
+    same_before (t.header.command == 5) status success (related.create_before y t) e in
+    ap (λ (n : ℕ). record {
+      status = n;
+      session = t.header.session;
+      tree = t.header.tree;
+      file = related.handed_on (related.file_named t.header.command t.bytes);
+    }) same
 
 pub beside : (z : ServerSettings) (k now : ℕ) (fresh : List ℕ) (s : model.Server) (L : Logons) (f : ServerEnd)
     (cs : List hearing.Checked) (at from : ℕ) (x : CheckedFrame) (n : Checked) (t : hearing.Checked) (u : Told) (status : ℕ) (d e : Dealt)
     (y : Option related.Carry) (b : Carry) (more : List model.Record) (w : Owned) → t.header ≡ n.header
-    → (t.header.command == 12) ≡ false → n.fails ≡ None → aside_status t ≡ Some status
-    → (at + 1 < length cs → carry_of b ≡ related.carried_past t status) → e.replies.items.items ≡ d.replies.items.items ++ []
+    → (t.header.command == 12) ≡ false → (t.header.command == 5) ≡ false → n.fails ≡ None → aside_status t ≡ Some status
+    → RelatedCarries y t None b → e.replies.items.items ≡ d.replies.items.items ++ []
     → e.took ≡ (d.took || takes n None) → DealtSoFar z k now fresh s L f cs at from x d y more w
     → Behind z now f cs at n t d e (Some (carry_of b)) more w
     (behind_answer z k now fresh f w t (heard_as u t.header (asks.Aside status)))
-beside z k now fresh s L f cs at from x n t u status d e y b more w header other goes aside carries items took far =
+beside z k now fresh s L f cs at from x n t u status d e y b more w header other no_create goes aside carries items took far =
     let M = heard_as u t.header (asks.Aside status) in
     let A = answer_to w.dealt.going.server now M (asks.Aside status) in
     let o = w.dealt.going.taken in
@@ -318,12 +339,14 @@ beside z k now fresh s L f cs at from x n t u status d e y b more w header other
       lacked = far.lacked ∙ ap (λ (l : Answers). some_lacked l) (sym same);
       took = sym taken;
       records_are = λ none. far.records_are none ∙ (sym (append-nil (taken_records o)) ∙ sym (records_with o M A));
-      carried_is = λ less. ap (λ (q : related.Carry). Some q) (sym (carries less));
+      carried_is = λ less. ap (λ (q : related.Carry). Some q)
+          (ap (λ (v : Option related.Carry). related.carried_behind v t A.reply) (far.carried_is (omega (arith, less)))
+          ∙ (aside_carries y t u status now w.dealt.going.server no_create ∙ sym carries));
       answers = [];
-      replies = said_to z k now fresh f w.dealt.going.logons w.dealt.going.window t (asks.Aside status) A.reply ∷ [];
+      replies = said_to z k now fresh f w.dealt.going.logons w.dealt.going.window t (asks.Aside status) A ∷ [];
       answers_are = items;
       replies_are = refl;
       said = saids.of_aside z now f n t w.dealt.going.window status
-          (said_to z k now fresh f w.dealt.going.logons w.dealt.going.window t (asks.Aside status) A.reply) other goes aside
+          (said_to z k now fresh f w.dealt.going.logons w.dealt.going.window t (asks.Aside status) A) other goes aside
           (logon.exported z.users (w.dealt.going.logons.pending k) (logon.token_in t.bytes), said_beside z k now fresh f w t u status);
     }

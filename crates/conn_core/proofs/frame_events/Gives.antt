@@ -1,5 +1,5 @@
 -- What an event of a message gives, by what it asks of the server.
-use Rattle.std.proofs.Common.{◌≡◌, ℕ, ◌==◌, ◌+◌, ◌-◌, Bool, true, false, not, ◌&&◌, List, [], ◌++◌}
+use Rattle.std.proofs.Common.{◌≡◌, ℕ, ◌==◌, Bool, true, false, not, ◌&&◌, List, [], ◌++◌}
 use Rattle.std.proofs.Common.{Option, Some, None, Result, Err, ◌⊎◌, inl, inr, refl, sym, ap, subst, ◌∙◌}
 use Rattle.std.specs.Prelude.{is_some}
 use Rattle.std.proofs.lemmas.List.{append-nil}
@@ -10,7 +10,6 @@ use Rattle.spec_crypto.specs.tokens.Acceptor.{User}
 use Rattle.spec_world.specs.Settings.{ServerSettings}
 use Rattle.spec_world.specs.Ends.{ServerEnd, Logons}
 use Rattle.spec_world.specs.Hearing as hearing
-use Rattle.spec_world.specs.Connection as connection
 use Rattle.spec_world.specs.Connection.{heard_message}
 use Rattle.spec_world.specs.Given.{has_event}
 use Rattle.conn_core.specs.declared.served.error.ServeError.{ServeError}
@@ -160,7 +159,7 @@ asked_some : (shown : Showing) (z : ServerSettings) (k now : ℕ) (fresh : List 
     → GivesIf shown z k now fresh s L records f c due (Some r)
 asked_some shown z k now fresh s L records f m c t None e r bytes shows other same random told event serves = absurd event
 asked_some shown z k now fresh s L records f m c t (Some x) (events.Message message) r bytes shows other same random told event serves =
-    plain_gives shown z k now fresh s L records f c message x r other.negotiate event.0 event.1 serves
+    plain_gives shown z k now fresh s L records f c message x r other.negotiate other.echo event.0 event.1 serves
 asked_some shown z k now fresh s L records f m c t (Some x) (events.Setup q) r bytes shows other same random told event serves =
     setup_gives shown z k now fresh s L records f m c t q x r bytes shows other.negotiate same random told event.0 event.1 serves
 asked_some shown z k now fresh s L records f m c t (Some x) (events.Accept connection) r bytes shows other same random told event serves =

@@ -1,11 +1,12 @@
 -- What a message that takes over ids keeps.
 use Rattle.std.proofs.Common.{◌≡◌, ℕ, ◌+◌, ◌==◌, ◌≤◌, Bool, true, false, if◌then◌else◌, List}
 use Rattle.std.proofs.Common.{length, Option, Some, None, refl, sym, ap, subst, ◌∙◌}
-use Rattle.std.proofs.Common.{arith}
+use Rattle.std.proofs.Common.{arith, not, ◌||◌}
+use Rattle.std.specs.Prelude.{is_some}
 use Rattle.spec_wire.specs.declared.messages.header.Header.{Header}
 use Rattle.spec_wire.specs.declared.messages.header.Span.{Span}
 use Rattle.spec_world.specs.Hearing as hearing
-use Rattle.spec_world.specs.Related.{Carry, Turn, Goes, Fails, turn_of, failed_as, file_place, with_file, with_file_at, with_ids}
+use Rattle.spec_world.specs.Related.{Carry, Turn, Goes, Fails, turn_of, failed_as, can_follow, file_place, with_file, with_file_at, with_ids}
 use Rattle.conn_ends.specs.declared.frame_messages.checked.Checked.{Checked}
 use Rattle.conn_ends.specs.frame_messages.Checking.{IsDenied, ShowsGoing, message_in}
 use Rattle.conn_core.specs.related.Carrying.{Inherits, IsCarried}
@@ -52,7 +53,7 @@ keeps_by false e y c t q = same_keeps c t (ap (λ (x : Turn). turned c x) q)
 pub goes_keeps : (o : Option Carry) (c t : hearing.Checked) → turn_of o c ≡ Goes t → Keeps c t
 unfolding turned
 goes_keeps None c t e = same_keeps c t (ap (λ (x : Turn). turned c x) e)
-goes_keeps (Some y) c t e = keeps_by c.related (y.status == 0) y c t e
+goes_keeps (Some y) c t e = keeps_by c.related (can_follow c y) y c t e
 
 pub failed_keeps : (o : Option Carry) (c : hearing.Checked) → Keeps c (failed_as o c)
 failed_keeps None c = same_keeps c c refl
@@ -96,20 +97,22 @@ status_of : Turn → ℕ
 status_of (Goes c) = 1
 status_of (Fails status) = status
 
-no_success_by : (b : Bool) (y : Carry) (c : hearing.Checked) (k : ℕ) (e : Bool) → (y.status == 0) ≡ e
-    → (if b then (if e then Goes (with_ids c y) else Fails y.status) else Goes c) ≡ Fails k → k ≡ 0 → ⊥
+no_success_by : (b : Bool) (y : Carry) (c : hearing.Checked) (k : ℕ) (a e : Bool) → (y.status == 0) ≡ e
+    → (if b then (if a || e then Goes (with_ids c y) else Fails y.status) else Goes c) ≡ Fails k → k ≡ 0 → ⊥
 unfolding status_of
-no_success_by true y c k true tested q zero = absurd cc
-no_success_by true y c k false tested q zero =
+no_success_by true y c k true e tested q zero = absurd cc
+no_success_by true y c k false true tested q zero = absurd cc
+no_success_by true y c k false false tested q zero =
     let same : y.status ≡ 0 = ap (λ (x : Turn). status_of x) q ∙ zero in
     let yes : (y.status == 0) ≡ true = ap (λ (n : ℕ). n == 0) same in
     apart (sym yes ∙ tested)
   where
     apart : true ≡ false → ⊥
     apart e = absurd cc
-no_success_by false y c k e tested q zero = absurd cc
+no_success_by false y c k a e tested q zero = absurd cc
 
 -- it fails with no success
 pub no_success : (o : Option Carry) (c : hearing.Checked) (k : ℕ) → turn_of o c ≡ Fails k → k ≡ 0 → ⊥
 no_success None c k e zero = absurd cc
-no_success (Some y) c k e zero = no_success_by c.related y c k (y.status == 0) refl e zero
+no_success (Some y) c k e zero =
+    no_success_by c.related y c k (not (is_some (file_place c.header.command))) (y.status == 0) refl e zero

@@ -10,10 +10,11 @@ use Rattle.spec_commands.specs.ReplyBody.{reply_body}
 use Rattle.wire_commands.specs.values.Meaning.{message_of, command_of}
 use Rattle.wire_commands.specs.declared.values.request.Message.{Message}
 use Rattle.spec_wire.specs.credits.Window.{granted}
+use Rattle.spec_crypto.specs.declared.sessions.material.Signer.{Signer}
 use Rattle.spec_crypto.specs.tokens.Acceptor.{User}
 use Rattle.spec_crypto.specs.tokens.Tokens.{Pending}
 use Rattle.spec_world.specs.Settings.{ServerSettings}
-use Rattle.spec_world.specs.Ends.{ServerEnd, Logons}
+use Rattle.spec_world.specs.Ends.{ServerEnd, Logons, signer_on}
 use Rattle.spec_world.specs.Hearing as hearing
 use Rattle.spec_world.specs.Negotiate.{negotiate_response_body}
 use Rattle.spec_world.specs.Answering as answering
@@ -23,11 +24,12 @@ use Rattle.conn_core.specs.declared.served.error.ServeError.{ServeError}
 use Rattle.conn_core.specs.declared.served.error.ServeError.TheVariants as errors
 use Rattle.server_checks.specs.declared.event_heard.event.ServerEvent.TheVariants as events
 use Rattle.conn_ends.specs.declared.conn.Progress.{Progress}
-use Rattle.conn_ends.specs.declared.conn.Progress.TheVariants.{Stays, Interim, Final}
+use Rattle.conn_ends.specs.declared.conn.Progress.TheVariants.{Stays, Refused, Interim, Final}
 use Rattle.conn_ends.specs.reply_sealing.Saying.{AreProgressKeys, MovesAs}
 use Rattle.conn_core.specs.served.Serving.{IsServerPlain, LosesHeard, RepliesHeard, ServerServes, Showing, ServerStands}
 use Rattle.conn_core.specs.declared.served.serve.Reply.{Reply}
-use Rattle.conn_core.specs.message_replies.Replying.{MessageSetsUp, signer_due}
+use Rattle.conn_core.specs.message_replies.Replying.{MessageSetsUp, progress_signer}
+use Rattle.conn_core.proofs.message_replies.Parts.{signs_on}
 use Rattle.conn_core.proofs.requests.Plain.{plain_event}
 use Rattle.conn_core.specs.frame_events.Dealing.{GivesBy, GivesIf, GivesReply, LosesReply}
 
@@ -52,8 +54,14 @@ plain_stays (asks.SetInfo file setting) r p = refl
 
 stands_is : (x : Progress) → ServerStands x → x ≡ Stays
 stands_is Stays p = refl
+stands_is (Refused signer) p = absurd p
 stands_is (Interim signer) p = absurd p
 stands_is (Final keys channel encrypts) p = absurd p
+
+plain_signer : (s : model.Server) (L : Logons) (f : ServerEnd) (c : hearing.Checked) (m : asks.Command) (status : ℕ) → IsServerPlain m
+    → logon.staying_signer s L f c m status ≡ logon.plain_signer f c
+plain_signer s L f c (asks.Setup request) status p = absurd p
+plain_signer s L f c m status p = refl
 
 -- of any message but a NEGOTIATE that was answered
 pub body_is : (guid salt : List ℕ) (now : ℕ) (c : hearing.Checked) (token : List ℕ) (command : asks.Command) (r : model.Reply)
@@ -69,8 +77,8 @@ no_token users pending token fresh now p e = ap (λ (q : logon.Progress). logon.
 
 plain_reply : (shown : Showing) (z : ServerSettings) (k now : ℕ) (fresh : List ℕ) (s : model.Server) (L : Logons)
     (records : List model.Record) (f : ServerEnd) (c : hearing.Checked) (m : model.Message) (r : Reply) → (c.header.command == 0) ≡ false
-    → IsServerPlain m.command → RepliesHeard shown s L records now m r → GivesReply shown z k now fresh s L records f c m r
-plain_reply shown z k now fresh s L records f c m r negotiate plain serves =
+    → (c.header.command == 13) ≡ false → IsServerPlain m.command → RepliesHeard shown s L records now m r → GivesReply shown z k now fresh s L records f c m r
+plain_reply shown z k now fresh s L records f c m r negotiate echo plain serves =
     let A = answer_to s now m m.command in
     let a = serves.0 in
     let p : logon.progress m.command A.reply ≡ logon.Stays = plain_stays m.command A.reply plain in
@@ -88,9 +96,12 @@ plain_reply shown z k now fresh s L records f c m r negotiate plain serves =
         header = λ i. answering.reply_header c (a.named.status i) (a.named.session i) (a.named.tree i) (granted c.header.credits w);
         body = body_is z.guid f.salt now c token m.command A.reply negotiate
             ∙ (ap (λ (t : List ℕ). reply_body t m.command A.reply) none ∙ sym a.body);
-        signer = ap (λ (q : logon.Progress). logon.signer_of z.users L k f c q) p ∙ sym (ap (λ (x : Progress). signer_due f x) stands);
+        signer = ap (λ (o : Option Signer). logon.unless_faulty c.fault o)
+            (ap (λ (q : logon.Progress). logon.signer_by A.server z.users L k f c m.command A.reply.status q) p
+            ∙ (plain_signer A.server L f c m.command A.reply.status plain
+            ∙ (signs_on f c echo ∙ sym (ap (λ (x : Progress). progress_signer x (signer_on f.keys)) stands))));
         request = refl;
-        progress = subst (λ (x : Progress). MovesAs x (said_to z k now fresh f L w c m.command A.reply)) (sym stands) p;
+        progress = subst (λ (x : Progress). MovesAs x (said_to z k now fresh f L w c m.command A)) (sym stands) p;
         known = subst (λ (x : Progress). AreProgressKeys x) (sym stands) tt;
         sets = subst (λ (x : Progress). MessageSetsUp x c) (sym stands) tt;
       };
@@ -110,20 +121,21 @@ plain_lost shown z k now fresh s L records f c m acted plain loses =
 
 plain_by : (shown : Showing) (z : ServerSettings) (k now : ℕ) (fresh : List ℕ) (s : model.Server) (L : Logons)
     (records : List model.Record) (f : ServerEnd) (c : hearing.Checked) (message : Message) (r : Result Reply ServeError)
-    → (c.header.command == 0) ≡ false → IsServerPlain (command_of message.command)
+    → (c.header.command == 0) ≡ false → (c.header.command == 13) ≡ false → IsServerPlain (command_of message.command)
     → ServerServes shown z.users s L records now (events.Message message) r
     → GivesBy shown z k now fresh s L records f c (message_of message) r
-plain_by shown z k now fresh s L records f c message (Ok r) negotiate plain serves =
-    plain_reply shown z k now fresh s L records f c (message_of message) r negotiate plain serves
-plain_by shown z k now fresh s L records f c message (Err errors.Memory) negotiate plain serves = serves
-plain_by shown z k now fresh s L records f c message (Err (errors.Unanswered acted)) negotiate plain serves =
+plain_by shown z k now fresh s L records f c message (Ok r) negotiate echo plain serves =
+    plain_reply shown z k now fresh s L records f c (message_of message) r negotiate echo plain serves
+plain_by shown z k now fresh s L records f c message (Err errors.Memory) negotiate echo plain serves = serves
+plain_by shown z k now fresh s L records f c message (Err (errors.Unanswered acted)) negotiate echo plain serves =
     plain_lost shown z k now fresh s L records f c (message_of message) acted plain serves
-plain_by shown z k now fresh s L records f c message (Err (errors.Stopped count)) negotiate plain serves = tt
+plain_by shown z k now fresh s L records f c message (Err (errors.Stopped count)) negotiate echo plain serves = tt
 
 pub plain_gives : (shown : Showing) (z : ServerSettings) (k now : ℕ) (fresh : List ℕ) (s : model.Server) (L : Logons)
     (records : List model.Record) (f : ServerEnd) (c : hearing.Checked) (message : Message) (m : model.Message)
-    (r : Result Reply ServeError) → (c.header.command == 0) ≡ false → IsServerPlain (command_of message.command) → message_of message ≡ m
+    (r : Result Reply ServeError) → (c.header.command == 0) ≡ false → (c.header.command == 13) ≡ false
+    → IsServerPlain (command_of message.command) → message_of message ≡ m
     → ServerServes shown z.users s L records now (events.Message message) r → GivesIf shown z k now fresh s L records f c (Some m) (Some r)
-plain_gives shown z k now fresh s L records f c message m r negotiate plain same serves =
+plain_gives shown z k now fresh s L records f c message m r negotiate echo plain same serves =
     subst (λ (x : model.Message). GivesIf shown z k now fresh s L records f c (Some x) (Some r)) same
-    (plain_event (command_of message.command) plain, plain_by shown z k now fresh s L records f c message r negotiate plain serves)
+    (plain_event (command_of message.command) plain, plain_by shown z k now fresh s L records f c message r negotiate echo plain serves)

@@ -1,8 +1,5 @@
 -- What a SESSION_SETUP's event gives.
-use Rattle.std.proofs.Common.{◌≡◌, ℕ, ◌==◌, ◌+◌, ◌-◌, ◌≤◌, Bool, true, false}
-use Rattle.std.proofs.Common.{if◌then◌else◌, List, ◌++◌, length, take, drop, length-drop}
-use Rattle.std.proofs.Common.{Some, None, Result, Ok, Err, ◌⊎◌, inl, inr, refl, sym, ap, subst, ◌∙◌, arith}
-use Rattle.std.proofs.lemmas.List.{length-take-le}
+use Rattle.std.proofs.Common.{◌≡◌, ℕ, ◌==◌, ◌≤◌, Bool, true, false, if◌then◌else◌, List, ◌++◌, length, Some, None, Result, Ok, Err, ◌⊎◌, inl, inr, refl, sym, ap, subst, ◌∙◌, Option}
 use Rattle.spec_wire.specs.declared.messages.header.Header.{Header}
 use Rattle.spec_exchange.specs.Commands as asks
 use Rattle.spec_exchange.specs.State as model
@@ -13,9 +10,10 @@ use Rattle.spec_wire.specs.credits.Window.{granted}
 use Rattle.spec_crypto.specs.sessions.Chain.{chain}
 use Rattle.spec_crypto.specs.sessions.Derivation.{keys_of, bound_keys}
 use Rattle.spec_crypto.specs.declared.sessions.material.Keys.{Keys}
+use Rattle.spec_crypto.specs.declared.sessions.material.Signer.{Signer}
 use Rattle.spec_crypto.specs.tokens.Acceptor.{User}
 use Rattle.spec_world.specs.Settings.{ServerSettings}
-use Rattle.spec_world.specs.Ends.{ServerEnd, Logons, chosen_on}
+use Rattle.spec_world.specs.Ends.{ServerEnd, Logons, chosen_on, signer_on}
 use Rattle.spec_world.specs.Hearing as hearing
 use Rattle.spec_world.specs.Answering as answering
 use Rattle.spec_world.specs.Connection.{keys_said, said_to}
@@ -26,18 +24,19 @@ use Rattle.conn_core.specs.declared.served.error.ServeError.{ServeError}
 use Rattle.conn_core.specs.declared.served.error.ServeError.TheVariants as errors
 use Rattle.server_checks.specs.declared.event_heard.event.ServerEvent.TheVariants as events
 use Rattle.conn_ends.specs.declared.conn.Progress.{Progress}
-use Rattle.conn_ends.specs.declared.conn.Progress.TheVariants.{Stays, Interim, Final}
+use Rattle.conn_ends.specs.declared.conn.Progress.TheVariants.{Stays, Refused, Interim, Final}
 use Rattle.conn_ends.specs.declared.frame_messages.checked.Checked.{Checked}
 use Rattle.conn_ends.specs.frame_messages.Checking.{IsDenied, ShowsGoing, message_in}
 use Rattle.conn_ends.proofs.frame_messages.Headers.{one_number}
 use Rattle.conn_ends.specs.reply_sealing.Saying.{AreProgressKeys, MovesAs}
-use Rattle.conn_core.specs.served.Serving.{ServerAnswers, IsProgress, LeftBy, ServerServes, Showing}
+use Rattle.conn_core.specs.served.Serving.{ServerAnswers, IsProgress, LeftBy, ServerServes, Showing, has_own_signature, refusal_due}
 use Rattle.conn_core.specs.declared.served.serve.Reply.{Reply}
-use Rattle.conn_core.specs.message_replies.Replying.{MessageSetsUp, signer_due}
+use Rattle.conn_core.specs.message_replies.Replying.{MessageSetsUp, progress_signer}
 use Rattle.conn_core.specs.requests.Asking.{IsRequestHeard, IsRequestTold, message_for, setup_of}
 use Rattle.conn_core.specs.declared.requests.hearing.Told.{Told}
+use Rattle.conn_core.proofs.message_replies.Parts.{part_long}
 use Rattle.conn_core.proofs.requests.Found.{none_named}
-use Rattle.conn_core.proofs.requests.Setups.{same_answer}
+use Rattle.conn_core.proofs.requests.Setups.{own_same, same_answer, told_by}
 use Rattle.conn_core.proofs.requests.Unread.{unread_stays}
 use Rattle.conn_core.specs.frame_events.Dealing.{GivesBy, GivesIf, GivesReply, LosesReply}
 use Rattle.conn_core.proofs.frame_events.Plainly.{body_is, no_token}
@@ -105,39 +104,67 @@ token_is users L k now f fresh c q p is (inr token) =
 
 abbrev Moves : logon.Progress → Keys → Progress → Type 0
 Moves p keys Stays = p ≡ logon.Stays
+Moves p keys (Refused signer) = p ≡ logon.Stays
 Moves p keys (Interim signer) = (binding : Bool) × (p ≡ logon.Interim binding)
 Moves p keys (Final known channel encrypts) = (binding : Bool) × (p ≡ logon.Final binding channel encrypts) × (keys ≡ known)
 
 moves_as : (x : Progress) (s : answering.SaidReply) → Moves s.progress s.keys x → MovesAs x s
 moves_as Stays s m = m
+moves_as (Refused signer) s m = m
 moves_as (Interim signer) s m = m
 moves_as (Final keys channel encrypts) s m = m
 
-record Comes (users : List User) (L : Logons) (k : ℕ) (f : ServerEnd) (c : hearing.Checked) (keys : Keys) (p : logon.Progress)
-    (x : Progress) : Type 0 where
-  pub signer : logon.signer_of users L k f c p ≡ signer_due f x
+-- a refusal is signed as the server said, who judges a signature by the session's own key
+due_is : (users : List User) (s t : model.Server) (L : Logons) (f : ServerEnd) (c : hearing.Checked) (q : SetupHeard) (status : ℕ)
+    → q.session_id ≡ c.header.session → has_own_signature L q ≡ told_by L q
+    → refusal_due users s L q (t.present q.session_id) status (signer_on f.keys)
+    ≡ logon.staying_signer t L f c (asks.Setup (setup_of users L q)) status
+due_is users s t L f c q status session own =
+    λ i. if q.form.binding
+    then logon.binding_signer (t.present (session i)) (L.keys (session i)) (signer_on f.keys)
+    (record (setup_of users L q) { verified = own i }) status
+    else signer_on f.keys
+
+record Comes (users : List User) (t : model.Server) (L : Logons) (k : ℕ) (f : ServerEnd) (c : hearing.Checked) (q : SetupHeard)
+    (status : ℕ) (keys : Keys) (p : logon.Progress) (x : Progress) : Type 0 where
+  pub signer :
+      logon.signer_by t users L k f c (asks.Setup (setup_of users L q)) status p ≡ progress_signer x (signer_on f.keys)
   pub moves : Moves p keys x
   pub known : AreProgressKeys x
   pub sets : MessageSetsUp x c
 
-comes_to : (z : ServerSettings) (L : Logons) (k : ℕ) (f : ServerEnd) (fresh : List ℕ) (c : hearing.Checked) (q : SetupHeard)
-    (p : logon.Progress) (x : Progress) → IsSame f k fresh c q → HasToken c q p → IsProgress z.users L q p x
-    → Comes z.users L k f c (keys_said z L k f c p) p x
-comes_to z L k f fresh c q logon.Stays Stays is token g = record { signer = refl; moves = refl; known = tt; sets = tt }
-comes_to z L k f fresh c q logon.Stays (Interim signer) is token g = absurd g
-comes_to z L k f fresh c q logon.Stays (Final keys channel encrypts) is token g = absurd g
-comes_to z L k f fresh c q (logon.Interim binding) Stays is token g = absurd g
-comes_to z L k f fresh c q (logon.Interim binding) (Interim signer) is token g = record {
+comes_to : (z : ServerSettings) (s t : model.Server) (L : Logons) (k : ℕ) (f : ServerEnd) (fresh : List ℕ) (c : hearing.Checked)
+    (q : SetupHeard) (status : ℕ) (p : logon.Progress) (x : Progress) → IsSame f k fresh c q → has_own_signature L q ≡ told_by L q → HasToken c q p
+    → IsProgress z.users s L q (t.present q.session_id) status p x
+    → Comes z.users t L k f c q status (keys_said z L k f c p) p x
+comes_to z s t L k f fresh c q status logon.Stays Stays is own token g = record {
+  signer = sym (due_is z.users s t L f c q status is.session own) ∙ g (signer_on f.keys);
+  moves = refl;
+  known = tt;
+  sets = tt;
+}
+comes_to z s t L k f fresh c q status logon.Stays (Refused signer) is own token g = record {
+  signer = sym (due_is z.users s t L f c q status is.session own) ∙ g (signer_on f.keys);
+  moves = refl;
+  known = tt;
+  sets = tt;
+}
+comes_to z s t L k f fresh c q status logon.Stays (Interim signer) is own token g = absurd (g None)
+comes_to z s t L k f fresh c q status logon.Stays (Final keys channel encrypts) is own token g = absurd (g None)
+comes_to z s t L k f fresh c q status (logon.Interim binding) Stays is own token g = absurd g
+comes_to z s t L k f fresh c q status (logon.Interim binding) (Refused signer) is own token g = absurd g
+comes_to z s t L k f fresh c q status (logon.Interim binding) (Interim signer) is own token g = record {
   signer = ap (λ (n : ℕ). if binding then Some (L.keys n).signing else None) (sym is.session) ∙ sym g;
   moves = (binding, refl);
   known = tt;
   sets = is.setup;
 }
-comes_to z L k f fresh c q (logon.Interim binding) (Final keys channel encrypts) is token g = absurd g
-comes_to z L k f fresh c q (logon.Final binding number seals) Stays is token g = absurd g
-comes_to z L k f fresh c q (logon.Final binding number seals) (Interim signer) is token g = absurd g
-comes_to z L k f fresh c q (logon.Final binding number seals) (Final keys channel encrypts) is (inl none) g = absurd cc
-comes_to z L k f fresh c q (logon.Final binding number seals) (Final keys channel encrypts) is (inr token) g =
+comes_to z s t L k f fresh c q status (logon.Interim binding) (Final keys channel encrypts) is own token g = absurd g
+comes_to z s t L k f fresh c q status (logon.Final binding number seals) Stays is own token g = absurd g
+comes_to z s t L k f fresh c q status (logon.Final binding number seals) (Refused signer) is own token g = absurd g
+comes_to z s t L k f fresh c q status (logon.Final binding number seals) (Interim signer) is own token g = absurd g
+comes_to z s t L k f fresh c q status (logon.Final binding number seals) (Final keys channel encrypts) is own (inl none) g = absurd cc
+comes_to z s t L k f fresh c q status (logon.Final binding number seals) (Final keys channel encrypts) is own (inr token) g =
     let same : logon.final_keys z.users L k f c binding ≡ keys = sym (g.0 ∙ same_keys z.users L k f fresh c q is token binding) in
     let numbers : number ≡ channel = sym g.2 in
     let sealing : seals ≡ encrypts = sym g.3 in
@@ -156,20 +183,21 @@ unfolding reply_body
 kind_alone token a b r = refl
 
 -- the server's answer over the definitions' message
-abbrev Over : Showing → List User → Logons → List model.Record → ℕ → SetupHeard → Reply → model.Message → model.Answer → Type 0
-Over shown users L records now q r m A =
+abbrev Over : Showing → List User → model.Server → Logons → List model.Record → ℕ → SetupHeard → Reply → model.Message → model.Answer
+    → Type 0
+Over shown users s L records now q r m A =
     let p = logon.setup_progress q.form.binding A.reply in
     ServerAnswers m (logon.answer_token_by users (L.pending q.connection) q.form.token.now q.fresh now p) A r
-    × IsProgress users L q p r.progress × shown A.server (setup_logons users L q now p) (records ++ A.records)
+    × IsProgress users s L q (A.server.present q.session_id) A.reply.status p r.progress × shown A.server (setup_logons users L q now p) (records ++ A.records)
 
 setup_over : (shown : Showing) (z : ServerSettings) (k now : ℕ) (fresh : List ℕ) (s : model.Server) (L : Logons)
     (records : List model.Record) (f : ServerEnd) (c : hearing.Checked) (q : SetupHeard) (r : Reply) → (c.header.command == 0) ≡ false
-    → IsSame f k fresh c q
+    → IsSame f k fresh c q → has_own_signature L q ≡ told_by L q
     → HasToken c q (logon.setup_progress q.form.binding (answer_to s now (message_for z.users L q) (message_for z.users L q).command).reply)
-    → Over shown z.users L records now q r (setup_message z.users L s q)
+    → Over shown z.users s L records now q r (setup_message z.users L s q)
     (answer_to s now (message_for z.users L q) (message_for z.users L q).command)
     → GivesReply shown z k now fresh s L records f c (message_for z.users L q) r
-setup_over shown z k now fresh s L records f c q r negotiate is token over =
+setup_over shown z k now fresh s L records f c q r negotiate is own token over =
     let M = message_for z.users L q in
     let A = answer_to s now M M.command in
     let a = over.0 in
@@ -179,7 +207,7 @@ setup_over shown z k now fresh s L records f c q r negotiate is token over =
     let same : told ≡ mine = token_is z.users L k now f fresh c q p is token in
     let logons : setup_logons z.users L q now p ≡ logon.logons_behind z.users L k f c fresh now p =
     logons_are z.users L k now f fresh c q p is token in
-    let comes = comes_to z L k f fresh c q p r.progress is token over.1 in
+    let comes = comes_to z s A.server L k f fresh c q A.reply.status p r.progress is own token over.1 in
     record {
       state = subst (λ (x : Logons). shown A.server x (records ++ A.records)) logons over.2;
       named = a.named;
@@ -189,9 +217,9 @@ setup_over shown z k now fresh s L records f c q r negotiate is token over =
         body = body_is z.guid f.salt now c mine M.command A.reply negotiate
             ∙ (ap (λ (t : List ℕ). reply_body t M.command A.reply) (sym same)
             ∙ (kind_alone told (setup_of z.users L q) (request_of z.users L s q) A.reply ∙ sym a.body));
-        signer = comes.signer;
+        signer = ap (λ (o : Option Signer). logon.unless_faulty c.fault o) comes.signer;
         request = refl;
-        progress = moves_as r.progress (said_to z k now fresh f L w c M.command A.reply) comes.moves;
+        progress = moves_as r.progress (said_to z k now fresh f L w c M.command A) comes.moves;
         known = comes.known;
         sets = comes.sets;
       };
@@ -238,13 +266,6 @@ has_token z s now L c t q x true e denied heard = inr (heard.token e)
 has_token z s now L c t q x false e denied heard =
     inl (unread_stays s now (message_for z.users L q) (setup_of z.users L q) refl e denied)
 
-part_long : (start end : ℕ) (bytes : List ℕ) → start + 64 ≤ end → end ≤ length bytes → 64 ≤ length (take (end - start) (drop start bytes))
-part_long start end bytes whole inside =
-    let rest : length (drop start bytes) ≡ length bytes - start = length-drop start bytes in
-    let room : end - start ≤ length (drop start bytes) = omega (arith, rest, whole, inside) in
-    let size : length (take (end - start) (drop start bytes)) ≡ end - start = length-take-le (end - start) (drop start bytes) room in
-    omega (arith, size, whole)
-
 is_long : (bytes : List ℕ) (m : Checked) (c : hearing.Checked) (q : SetupHeard) → ShowsGoing bytes m c → hearing.is_setup c.header ≡ true
     → q.bytes.now ≡ c.raw → 64 ≤ length q.bytes.now
 is_long bytes m c q shows setup raw =
@@ -267,8 +288,8 @@ setup_by : (shown : Showing) (z : ServerSettings) (k now : ℕ) (fresh : List �
     → ServerServes shown z.users s L records now (events.Setup q) r → GivesBy shown z k now fresh s L records f c
     (message_for z.users L q) r
 setup_by shown z k now fresh s L records f c q (Ok r) negotiate is whole token serves =
-    setup_over shown z k now fresh s L records f c q r negotiate is token
-    (subst (λ (A : model.Answer). Over shown z.users L records now q r (setup_message z.users L s q) A)
+    setup_over shown z k now fresh s L records f c q r negotiate is (own_same L q whole) token
+    (subst (λ (A : model.Answer). Over shown z.users s L records now q r (setup_message z.users L s q) A)
     (sym (same_answer z.users L s now q whole)) serves)
 setup_by shown z k now fresh s L records f c q (Err errors.Memory) negotiate is whole token serves =
     (serves.0, serves.1, left_same z.users L s now q serves.0 serves.1 serves.2, serves.3)

@@ -5,7 +5,6 @@ use Rattle.std.proofs.Common.{None, Result, slice_get, ◌⊎◌, inl, inr, refl
 use Rattle.std.proofs.Common.{sym, ap, subst, ◌∙◌, append-nil, length-append, arith}
 use Rattle.std.specs.Prelude.{is_some}
 use Rattle.std.proofs.lemmas.Option.{slice_get_within}
-use Rattle.spec_exchange.specs.Commands as asks
 use Rattle.spec_exchange.specs.State as model
 use Rattle.spec_wire.specs.credits.Window.{after_grant}
 use Rattle.spec_world.specs.Settings.{ServerSettings}
@@ -18,7 +17,6 @@ use Rattle.spec_world.specs.Connection.{said_failed}
 use Rattle.spec_world.specs.Mishaps.{Mishap, Owned}
 use Rattle.spec_world.specs.Notes.{has_acted}
 use Rattle.conn_core.specs.declared.served.error.ServeError.{ServeError}
-use Rattle.conn_core.specs.declared.served.error.ServeError.TheVariants as errors
 use Rattle.conn_ends.specs.declared.frame_messages.checked.Checked.{Checked}
 use Rattle.conn_ends.specs.declared.frame_messages.checked.CheckedFrame.{CheckedFrame}
 use Rattle.conn_ends.specs.frame_messages.Checking.{AreInOrder, ShowsGoing}

@@ -1,20 +1,18 @@
 -- One message in its turn.
-use Rattle.std.proofs.Common.{◌≡◌, ℕ, ◌+◌, ◌==◌, ◌≤◌, ◌<◌, Bool, true, false}
+use Rattle.std.proofs.Common.{◌≡◌, ℕ, ◌+◌, ◌==◌, ◌<◌, Bool, true, false}
 use Rattle.std.proofs.Common.{◌||◌, if◌then◌else◌, List, [], ◌∷◌, ◌++◌, length, take, drop, Option}
-use Rattle.std.proofs.Common.{Some, None, Result, Ok, Err, slice_get, refl, sym, ap, subst, ◌∙◌, append-nil, append_assoc, arith}
+use Rattle.std.proofs.Common.{Some, None, Result, Ok, Err, slice_get, refl, sym, ap, subst, ◌∙◌, append-nil, append_assoc, eqb-true, arith}
 use Rattle.std.proofs.lemmas.List.{take-append-drop}
-use Rattle.spec_wire.specs.messages.Bare.{bare_fault}
 use Rattle.spec_exchange.specs.Commands as asks
 use Rattle.spec_exchange.specs.State as model
 use Rattle.spec_exchange.specs.Network.{answer_to}
-use Rattle.spec_commands.specs.CommandOf.{Told, echo_status, heard_as}
+use Rattle.spec_commands.specs.CommandOf.{Told, heard_as}
 use Rattle.spec_wire.specs.credits.Window.{after_grant}
 use Rattle.spec_world.specs.Settings.{ServerSettings}
 use Rattle.spec_world.specs.Ends.{ServerEnd, Logons}
 use Rattle.spec_world.specs.Hearing as hearing
 use Rattle.spec_world.specs.Related as related
 use Rattle.spec_world.specs.Related.{Fails, Goes, failed_as, turn_of}
-use Rattle.spec_world.specs.Negotiate.{negotiate_status}
 use Rattle.spec_world.specs.Connection as connection
 use Rattle.spec_world.specs.Connection.{Going, heard_message, said_failed}
 use Rattle.spec_world.specs.Given.{has_event}
@@ -32,7 +30,7 @@ use Rattle.conn_core.specs.declared.related.related.Carry.{Carry}
 use Rattle.conn_core.specs.declared.served.serve.Reply.{Reply}
 use Rattle.conn_core.specs.served.Replies.{some_acted, some_lacked}
 use Rattle.conn_core.specs.served.Serving.{Showing}
-use Rattle.conn_core.specs.message_replies.Replying.{FailsAt, aside_status}
+use Rattle.conn_core.specs.message_replies.Replying.{FailsAt, aside_status, echo_due, negotiate_due}
 use Rattle.conn_core.proofs.requests.Events.{of_negotiate, of_echo, with_event}
 use Rattle.conn_core.specs.frame_events.Dealing.{AddsTo, Alone, EventAnswer, GivesFor, GivesIf, LosesOne, LosesReply}
 use Rattle.conn_core.specs.frame_events.Dealing.{event_listed, lost_in, stop_in, takes}
@@ -67,11 +65,11 @@ aside_by : (shown : Showing) (z : ServerSettings) (k now : ℕ) (fresh : List �
     (c t : hearing.Checked) (u : Told) (status : ℕ) (d e : Dealt) (y : Option related.Carry) (b : Carry) (more : List model.Record)
     (w : Owned) → Place f cs at x n c t → turn_of w.dealt.going.carried c ≡ Goes t → n.fails ≡ None
     → heard_message z w.dealt.going.logons k f t ≡ Some (heard_as u t.header (asks.Aside status)) → aside_status t ≡ Some status
-    → (at + 1 < length cs → carry_of b ≡ related.carried_past t status) → e.replies.items.items ≡ d.replies.items.items ++ []
+    → (t.header.command == 5) ≡ false → RelatedCarries y t None b → e.replies.items.items ≡ d.replies.items.items ++ []
     → e.took ≡ (d.took || takes n None) → shown w.dealt.going.server w.dealt.going.logons (records ++ more)
     → DealtSoFar z k now fresh s L f cs at (at + 1) x d y more w
     → SoFarSteps shown z k now fresh s L records f cs (at + 1) x e (Ok (Some b))
-aside_by shown z k now fresh s L records f cs at x n c t u status d e y b more w p goes none heard aside carries items took state far =
+aside_by shown z k now fresh s L records f cs at x n c t u status d e y b more w p goes none heard aside no_create carries items took state far =
     let M = heard_as u t.header (asks.Aside status) in
     let v = behind_answer z k now fresh f w t M in (
       v,
@@ -79,16 +77,19 @@ aside_by shown z k now fresh s L records f cs at x n c t u status d e y b more w
       one_more z k now fresh s L f cs at x n c t d e y (Some (carry_of b)) more [] more [] w v p.checked p.here p.shows p.command
           (no_failure n.fails none) (append-nil more) (turn_aside z k now fresh f w c t M goes heard refl)
           (beside z k now fresh s L f cs at (at + 1) x n t u status d e y b more w p.shows.header
-          (no_cancel z w.dealt.going.logons k f t M heard) none aside carries items took far) far,
+          (no_cancel z w.dealt.going.logons k f t M heard) no_create none aside carries items took far) far,
       state,
     )
 
 other_status : (t : hearing.Checked) → (t.header.command == 0) ≡ false → (t.header.command == 13) ≡ true
-    → aside_status t ≡ Some (echo_status t.fault (bare_fault t.bytes))
+    → aside_status t ≡ Some (echo_due t)
 other_status t zero echo =
-    ap (λ (b : Bool). if b then Some (negotiate_status t.bytes)
-    else if t.header.command == 13 then Some (echo_status t.fault (bare_fault t.bytes)) else None) zero
-    ∙ ap (λ (b : Bool). if b then Some (echo_status t.fault (bare_fault t.bytes)) else None) echo
+    ap (λ (b : Bool). if b then Some (negotiate_due t)
+    else if t.header.command == 13 then Some (echo_due t) else None) zero
+    ∙ ap (λ (b : Bool). if b then Some (echo_due t) else None) echo
+
+no_create : (n k : ℕ) → (n == k) ≡ true → (k == 5) ≡ false → (n == 5) ≡ false
+no_create n k e f = ap (λ (q : ℕ). q == 5) (eqb-true n k e) ∙ f
 
 true_false : true ≡ false → ⊥
 true_false e = absurd cc
@@ -99,25 +100,24 @@ aside_on : (shown : Showing) (z : ServerSettings) (k now : ℕ) (fresh : List �
     (w : Owned) (i j : Bool) → (t.header.command == 0) ≡ i → (t.header.command == 13) ≡ j → Place f cs at x n c t
     → turn_of w.dealt.going.carried c ≡ Goes t → n.fails ≡ None → Alone cs → heard_message z w.dealt.going.logons k f t ≡ Some m
     → has_event m.command ≡ false → e.replies.items.items ≡ d.replies.items.items ++ [] → e.took ≡ (d.took || takes n None)
-    → RelatedCarries t None b → shown w.dealt.going.server w.dealt.going.logons (records ++ more)
+    → RelatedCarries y t None b → shown w.dealt.going.server w.dealt.going.logons (records ++ more)
     → DealtSoFar z k now fresh s L f cs at (at + 1) x d y more w
     → SoFarSteps shown z k now fresh s L records f cs (at + 1) x e (Ok (Some b))
 aside_on shown z k now fresh s L records f cs at x n c t m d e y b more w true j zero echo p goes none alone heard event items took carries
     state far =
     let u = connection.told_of z w.dealt.going.logons k f t in
-    let first : hearing.is_negotiate c.header ≡ true = ap (λ (q : ℕ). q == 0) (sym p.command) ∙ zero in
-    let few : length cs ≤ 1 = alone at c p.checked first in
-    aside_by shown z k now fresh s L records f cs at x n c t u u.negotiated d e y b more w p goes none
+    aside_by shown z k now fresh s L records f cs at x n c t u (negotiate_due t) d e y b more w p goes none
     (of_negotiate z w.dealt.going.logons k f t zero)
-    (ap (λ (q : Bool). if q then Some (negotiate_status t.bytes)
-    else if t.header.command == 13 then Some (echo_status t.fault (bare_fault t.bytes)) else None) zero)
-    (λ less. absurd (omega (arith, less, few))) items took state far
+    (ap (λ (q : Bool). if q then Some (negotiate_due t)
+    else if t.header.command == 13 then Some (echo_due t) else None) zero)
+    (no_create t.header.command 0 zero refl) carries items took state far
 aside_on shown z k now fresh s L records f cs at x n c t m d e y b more w false true zero echo p goes none alone heard event items took
     carries
     state far =
     let u = connection.told_of z w.dealt.going.logons k f t in
-    aside_by shown z k now fresh s L records f cs at x n c t u (echo_status t.fault (bare_fault t.bytes)) d e y b more w p goes none
-    (of_echo z w.dealt.going.logons k f t echo) (other_status t zero echo) (λ less. carries) items took state far
+    aside_by shown z k now fresh s L records f cs at x n c t u (echo_due t) d e y b more w p goes none
+    (of_echo z w.dealt.going.logons k f t echo) (other_status t zero echo)
+    (no_create t.header.command 13 echo refl) carries items took state far
 aside_on shown z k now fresh s L records f cs at x n c t m d e y b more w false false zero echo p goes none alone heard event items took
     carries state far =
     let h = with_event z w.dealt.going.logons k f t zero echo (no_cancel z w.dealt.going.logons k f t m heard) in
@@ -131,7 +131,7 @@ went_by : (shown : Showing) (z : ServerSettings) (k now : ℕ) (fresh : List ℕ
     → heard_message z w.dealt.going.logons k f t ≡ due
     → GivesIf shown z k now fresh w.dealt.going.server w.dealt.going.logons (records ++ more) f t due given
     → stop_in given ≡ None → lost_in given ≡ false
-    → e.replies.items.items ≡ d.replies.items.items ++ event_listed given → e.took ≡ (d.took || takes n given) → RelatedCarries t given b
+    → e.replies.items.items ≡ d.replies.items.items ++ event_listed given → e.took ≡ (d.took || takes n given) → RelatedCarries y t given b
     → DealtSoFar z k now fresh s L f cs at (at + 1) x d y more w
     → SoFarSteps shown z k now fresh s L records f cs (at + 1) x e (Ok (Some b))
 went_by shown z k now fresh s L records f cs at x n c t None None d e y b more w p goes none alone heard gives stop kept items took carries
@@ -195,7 +195,7 @@ pub went_on : (shown : Showing) (z : ServerSettings) (k now : ℕ) (fresh : List
     (more : List model.Record) (w : Owned) → Place f cs at x n c t → turn_of w.dealt.going.carried c ≡ Goes t → n.fails ≡ None → Alone cs
     → GivesFor shown z k now fresh w.dealt.going.server w.dealt.going.logons (records ++ more) f t given → stop_in given
     ≡ None → lost_in given ≡ false
-    → e.replies.items.items ≡ d.replies.items.items ++ event_listed given → e.took ≡ (d.took || takes n given) → RelatedCarries t given b
+    → e.replies.items.items ≡ d.replies.items.items ++ event_listed given → e.took ≡ (d.took || takes n given) → RelatedCarries y t given b
     → DealtSoFar z k now fresh s L f cs at (at + 1) x d y more w
     → SoFarSteps shown z k now fresh s L records f cs (at + 1) x e (Ok (Some b))
 went_on shown z k now fresh s L records f cs at x n c t given d e y b more w p goes none alone gives stop kept items took carries far =
@@ -372,7 +372,7 @@ halted_err shown z k now fresh s L records f cs at x n c t given d e y ends.Memo
     lost_by_due shown z k now fresh s L records f cs at x n c t (heard_message z w.dealt.going.logons k f t) given d e y more w p goes refl
     gives adds.0 adds.1 took far
 
--- ---- it fails with the one before it
+-- ---- it fails with a CREATE before it
 
 kept_by : (shown : Showing) (records : List model.Record) (g h : Going) (b : Bool) → h.server ≡ g.server → h.logons ≡ g.logons
     → shown g.server g.logons records → shown (if b then g else h).server (if b then g else h).logons records
@@ -410,7 +410,12 @@ failed_on shown z k now fresh s L records f cs at x n c status d y more w p fail
 
 -- a message that shows the definitions' is carried so
 pub carried_so : (bytes : List ℕ) (m : Checked) (c : hearing.Checked) → ShowsGoing bytes m c → IsCarried m (message_in bytes m) c
-carried_so bytes m c shows = record { header = shows.header; bytes_are = shows.bytes_are; fault = shows.fault }
+carried_so bytes m c shows = record {
+  header = shows.header;
+  bytes_are = shows.bytes_are;
+  fault = shows.fault;
+  related = shows.related;
+}
 
 pub ready_goes : (z : ServerSettings) (k now : ℕ) (fresh : List ℕ) (s : model.Server) (L : Logons) (f : ServerEnd)
     (cs : List hearing.Checked) (at : ℕ) (old x : CheckedFrame) (m n : Checked) (c : hearing.Checked) (d : Dealt)

@@ -170,7 +170,7 @@ all_left z k now fresh f w (c ∷ cs) none =
     (all_left z k now fresh f (owned_turn z k now fresh f w c (turn_of w.dealt.going.carried c)) cs
     (turn_kept z k now fresh f w c (turn_of w.dealt.going.carried c) none))
 
--- ---- a message that fails with the one before it
+-- ---- a message that fails with a CREATE before it
 
 abbrev pub behind_failed : ServerSettings → ℕ → ℕ → List ℕ → ServerEnd → Owned → hearing.Checked → ℕ → Owned
 behind_failed z k now fresh f w c status = record w {

@@ -7,7 +7,7 @@ use Rattle.spec_world.specs.Answering as answering
 use Rattle.spec_world.specs.Logon as logon
 use Rattle.spec_world.specs.Related.{file_place}
 use Rattle.conn_ends.specs.declared.conn.Progress.{Progress}
-use Rattle.conn_ends.specs.declared.conn.Progress.TheVariants.{Stays, Interim, Final}
+use Rattle.conn_ends.specs.declared.conn.Progress.TheVariants.{Stays, Refused, Interim, Final}
 use Rattle.conn_ends.specs.declared.frame_messages.checked.Checked.{Checked}
 use Rattle.conn_ends.specs.frame_messages.Checking.{ShowsGoing, message_in}
 use Rattle.conn_core.specs.message_replies.Replying.{SettlesBy}
@@ -32,6 +32,7 @@ greeting_raw bytes m s request command going is = going.raw (no_place m.header.c
 pub hashed_by : (p : Progress) (bytes : List ℕ) (m : Checked) (s : answering.SaidReply) (request : List ℕ) → MovesAs p s
     → SettlesBy s.progress s.request s.keys → ShowsGoing bytes m s.request → request ≡ message_in bytes m → IsHashed p s request
 hashed_by Stays bytes m s request moves settles going is = tt
+hashed_by (Refused signer) bytes m s request moves settles going is = tt
 hashed_by (Interim signer) bytes m s request moves settles going is =
     let sets : hearing.is_setup s.request.header ≡ true =
     subst (λ (q : logon.Progress). SettlesBy q s.request s.keys) moves.1 settles in

@@ -4,11 +4,8 @@ use Rattle.std.proofs.Common.{Option, Some, None, Result, Ok, Err, refl, sym, ap
 use Rattle.std.specs.Prelude.{is_some, slice_get}
 use Rattle.std.proofs.lemmas.List.{drop-drop}
 use Rattle.spec_wire.specs.declared.messages.header.Header.{Header}
-use Rattle.spec_wire.specs.messages.Bare.{bare_fault}
-use Rattle.spec_commands.specs.CommandOf.{echo_status}
 use Rattle.spec_wire.specs.credits.Window.{HeldIds, after_grant}
 use Rattle.spec_world.specs.Settings.{ServerSettings}
-use Rattle.spec_world.specs.Negotiate.{negotiate_status}
 use Rattle.spec_world.specs.Ends.{ServerEnd}
 use Rattle.spec_world.specs.Hearing as hearing
 use Rattle.spec_world.specs.Answering as answering
@@ -16,14 +13,14 @@ use Rattle.spec_world.specs.Connection.{said_failed}
 use Rattle.conn_core.specs.declared.served.error.ServeError.{ServeError}
 use Rattle.conn_core.specs.declared.served.error.ServeError.TheVariants as errors
 use Rattle.conn_ends.specs.declared.conn.Progress.{Progress}
-use Rattle.conn_ends.specs.declared.conn.Progress.TheVariants.{Stays, Interim, Final}
+use Rattle.conn_ends.specs.declared.conn.Progress.TheVariants.{Stays, Refused, Interim, Final}
 use Rattle.conn_ends.specs.declared.frame_messages.checked.Checked.{Checked}
 use Rattle.conn_core.specs.declared.served.serve.Reply.{Reply}
 use Rattle.conn_ends.specs.declared.reply_sealing.said.Said.{Said}
 use Rattle.conn_ends.specs.reply_sealing.Saying.{IsReplySaid, MovesAs}
 use Rattle.conn_core.specs.message_replies.Replying.{Later, IsMessageAnswered, SaysAside, SaysReply, SaysThis}
 use Rattle.conn_core.specs.message_replies.Replying.{MessageSays, AreMessagesSaid, SaidOf, SaidIf, SaidBy, said_aside}
-use Rattle.conn_core.specs.message_replies.Replying.{aside_status, has_message_event}
+use Rattle.conn_core.specs.message_replies.Replying.{aside_status, echo_due, negotiate_due, has_message_event}
 
 abbrev Answer : Type 0
 Answer = Result Reply ServeError
@@ -63,6 +60,7 @@ this_next due u later rs [] said h is = absurd h
 
 moves_base : (p : Progress) (r : answering.SaidReply) (base : List ℕ) → MovesAs p r → MovesAs p (record r { base = base })
 moves_base Stays r base h = h
+moves_base (Refused signer) r base h = h
 moves_base (Interim signer) r base h = h
 moves_base (Final keys channel encrypts) r base h = h
 
@@ -141,7 +139,7 @@ event_is : (m : Checked) (c : hearing.Checked) → c.header ≡ m.header → hea
 event_is m c same cancel =
     has_it (is_some m.fails) (m.header.command == 0) (m.header.command == 13) (m.header.command == 12) (is_some (aside_status c))
     (ap (λ (h : Header). h.command == 12) (sym same) ∙ cancel)
-    (aside_if (c.header.command == 0) (c.header.command == 13) (negotiate_status c.bytes) (echo_status c.fault (bare_fault c.bytes))
+    (aside_if (c.header.command == 0) (c.header.command == 13) (negotiate_due c) (echo_due c)
     ∙ ap (λ (h : Header). not (not (h.command == 0) && not (h.command == 13))) same)
 
 -- any other message has one

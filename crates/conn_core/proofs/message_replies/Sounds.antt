@@ -2,8 +2,6 @@
 use Rattle.std.proofs.Common.{◌≡◌, ◌∙◌, ℕ, ◌≤◌, ◌==◌, Bool, true, false, if◌then◌else◌, List, [], ◌∷◌, Option, Some, None, Result, Ok, Err}
 use Rattle.std.proofs.Common.{refl, sym, ap, subst}
 use Rattle.spec_exchange.specs.Status.{no_memory, success}
-use Rattle.spec_wire.specs.messages.Bare.{bare_fault}
-use Rattle.spec_commands.specs.CommandOf.{echo_status}
 use Rattle.spec_wire.specs.credits.Window.{HeldIds, after_grant}
 use Rattle.spec_crypto.specs.declared.sessions.material.Keys.{Keys}
 use Rattle.spec_world.specs.Settings.{ServerSettings}
@@ -16,18 +14,21 @@ use Rattle.spec_world.specs.Connection.{said_failed}
 use Rattle.conn_core.specs.declared.served.error.ServeError.{ServeError}
 use Rattle.conn_core.specs.declared.served.error.ServeError.TheVariants as errors
 use Rattle.conn_ends.specs.declared.conn.Progress.{Progress}
-use Rattle.conn_ends.specs.declared.conn.Progress.TheVariants.{Stays, Interim, Final}
+use Rattle.conn_ends.specs.declared.conn.Progress.TheVariants.{Stays, Refused, Interim, Final}
 use Rattle.conn_ends.specs.declared.frame_messages.checked.Checked.{Checked}
 use Rattle.conn_core.specs.declared.served.serve.Reply.{Reply}
 use Rattle.conn_ends.specs.reply_sealing.Saying.{AreProgressKeys, MovesAs}
 use Rattle.conn_core.specs.message_replies.Replying.{AreMessagesSaid, AreSound, FailRightly, FailsAt, IsMessageAnswered}
 use Rattle.conn_core.specs.message_replies.Replying.{IsSound, Later, MessageSays, MessageSetsUp, SettlesBy}
-use Rattle.conn_core.specs.message_replies.Replying.{aside_status, said_aside}
+use Rattle.conn_core.specs.message_replies.Replying.{aside_status, echo_due, negotiate_due, said_aside}
+use Rattle.conn_core.specs.related.Carrying.{is_broken}
+use Rattle.conn_core.proofs.message_replies.Parts.{good_status}
 
 settles_by : (p : Progress) (s : answering.SaidReply) (c : hearing.Checked) → MovesAs p s → MessageSetsUp p c
     → AreProgressKeys p → s.request ≡ c
     → SettlesBy s.progress s.request s.keys
 settles_by Stays s c moves sets known request = subst (λ (q : logon.Progress). SettlesBy q s.request s.keys) (sym moves) tt
+settles_by (Refused signer) s c moves sets known request = subst (λ (q : logon.Progress). SettlesBy q s.request s.keys) (sym moves) tt
 settles_by (Interim signer) s c moves sets known request =
     subst (λ (q : logon.Progress). SettlesBy q s.request s.keys) (sym moves.1)
     (subst (λ (x : hearing.Checked). hearing.is_setup x.header ≡ true) (sym request) sets)
@@ -52,8 +53,8 @@ none_chosen false echoes a b g e = cc
 
 greets_none : (c : hearing.Checked) → hearing.is_negotiate c.header ≡ true → aside_status c ≡ None → ⊥
 greets_none c g e =
-    none_chosen (hearing.is_negotiate c.header) (c.header.command == 13) (negotiate_status c.bytes)
-    (echo_status c.fault (bare_fault c.bytes)) g e
+    none_chosen (hearing.is_negotiate c.header) (c.header.command == 13) (negotiate_due c)
+    (echo_due c) g e
 
 failed_sound : (f : ServerEnd) (w : HeldIds) (c : hearing.Checked) (status : ℕ) → (status ≡ success → ⊥)
     → IsSound (said_failed f w c status)
@@ -68,9 +69,8 @@ aside_sound : (z : ServerSettings) (now : ℕ) (f : ServerEnd) (w : HeldIds) (c 
 aside_sound z now f w c status e base = record {
   settles = tt;
   greets = λ g good.
-      chosen_by (hearing.is_negotiate c.header) (c.header.command == 13) (negotiate_status c.bytes)
-      (echo_status c.fault (bare_fault c.bytes)) status
-      g e ∙ good;
+      good_status (is_broken c) (negotiate_status c.bytes)
+      (chosen_by (hearing.is_negotiate c.header) (c.header.command == 13) (negotiate_due c) (echo_due c) status g e ∙ good);
 }
 
 answer_sound : (f : ServerEnd) (w : HeldIds) (c : hearing.Checked) (r : Result Reply ServeError) (s : answering.SaidReply)

@@ -1,6 +1,7 @@
 -- A message of a frame that takes over what was handed on, and the others of its frame.
 use Rattle.std.proofs.Common.{◌≡◌, ℕ, zero, suc, ◌+◌, ◌-◌, ◌≤◌, ◌<◌, ◌==◌, Bool, true, false, if◌then◌else◌, List, [], ◌∷◌, ◌++◌, set}
 use Rattle.std.proofs.Common.{length, take, drop, Option, Some, None, slice_get, inl, inr, refl, sym, ap, subst, ◌∙◌, arith}
+use Rattle.std.specs.Prelude.{is_some, not, ◌||◌}
 use Rattle.spec_wire.specs.declared.messages.header.Header.{Header}
 use Rattle.spec_wire.specs.declared.messages.header.Span.{Span}
 use Rattle.spec_world.specs.Hearing as hearing
@@ -9,7 +10,7 @@ use Rattle.conn_ends.specs.declared.frame_messages.checked.Checked.{Checked}
 use Rattle.conn_ends.specs.declared.frame_messages.checked.CheckedFrame.{CheckedFrame}
 use Rattle.conn_ends.specs.frame_messages.Checking.{InOrder, AreInOrder, HasMessage, places_of, bytes_of, message_in}
 use Rattle.conn_core.specs.declared.related.related.Carry.{Carry}
-use Rattle.conn_core.specs.related.Carrying.{carry_of, IsCarried, Inherits, TakesOver, SameOthers, AreApart}
+use Rattle.conn_core.specs.related.Carrying.{carry_of, follows, IsCarried, Inherits, TakesOver, SameOthers, AreApart}
 use Rattle.conn_core.proofs.related.Placed.{itself, before_it, behind_it, put_long}
 
 -- ---- lists
@@ -63,11 +64,16 @@ told : (y : Carry) (m n : Checked) (c : hearing.Checked) (goes : Bool) → c.hea
     → n.header ≡ record c.header { session = y.session; tree = y.tree }
 told y m n c goes same t = t.header ∙ ap (λ (h : Header). record h { session = y.session; tree = y.tree }) (sym same)
 
+-- whether it goes its way
+followed : (y : Carry) (m : Checked) (c : hearing.Checked) → c.header ≡ m.header → related.can_follow c (carry_of y) ≡ follows m y
+followed y m c same = ap (λ (h : Header). not (is_some (related.file_place h.command)) || (y.status == 0)) same
+
 pub fails : (y : Carry) (m n : Checked) (bytes new : List ℕ) (c : hearing.Checked) → m.related ≡ true → c.related ≡ m.related
     → IsCarried m bytes c → TakesOver m y false n → new ≡ bytes
     → Inherits (related.turn_of (Some (carry_of y)) c) false (related.failed_as (Some (carry_of y)) c) n new
 fails y m n bytes new c is_related same is t kept =
-    let failed : (y.status == 0) ≡ false = sym t.goes_is in
+    let same_follows : related.can_follow c (carry_of y) ≡ follows m y = followed y m c is.header in
+    let failed : follows m y ≡ false = sym t.goes_is in
     let header : n.header ≡ record c.header { session = y.session; tree = y.tree } = told y m n c false is.header t in
     let status : n.fails ≡ Some y.status =
     t.fails ∙ ap (λ (b : Bool). if b then m.fails else Some y.status) failed in
@@ -75,17 +81,19 @@ fails y m n bytes new c is_related same is t kept =
       header = sym header;
       bytes_are = is.bytes_are ∙ sym kept;
       fault = is.fault ∙ sym t.fault;
+      related = is.related ∙ sym t.related;
     } in
     subst (λ (b : Bool). Inherits (if b then related.related_turn c (carry_of y) else related.Goes c) false
     (related.failed_as (Some (carry_of y)) c) n new) (sym (same ∙ is_related))
     (subst (λ (b : Bool). Inherits (if b then related.Goes (related.with_ids c (carry_of y)) else related.Fails y.status) false
-    (related.failed_as (Some (carry_of y)) c) n new) (sym failed) (shown, status))
+    (related.failed_as (Some (carry_of y)) c) n new) (sym (same_follows ∙ failed)) (shown, status))
 
 pub goes : (y : Carry) (m n : Checked) (bytes new : List ℕ) (c : hearing.Checked) → m.related ≡ true → c.related ≡ m.related
     → IsCarried m bytes c → m.fails ≡ None → TakesOver m y true n → new ≡ related.with_file n.header.command y.file bytes
     → Inherits (related.turn_of (Some (carry_of y)) c) true (related.failed_as (Some (carry_of y)) c) n new
 goes y m n bytes new c is_related same is none t made =
-    let went : (y.status == 0) ≡ true = sym t.goes_is in
+    let same_follows : related.can_follow c (carry_of y) ≡ follows m y = followed y m c is.header in
+    let went : follows m y ≡ true = sym t.goes_is in
     let header : n.header ≡ record c.header { session = y.session; tree = y.tree } = told y m n c true is.header t in
     let command : n.header.command ≡ c.header.command = ap (λ (h : Header). h.command) header in
     let mine : related.with_file c.header.command y.file c.bytes ≡ new =
@@ -97,11 +105,12 @@ goes y m n bytes new c is_related same is none t made =
       header = sym header;
       bytes_are = mine;
       fault = is.fault ∙ sym t.fault;
+      related = is.related ∙ sym t.related;
     } in
     subst (λ (b : Bool). Inherits (if b then related.related_turn c (carry_of y) else related.Goes c) true
     (related.failed_as (Some (carry_of y)) c) n new) (sym (same ∙ is_related))
     (subst (λ (b : Bool). Inherits (if b then related.Goes (related.with_ids c (carry_of y)) else related.Fails y.status) true
-    (related.failed_as (Some (carry_of y)) c) n new) (sym went) (shown, status))
+    (related.failed_as (Some (carry_of y)) c) n new) (sym (same_follows ∙ went)) (shown, status))
 
 -- ---- a frame in which one message changed, in its place
 

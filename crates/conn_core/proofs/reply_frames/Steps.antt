@@ -89,9 +89,8 @@ opens z first counted f g all w answers at conn joining walk m s e =
 pub shown_by : (answers : Answers) (m : Checked) (c : hearing.Checked) → ShowsGoing answers.asked.now.bytes.items m c
     → IsShown answers.asked.now m c
 shown_by answers m c going = record {
-  like = record { header = going.header; related = going.related };
+  like = record { header = going.header; related = going.related; fault = going.fault };
   bytes = going.bytes_are;
-  fault = going.fault;
 }
 
 pub place_is : (ms : List Checked) (at place behind : ℕ) (m : Checked) → slice_get ms at ≡ Some m

@@ -1,11 +1,13 @@
 -- What was found in a message's bytes, as the message that the definitions hear.
-use Rattle.std.proofs.Common.{◌≡◌, ℕ, ◌==◌, ◌%◌, Bool, true, false, ◌&&◌, if◌then◌else◌, List, Option, Some, None, option_map}
+use Rattle.std.proofs.Common.{◌≡◌, ℕ, ◌==◌, ◌%◌, Bool, true, false, not, ◌&&◌, if◌then◌else◌, List, Option, Some, None, option_map}
 use Rattle.std.proofs.Common.{refl, sym, ap, subst, ◌∙◌}
+use Rattle.std.specs.Prelude.{is_some}
 use Rattle.std.specs.Str.{bytes_eq}
 use Rattle.std.proofs.lemmas.Slice.Eq.{bytes_eq-Decides}
 use Rattle.spec_wire.specs.declared.messages.header.Header.{Header}
 use Rattle.spec_wire.specs.declared.messages.error.MessageError.{MessageError}
 use Rattle.spec_wire.specs.messages.SessionSetup.{SessionSetupRequestValue, session_setup_request_in, session_setup_request_fault}
+use Rattle.spec_exchange.specs.Status.{invalid_parameter}
 use Rattle.spec_exchange.specs.Commands as asks
 use Rattle.spec_exchange.specs.Commands.{has_bit}
 use Rattle.spec_exchange.specs.State as model
@@ -28,7 +30,7 @@ use Rattle.server_checks.specs.declared.setups.setup.SetupHeard.{SetupHeard}
 use Rattle.conn_ends.specs.declared.frame_messages.checked.Checked.{Checked}
 use Rattle.conn_ends.specs.frame_messages.Checking.{IsDenied}
 use Rattle.conn_ends.proofs.frame_messages.Headers.{one_number, true_is_not_false}
-use Rattle.conn_core.specs.related.Carrying.{IsCarried}
+use Rattle.conn_core.specs.related.Carrying.{IsCarried, breaks_form, is_broken}
 use Rattle.conn_core.specs.served.Serving.{IsServerPlain}
 use Rattle.conn_core.specs.declared.requests.hearing.Told.{Told as Tells}
 use Rattle.conn_core.specs.requests.Asking.{IsRequestTold, IsFormed, IsRequestHeard, IsRequestEvent, message_for}
@@ -58,6 +60,53 @@ heard_due t h g m n o header bytes e =
     ap (λ (x : Option asks.Command). option_map (heard_as t g) x)
     (ap (λ (y : Header). command_of t y n) header ∙ (ap (λ (b : List ℕ). command_of t h b) bytes ∙ e))
 
+-- ---- and where its form is broken by its place
+
+abbrev pub placed_command : Bool → Option ℕ → asks.Command → asks.Command
+placed_command broken fault x = if broken then connection.misplaced_command fault x else x
+
+pub placed_none : (b : Bool) → connection.placed b None ≡ None
+placed_none true = refl
+placed_none false = refl
+
+pub placed_some : (b : Bool) (t : Told) (h : Header) (x : asks.Command)
+    → connection.placed b (Some (heard_as t h x)) ≡ Some (heard_as t h (placed_command b t.fault x))
+placed_some true t h x = refl
+placed_some false t h x = refl
+
+pub aside_placed : (b : Bool) (o : Option ℕ) (status : ℕ)
+    → placed_command b o (asks.Aside status) ≡ asks.Aside (if not (is_some o) && b then invalid_parameter else status)
+aside_placed true None status = refl
+aside_placed true (Some fault) status = refl
+aside_placed false None status = refl
+aside_placed false (Some fault) status = refl
+
+plain_placed : (b : Bool) (o : Option ℕ) (x : asks.Command) → IsServerPlain x
+    → placed_command b o x ≡ (if not (is_some o) && b then asks.Unreadable invalid_parameter else x)
+plain_placed false None x p = refl
+plain_placed false (Some fault) x p = refl
+plain_placed true (Some fault) x p = refl
+plain_placed true None (asks.Aside status) p = absurd p
+plain_placed true None (asks.Setup request) p = absurd p
+plain_placed true None x p = refl
+
+setup_placed : (b : Bool) (o : Option ℕ) (r : asks.SetupRequest)
+    → placed_command b o (asks.Setup r) ≡ asks.Setup (if not (is_some o) && b then record r { readable = false } else r)
+setup_placed false None r = refl
+setup_placed false (Some fault) r = refl
+setup_placed true None r = refl
+setup_placed true (Some fault) r = refl
+
+-- in code
+broken_is : (m : Checked) (bytes : List ℕ) (c : hearing.Checked) → IsCarried m bytes c → is_broken c ≡ breaks_form m
+broken_is m bytes c is = λ i. not (is_some (is.fault i)) && (not (is.related i) && has_bit (is.header i).flags 4)
+
+-- the message that is heard of a command
+heard_placed : (t : Told) (h g : Header) (m n : List ℕ) (b : Bool) (x : asks.Command) → g ≡ h → n ≡ m → command_of t h m ≡ Some x
+    → connection.placed b (message_of t g n) ≡ Some (heard_as t g (placed_command b t.fault x))
+heard_placed t h g m n b x header bytes e =
+    ap (connection.placed b) (heard_due t h g m n (Some x) header bytes e) ∙ placed_some b t g x
+
 -- none, of a CANCEL
 pub heard_none : (z : ServerSettings) (L : Logons) (f : ServerEnd) (m : Checked) (bytes : List ℕ) (c : hearing.Checked) (t : Tells)
     → IsCarried m bytes c → ((u : Told) → command_of u m.header bytes ≡ None)
@@ -65,7 +114,8 @@ pub heard_none : (z : ServerSettings) (L : Logons) (f : ServerEnd) (m : Checked)
 heard_none z L f m bytes c t is e =
     let u = connection.told_of z L t.connection f c in
     subst (λ (o : Option model.Message). IsRequestEvent z.users L t c o None)
-    (sym (heard_due u m.header c.header bytes c.bytes None is.header is.bytes_are (e u))) tt
+    (sym (ap (connection.placed (hearing.is_misplaced c)) (heard_due u m.header c.header bytes c.bytes None is.header is.bytes_are (e u))
+    ∙ placed_none (hearing.is_misplaced c))) tt
 
 -- a command that the connection answers by itself
 pub heard_aside : (z : ServerSettings) (L : Logons) (f : ServerEnd) (m : Checked) (bytes : List ℕ) (c : hearing.Checked) (t : Tells)
@@ -74,7 +124,8 @@ pub heard_aside : (z : ServerSettings) (L : Logons) (f : ServerEnd) (m : Checked
 heard_aside z L f m bytes c t status is e =
     let u = connection.told_of z L t.connection f c in
     subst (λ (o : Option model.Message). IsRequestEvent z.users L t c o None)
-    (sym (heard_due u m.header c.header bytes c.bytes (Some (asks.Aside (status u))) is.header is.bytes_are (e u))) tt
+    (sym (heard_placed u m.header c.header bytes c.bytes (hearing.is_misplaced c) (asks.Aside (status u)) is.header is.bytes_are (e u)
+    ∙ ap (λ (x : asks.Command). Some (heard_as u c.header x)) (aside_placed (hearing.is_misplaced c) c.fault (status u)))) tt
 
 -- whose client it is
 client_if : (b : Bool) (c : hearing.Checked) (k : ℕ) → b ≡ false → (if b then client_told c.bytes else k) ≡ k
@@ -89,21 +140,31 @@ client_is f m c t header other told =
 
 -- ---- a plain command
 
+plain_if : (b : Bool) (x : asks.Command) → IsServerPlain x → IsServerPlain (if b then asks.Unreadable invalid_parameter else x)
+plain_if true x p = tt
+plain_if false x p = p
+
 pub heard_plain : (z : ServerSettings) (L : Logons) (f : ServerEnd) (m : Checked) (bytes : List ℕ) (c : hearing.Checked) (t : Tells)
     (x : asks.Command) (message : Message) → IsCarried m bytes c → IsRequestTold f c t → Finds m.header bytes (λ u. x)
-    → ((u : Told) → u.connection ≡ t.connection → u.client ≡ t.client_guid → u.fault ≡ m.fault → meant message ≡ heard_as u m.header x)
+    → ((u : Told) → u.connection ≡ t.connection → u.client ≡ t.client_guid → u.fault ≡ m.fault
+    → meant message ≡ heard_as u m.header (if breaks_form m then asks.Unreadable invalid_parameter else x))
     → IsRequestEvent z.users L t c (heard_message z L t.connection f c) (Some (events.Message message))
 heard_plain z L f m bytes c t x message is told e formed =
     let u = connection.told_of z L t.connection f c in
+    let b = hearing.is_misplaced c in
+    let v = if breaks_form m then asks.Unreadable invalid_parameter else x in
     let by_number = named m.header bytes (λ u. x) e in
     let plain : IsServerPlain x = named_plain m.header.command m.header bytes x by_number in
     let other : (m.header.command == 0) ≡ false = named_not_zero m.header.command m.header bytes x by_number in
-    let same : meant message ≡ heard_as u m.header x = formed u refl (client_is f m c t is.header other told) is.fault in
-    let mine : meant message ≡ heard_as u c.header x = same ∙ ap (λ (h : Header). heard_as u h x) (sym is.header) in
+    let same : meant message ≡ heard_as u m.header v = formed u refl (client_is f m c t is.header other told) is.fault in
+    let mine : meant message ≡ heard_as u c.header v = same ∙ ap (λ (h : Header). heard_as u h v) (sym is.header) in
     let serves : IsServerPlain (asked message.command) =
-    subst (λ (y : asks.Command). IsServerPlain y) (sym (ap (λ (y : model.Message). y.command) same)) plain in
-    subst (λ (o : Option model.Message). IsRequestEvent z.users L t c o (Some (events.Message message)))
-    (sym (heard_due u m.header c.header bytes c.bytes (Some x) is.header is.bytes_are (e u))) (serves, mine)
+    subst (λ (y : asks.Command). IsServerPlain y) (sym (ap (λ (y : model.Message). y.command) same)) (plain_if (breaks_form m) x plain) in
+    let due : heard_message z L t.connection f c ≡ Some (heard_as u c.header v) =
+    heard_placed u m.header c.header bytes c.bytes b x is.header is.bytes_are (e u)
+    ∙ (ap (λ (y : asks.Command). Some (heard_as u c.header y)) (plain_placed b c.fault x plain)
+    ∙ ap (λ (q : Bool). Some (heard_as u c.header (if q then asks.Unreadable invalid_parameter else x))) (broken_is m bytes c is)) in
+    subst (λ (o : Option model.Message). IsRequestEvent z.users L t c o (Some (events.Message message))) (sym due) (serves, mine)
 
 -- ---- a SESSION_SETUP
 
@@ -233,30 +294,58 @@ message_is z L f m bytes c t form q is raw told formed other signed =
       });
     }
 
+-- the form that is told, where its place breaks it
+abbrev pub form_placed : Bool → SetupForm → SetupForm
+form_placed broken form = if broken then record form { readable = false } else form
+
+placed_told : (b : Bool) (u : Told) (form : SetupForm)
+    → (if b then record (setup_told u form) { readable = false } else setup_told u form) ≡ setup_told u (form_placed b form)
+placed_told true u form = refl
+placed_told false u form = refl
+
+signed_placed : (b : Bool) (form : SetupForm) (k : Bool) → form.signed ≡ k → (form_placed b form).signed ≡ k
+signed_placed true form k e = e
+signed_placed false form k e = e
+
+token_placed : (b : Bool) (form : SetupForm) (token : List ℕ) → (form.readable ≡ true → form.token.now ≡ token)
+    → (form_placed b form).readable ≡ true → (form_placed b form).token.now ≡ token
+token_placed true form token e reads = absurd (true_is_not_false (sym reads))
+token_placed false form token e reads = e reads
+
 pub heard_setup : (z : ServerSettings) (L : Logons) (f : ServerEnd) (m : Checked) (bytes : List ℕ) (c : hearing.Checked) (t : Tells)
     (form : SetupForm) (q : SetupHeard) → IsCarried m bytes c → (file_place m.header.command ≡ None → c.raw ≡ bytes) → IsDenied m.fault
-    → IsRequestTold f c t → Finds m.header bytes (λ u. asks.Setup (setup_told u form)) → IsFormed t m form bytes q
+    → IsRequestTold f c t → Finds m.header bytes (λ u. asks.Setup (setup_told u form))
+    → IsFormed t m (form_placed (breaks_form m) form) bytes q
     → IsRequestEvent z.users L t c (heard_message z L t.connection f c) (Some (events.Setup q))
 heard_setup z L f m bytes c t form q is raw denied told e formed =
     let u = connection.told_of z L t.connection f c in
+    let b = hearing.is_misplaced c in
+    let placed = form_placed (breaks_form m) form in
     let number : m.header.command ≡ 1 = number_is m.header bytes form e in
     let as_heard : c.raw ≡ bytes = raw (none_named m.header.command number) in
     let by_number = setup_found m.header bytes form e number in
-    let signed : form.signed ≡ has_bit m.header.flags 8 = signed_is m.header bytes form by_number in
-    let heard : IsRequestHeard z.users L t c q (heard_as u c.header (asks.Setup (setup_told u form))) = record {
-      message = message_is z L f m bytes c t form q is as_heard told formed (not_zero m.header.command number) signed;
+    let signed : placed.signed ≡ has_bit m.header.flags 8 =
+    signed_placed (breaks_form m) form (has_bit m.header.flags 8) (signed_is m.header bytes form by_number) in
+    let heard : IsRequestHeard z.users L t c q (heard_as u c.header (asks.Setup (setup_told u placed))) = record {
+      message = message_is z L f m bytes c t placed q is as_heard told formed (not_zero m.header.command number) signed;
       setup = ap (λ (h : Header). h.command == 1) is.header ∙ is_one m.header.command number;
       session = formed.session ∙ ap (λ (h : Header). h.session) (sym is.header);
       connection = formed.connection;
       token = λ reads.
           ap (λ (g : SetupForm). g.token.now) formed.form_is
-          ∙ (token_is m.header bytes form by_number (sym (ap (λ (g : SetupForm). g.readable) formed.form_is) ∙ reads)
+          ∙ (token_placed (breaks_form m) form (token_in bytes) (token_is m.header bytes form by_number)
+          (sym (ap (λ (g : SetupForm). g.readable) formed.form_is) ∙ reads)
           ∙ ap (λ (b : List ℕ). token_in b) (sym is.bytes_are));
       raw = formed.raw ∙ sym as_heard;
       chain_is = formed.chain_is;
       chosen = formed.chosen;
       fresh = formed.fresh;
     } in
-    subst (λ (o : Option model.Message). IsRequestEvent z.users L t c o (Some (events.Setup q)))
-    (sym (heard_due u m.header c.header bytes c.bytes (Some (asks.Setup (setup_told u form))) is.header is.bytes_are (e u)))
+    let due : heard_message z L t.connection f c ≡ Some (heard_as u c.header (asks.Setup (setup_told u placed))) =
+    heard_placed u m.header c.header bytes c.bytes b (asks.Setup (setup_told u form)) is.header is.bytes_are (e u)
+    ∙ (ap (λ (y : asks.Command). Some (heard_as u c.header y)) (setup_placed b c.fault (setup_told u form))
+    ∙ (ap (λ (k : Bool). Some (heard_as u c.header (asks.Setup (if k then record (setup_told u form) { readable = false }
+    else setup_told u form)))) (broken_is m bytes c is)
+    ∙ ap (λ (r : asks.SetupRequest). Some (heard_as u c.header (asks.Setup r))) (placed_told (breaks_form m) u form))) in
+    subst (λ (o : Option model.Message). IsRequestEvent z.users L t c o (Some (events.Setup q))) (sym due)
     (subst (λ (o : Option ℕ). IsDenied o) (sym formed.fault) denied, heard)

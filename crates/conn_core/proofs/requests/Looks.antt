@@ -21,6 +21,7 @@ as_carried bytes m a b k e f shows = record {
   header = shows.header ∙ sym (ap (λ (x : Checked). x.header) e);
   bytes_are = shows.bytes_are ∙ sym f;
   fault = shows.fault ∙ sym (ap (λ (x : Checked). x.fault) e);
+  related = shows.related ∙ sym (ap (λ (x : Checked). x.related) e);
 }
 
 pub as_heard : (bytes : List ℕ) (m a : Checked) (b : List ℕ) (k : hearing.Checked) → a ≡ m → b ≡ message_in bytes m

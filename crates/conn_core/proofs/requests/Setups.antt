@@ -3,7 +3,6 @@
 use Rattle.std.proofs.Common.{◌≡◌, ℕ, ◌≤◌, nat_le, Bool, true, false, ◌&&◌, List, length, refl, sym, ap, arith}
 use Rattle.std.proofs.lemmas.Bool.Decides.{nat_tests}
 use Rattle.spec_exchange.specs.State as model
-use Rattle.spec_exchange.specs.Commands as asks
 use Rattle.spec_exchange.specs.Network.{answer_to}
 use Rattle.spec_exchange.specs.Step.{step}
 use Rattle.spec_crypto.specs.sessions.Signing.{verifies}
@@ -13,9 +12,20 @@ use Rattle.server_checks.specs.setups.Setups.{request_of, setup_message, verifie
 use Rattle.server_checks.specs.declared.setups.setup.SetupHeard.{SetupHeard}
 use Rattle.server_checks.proofs.setups.Steps.{absent}
 use Rattle.conn_core.specs.requests.Asking.{message_for}
+use Rattle.conn_core.specs.served.Serving.{has_own_signature}
 
-abbrev told_by : Logons → SetupHeard → Bool
+abbrev pub told_by : Logons → SetupHeard → Bool
 told_by L q = q.form.signed && verifies (L.keys q.session_id).signing q.bytes.now
+
+-- whether it has the signature of its session's own key: it has a header, so that it can have one
+behind_length : (a b v : Bool) → b ≡ true → (a && (b && v)) ≡ (a && v)
+behind_length a true v e = refl
+behind_length a false v e = absurd cc
+
+pub own_same : (L : Logons) (q : SetupHeard) → 64 ≤ length q.bytes.now → has_own_signature L q ≡ told_by L q
+own_same L q whole =
+    let long : nat_le 64 (length q.bytes.now) ≡ true = grind (arith, nat_tests) in
+    behind_length q.form.signed (nat_le 64 (length q.bytes.now)) (verifies (L.keys q.session_id).signing q.bytes.now) long
 
 with_told : (users : List User) (L : Logons) (s : model.Server) (q : SetupHeard)
     → message_for users L q ≡ with_verified (setup_message users L s q) (request_of users L s q) (told_by L q)

@@ -4,6 +4,7 @@ use Rattle.std.specs.Prelude.{Option, Some, None, Result, Ok, Err, ⊤, IfOk}
 use Rattle.spec_exchange.specs.State as model
 use Rattle.spec_exchange.specs.Network.{answer_to}
 use Rattle.spec_wire.specs.credits.Window.{HeldIds}
+use Rattle.spec_world.specs.Related as related
 use Rattle.spec_world.specs.Settings.{ServerSettings}
 use Rattle.spec_world.specs.Ends.{ServerEnd, Logons}
 use Rattle.spec_world.specs.Hearing as hearing
@@ -84,7 +85,7 @@ pub record GivesReply (shown : Showing) (z : ServerSettings) (k now : ℕ) (fres
       shown A.server (logons_behind z.users L k f c fresh now (progress m.command A.reply)) (records ++ A.records)
   pub named : IsNamed r (answer_to s now m m.command).reply
   pub acted : r.acted ≡ (answer_to s now m m.command).acted
-  pub said : (w : HeldIds) → IsSaidTo f w c r (said_to z k now fresh f L w c m.command (answer_to s now m m.command).reply)
+  pub said : (w : HeldIds) → IsSaidTo f w c r (said_to z k now fresh f L w c m.command (answer_to s now m m.command))
 
 -- the step's own answer, whose reply is lost
 pub record LosesReply (shown : Showing) (z : ServerSettings) (k now : ℕ) (fresh : List ℕ) (s : model.Server) (L : Logons)
@@ -130,11 +131,12 @@ AddsTo given old new (Err e) = ⊥
 abbrev pub EventAdds : EventAnswer → Dealt → Dealt → Result Unit ConnEnd → Type 0
 EventAdds given old new result = AddsTo given old new result × (new.took ≡ old.took)
 
-pub record DealsOne (m : Checked) (bytes : List ℕ) (given : EventAnswer) (old new : Dealt) (result : Result Carry ConnEnd) : Type 0 where
+pub record DealsOne (m : Checked) (bytes : List ℕ) (before : Option related.Carry) (given : EventAnswer) (old new : Dealt)
+    (result : Result Carry ConnEnd) : Type 0 where
   pub short : AreShortIf given
   pub adds : AddsTo given old new result
   pub took : new.took ≡ (old.took || takes m given)
-  pub carries : IfOk result (λ y. (c : hearing.Checked) → IsCarried m bytes c → RelatedCarries c given y)
+  pub carries : IfOk result (λ y. (c : hearing.Checked) → IsCarried m bytes c → RelatedCarries before c given y)
 
 -- ---- all events of a frame
 

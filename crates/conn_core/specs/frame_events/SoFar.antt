@@ -1,5 +1,5 @@
 -- The events of the first messages of a frame, whatever befalls those behind them.
-use Rattle.std.specs.Prelude.{◌≡◌, ◌+◌, ◌≤◌, ◌<◌, ℕ, false, is_some, List, ◌++◌, length, take, slice_get, Option, None, Some}
+use Rattle.std.specs.Prelude.{◌≡◌, ◌≤◌, ◌<◌, ℕ, false, is_some, List, ◌++◌, length, take, slice_get, Option, None, Some}
 use Rattle.std.specs.Prelude.{Result, Ok, Err, option_map}
 use Rattle.spec_exchange.specs.State as model
 use Rattle.spec_world.specs.Settings.{ServerSettings}

@@ -1,7 +1,7 @@
 -- The replies to a frame's messages in code, one after the other.
 use Rattle.std.specs.Prelude.{◌≡◌, ℕ, ◌≤◌, ◌==◌, Bool, true, false, not, is_some, ◌&&◌, if◌then◌else◌, List, [], ◌∷◌}
 use Rattle.std.specs.Prelude.{Option, Some, None, Result, Ok, Err, ⊤}
-use Rattle.spec_exchange.specs.Status.{no_memory, success}
+use Rattle.spec_exchange.specs.Status.{invalid_parameter, no_memory, success}
 use Rattle.spec_exchange.specs.Commands.{Aside}
 use Rattle.spec_exchange.specs.State as model
 use Rattle.spec_wire.specs.messages.Bare.{bare_fault}
@@ -20,7 +20,7 @@ use Rattle.conn_ends.specs.declared.conn.Conn.{Conn}
 use Rattle.conn_ends.specs.declared.frame_messages.checked.Checked.{Checked}
 use Rattle.conn_core.specs.declared.served.serve.Reply.{Reply}
 use Rattle.conn_ends.specs.declared.conn.Progress.{Progress}
-use Rattle.conn_ends.specs.declared.conn.Progress.TheVariants.{Stays, Interim, Final}
+use Rattle.conn_ends.specs.declared.conn.Progress.TheVariants.{Stays, Refused, Interim, Final}
 use Rattle.conn_core.specs.declared.served.error.ServeError.{ServeError}
 use Rattle.conn_core.specs.declared.served.error.ServeError.TheVariants as errors
 use Rattle.conn_ends.specs.frame_messages.Checking.{ShowsGoing, message_in}
@@ -28,16 +28,21 @@ use Rattle.conn_ends.specs.declared.frame_messages.checked.CheckedFrame.{Checked
 use Rattle.conn_ends.specs.declared.negotiating.greeting.Hello.{Hello}
 use Rattle.conn_ends.specs.declared.reply_sealing.said.Said.{Said}
 use Rattle.conn_ends.specs.negotiating.Greeting.{IsHello}
+use Rattle.conn_core.specs.related.Carrying.{is_broken}
 use Rattle.conn_core.specs.served.Serving.{IsServerShort}
 use Rattle.conn_ends.specs.reply_sealing.Saying.{AreProgressKeys, IsReplySaid, MovesAs}
 
 -- ---- one reply
 
--- by the server's answer: who signs it goes by what a SESSION_SETUP comes to
-abbrev pub signer_due : ServerEnd → Progress → Option Signer
-signer_due f Stays = signer_on f.keys
-signer_due f (Interim signer) = signer
-signer_due f (Final keys channel encrypts) = Some keys.signing
+-- by the server's answer: who signs it goes by what a SESSION_SETUP comes to, and else own does
+abbrev pub progress_signer : Progress → Option Signer → Option Signer
+progress_signer Stays own = own
+progress_signer (Refused signer) own = signer
+progress_signer (Interim signer) own = signer
+progress_signer (Final keys channel encrypts) own = Some keys.signing
+
+abbrev pub signer_due : ServerEnd → hearing.Checked → Progress → Option Signer
+signer_due f c p = logon.unless_faulty c.fault (progress_signer p (signer_on f.keys))
 
 -- an interim response is a SESSION_SETUP's
 abbrev pub MessageSetsUp : Progress → hearing.Checked → Type 0
@@ -47,13 +52,13 @@ MessageSetsUp _ c = ⊤
 pub record IsSaidTo (f : ServerEnd) (w : HeldIds) (c : hearing.Checked) (r : Reply) (s : answering.SaidReply) : Type 0 where
   pub header : s.header ≡ answering.reply_header c r.status r.session r.tree (granted c.header.credits w)
   pub body : s.body ≡ r.body
-  pub signer : s.signer ≡ signer_due f r.progress
+  pub signer : s.signer ≡ signer_due f c r.progress
   pub request : s.request ≡ c
   pub progress : MovesAs r.progress s
   pub sets : MessageSetsUp r.progress c
   pub known : AreProgressKeys r.progress
 
--- of a NEGOTIATE or an ECHO, by the connection alone
+-- of a NEGOTIATE or an ECHO, by the connection alone; nobody signs the answer to an ECHO of SessionId 0
 abbrev pub said_aside : ServerSettings → ℕ → ServerEnd → HeldIds → hearing.Checked → ℕ → answering.SaidReply
 said_aside z now f w c status = record {
   header = answering.reply_header c status c.header.session c.header.tree (granted c.header.credits w);
@@ -63,17 +68,23 @@ said_aside z now f w c status = record {
     tree_id = c.header.tree;
     body = model.Empty;
   });
-  signer = signer_on f.keys;
+  signer = logon.unless_faulty c.fault (logon.plain_signer f c);
   request = c;
   progress = logon.Stays;
   base = [];
   keys = no_keys;
 }
 
+abbrev pub negotiate_due : hearing.Checked → ℕ
+negotiate_due c = if is_broken c then invalid_parameter else negotiate_status c.bytes
+
+abbrev pub echo_due : hearing.Checked → ℕ
+echo_due c = if is_broken c then invalid_parameter else echo_status c.fault (bare_fault c.bytes)
+
 abbrev pub aside_status : hearing.Checked → Option ℕ
 aside_status c =
-    if hearing.is_negotiate c.header then Some (negotiate_status c.bytes)
-    else if c.header.command == 13 then Some (echo_status c.fault (bare_fault c.bytes))
+    if hearing.is_negotiate c.header then Some (negotiate_due c)
+    else if c.header.command == 13 then Some (echo_due c)
     else None
 
 -- ---- the replies of a frame's messages in order, each of the credits that the window grants it, and the window behind them
@@ -123,16 +134,16 @@ AreMessagesSaid z now f (m ∷ ms) [] rs w ss v = ⊥
 
 -- ---- one reply in its turn
 
--- a checked message in code is the definitions', in what its reply's header takes of it
+-- a checked message in code is the definitions', in what its reply's header and signature take of it
 pub record IsLike (m : Checked) (c : hearing.Checked) : Type 0 where
   pub header : c.header ≡ m.header
   pub related : c.related ≡ m.related
+  pub fault : c.fault ≡ m.fault
 
--- and in its bytes and its fault
+-- and in its bytes
 pub record IsShown (x : CheckedFrame) (m : Checked) (c : hearing.Checked) : Type 0 where
   pub like : IsLike m c
   pub bytes : c.bytes ≡ message_in x.bytes.items m
-  pub fault : c.fault ≡ m.fault
 
 -- nothing of the connection changes but its window
 pub record MessageKept (old new : Conn) : Type 0 where
@@ -148,11 +159,6 @@ pub record MessageKept (old new : Conn) : Type 0 where
 pub record Grants (credits : ℕ) (old new : Conn) : Type 0 where
   pub window : new.window ≡ after_grant credits old.window
   pub kept : MessageKept old new
-
-abbrev pub signer_by : Progress → Option Signer → Option Signer
-signer_by Stays own = own
-signer_by (Interim signer) own = signer
-signer_by (Final keys channel encrypts) own = Some keys.signing
 
 -- it goes its way, and is no NEGOTIATE, ECHO or CANCEL
 abbrev pub has_message_event : Checked → Bool
@@ -208,7 +214,7 @@ AreMessagesShort [] = ⊤
 AreMessagesShort (Ok r ∷ rs) = IsServerShort r × AreMessagesShort rs
 AreMessagesShort (Err e ∷ rs) = AreMessagesShort rs
 
--- a message that fails with the one before it has a status that isn't a success
+-- a message that fails with a CREATE before it has a status that isn't a success
 abbrev pub FailsAt : Option ℕ → Type 0
 FailsAt None = ⊤
 FailsAt (Some status) = status ≡ success → ⊥

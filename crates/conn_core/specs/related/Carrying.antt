@@ -1,11 +1,10 @@
 -- What is handed on to a related message in code, and what becomes of that message.
-use Rattle.std.specs.Prelude.{◌≡◌, ◌≤◌, ◌==◌, if◌then◌else◌, ℕ, slice_get, length, Bool, true, false, List, Option, Some, None}
+use Rattle.std.specs.Prelude.{◌≡◌, ◌≤◌, ◌==◌, ◌||◌, ◌&&◌, not, is_some, if◌then◌else◌, ℕ, slice_get, length, Bool, true, false, List, Option, Some, None}
 use Rattle.std.specs.Prelude.{Result, Ok, Err, ◌⊎◌}
 use Rattle.spec_wire.specs.declared.messages.header.Span.{Span}
-use Rattle.spec_wire.specs.messages.Bare.{bare_fault}
-use Rattle.spec_exchange.specs.Status.{no_memory}
+use Rattle.spec_exchange.specs.Status.{no_memory, success}
+use Rattle.spec_exchange.specs.Commands.{has_bit}
 use Rattle.spec_exchange.specs.State as model
-use Rattle.spec_commands.specs.CommandOf.{echo_status}
 use Rattle.spec_commands.specs.Ids.{file_id}
 use Rattle.spec_world.specs.Hearing as hearing
 use Rattle.spec_world.specs.Related as related
@@ -25,17 +24,30 @@ pub record IsCarried (m : Checked) (bytes : List ℕ) (c : hearing.Checked) : Ty
   pub header : c.header ≡ m.header
   pub bytes_are : c.bytes ≡ bytes
   pub fault : c.fault ≡ m.fault
+  pub related : c.related ≡ m.related
+
+-- Check 2 finds nothing in a message, and the related flag on a frame's first one breaks its form: in code, and to the definitions.
+abbrev pub breaks_form : Checked → Bool
+breaks_form m = not (is_some m.fault) && (not m.related && has_bit m.header.flags 4)
+
+abbrev pub is_broken : hearing.Checked → Bool
+is_broken c = not (is_some c.fault) && hearing.is_misplaced c
 
 -- the FileId behind a message by the open that its answer tells
 abbrev pub file_told : hearing.Checked → Option ℕ → List ℕ
 file_told c (Some id) = file_id id
 file_told c None = related.handed_on (related.file_named c.header.command c.bytes)
 
+-- the status of the last CREATE in front of a message in its chain
+abbrev pub status_before : Option Carry → Checked → ℕ
+status_before None m = success
+status_before (Some y) m = if m.related then y.status else success
+
 -- behind a message that has no event, behind one that was answered, and behind one that found no memory
-abbrev pub RelatedCarries : hearing.Checked → Option (Result Reply ServeError) → Carry → Type 0
-RelatedCarries c None y = carry_of y ≡ related.carried_past c (echo_status c.fault (bare_fault c.bytes))
-RelatedCarries c (Some (Ok r)) y = (due : model.Reply) → IsNamed r due → carry_of y ≡ related.carried_behind c due
-RelatedCarries c (Some (Err e)) y = carry_of y ≡ related.carried_past c no_memory
+abbrev pub RelatedCarries : Option related.Carry → hearing.Checked → Option (Result Reply ServeError) → Carry → Type 0
+RelatedCarries before c None y = carry_of y ≡ related.carried_past before c success
+RelatedCarries before c (Some (Ok r)) y = (due : model.Reply) → IsNamed r due → carry_of y ≡ related.carried_behind before c due
+RelatedCarries before c (Some (Err e)) y = carry_of y ≡ related.carried_past before c no_memory
 
 -- ---- what becomes of a message: it goes its way with the ids that it takes over, or fails, and then tells those ids
 
@@ -45,11 +57,14 @@ Inherits (related.Fails status) false failed m bytes = IsCarried m bytes failed 
 Inherits (related.Goes c) false failed m bytes = ⊥
 Inherits (related.Fails status) true failed m bytes = ⊥
 
--- the ids are taken over, and the status with which the message before it failed
+abbrev pub follows : Checked → Carry → Bool
+follows m y = not (is_some (related.file_place m.header.command)) || (y.status == 0)
+
+-- the ids are taken over, and the status of the CREATE that failed
 pub record TakesOver (m : Checked) (y : Carry) (goes : Bool) (n : Checked) : Type 0 where
-  pub goes_is : goes ≡ (y.status == 0)
+  pub goes_is : goes ≡ follows m y
   pub header : n.header ≡ record m.header { session = y.session; tree = y.tree }
-  pub fails : n.fails ≡ (if y.status == 0 then m.fails else Some y.status)
+  pub fails : n.fails ≡ (if follows m y then m.fails else Some y.status)
   pub related : n.related ≡ m.related
   pub fault : n.fault ≡ m.fault
   pub span : n.span ≡ m.span

@@ -1,5 +1,7 @@
 -- What a server in code answers, over the model's state and the logons that its tables show.
-use Rattle.std.specs.Prelude.{◌≡◌, ◌⊎◌, ℕ, ◌≤◌, Bool, if◌then◌else◌, List, [], ◌++◌, length, Option, Some, None, Result, Ok, Err, ⊤}
+use Rattle.std.specs.Prelude.{◌≡◌, ◌⊎◌, ℕ, ◌≤◌, nat_le, Bool, ◌&&◌, if◌then◌else◌, List, [], ◌++◌, length, Option, Some, None, Result, Ok, Err, ⊤}
+use Rattle.spec_crypto.specs.declared.sessions.material.Signer.{Signer}
+use Rattle.spec_crypto.specs.sessions.Signing.{verifies}
 use Rattle.spec_crypto.specs.tokens.Acceptor.{User}
 use Rattle.spec_exchange.specs.Commands as asks
 use Rattle.spec_exchange.specs.State as model
@@ -10,7 +12,7 @@ use Rattle.wire_commands.specs.values.Meaning
 use Rattle.spec_world.specs.Ends.{Logons}
 use Rattle.spec_world.specs.Logon as logon
 use Rattle.spec_world.specs.Lacking.{alone_records, Expires}
-use Rattle.server_checks.specs.setups.Setups.{setup_message, keys_behind, setup_logons}
+use Rattle.server_checks.specs.setups.Setups.{setup_message, keys_behind, request_of, setup_logons}
 use Rattle.server_checks.specs.declared.setups.setup.SetupHeard.{SetupHeard}
 use Rattle.conn_core.specs.declared.served.error.ServeError.{ServeError}
 use Rattle.conn_core.specs.declared.served.error.ServeError.TheVariants.{Memory, Stopped, Unanswered}
@@ -18,7 +20,7 @@ use Rattle.server_checks.specs.declared.event_heard.event.ServerEvent.{ServerEve
 use Rattle.server_checks.specs.declared.event_heard.event.ServerEvent.TheVariants as events
 use Rattle.conn_ends.specs.frame_messages.Checking.{IsDenied}
 use Rattle.conn_ends.specs.declared.conn.Progress.{Progress}
-use Rattle.conn_ends.specs.declared.conn.Progress.TheVariants.{Stays, Interim, Final}
+use Rattle.conn_ends.specs.declared.conn.Progress.TheVariants.{Stays, Refused, Interim, Final}
 use Rattle.conn_core.specs.declared.served.serve.Reply.{Reply}
 
 -- the open that a body tells
@@ -35,13 +37,28 @@ pub record IsNamed (r : Reply) (due : model.Reply) : Type 0 where
 
 -- ---- what a SESSION_SETUP comes to
 
-abbrev pub IsProgress : List User → Logons → SetupHeard → logon.Progress → Progress → Type 0
-IsProgress users L q logon.Stays Stays = ⊤
-IsProgress users L q (logon.Interim binding) (Interim signer) =
+-- whether it has the signature of its session's own key, live or not
+abbrev pub has_own_signature : Logons → SetupHeard → Bool
+has_own_signature L q = q.form.signed && (nat_le 64 (length q.bytes.now) && verifies (L.keys q.session_id).signing q.bytes.now)
+
+-- who signs where it is refused, by whether its session is live and by the status; own signs for the connection
+abbrev pub refusal_due : List User → model.Server → Logons → SetupHeard → Bool → ℕ → Option Signer → Option Signer
+refusal_due users s L q live status own =
+    if q.form.binding then logon.binding_signer live (L.keys q.session_id) own (record (request_of users L s q) { verified = has_own_signature L q }) status
+    else own
+
+abbrev pub RefusesBy : Progress → Option Signer → Option Signer → Type 0
+RefusesBy Stays own due = due ≡ own
+RefusesBy (Refused signer) own due = due ≡ signer
+RefusesBy _ own due = ⊥
+
+abbrev pub IsProgress : List User → model.Server → Logons → SetupHeard → Bool → ℕ → logon.Progress → Progress → Type 0
+IsProgress users s L q live status logon.Stays p = (own : Option Signer) → RefusesBy p own (refusal_due users s L q live status own)
+IsProgress users s L q live status (logon.Interim binding) (Interim signer) =
     signer ≡ (if binding then Some (L.keys q.session_id).signing else None)
-IsProgress users L q (logon.Final binding channel encrypts) (Final keys number seals) =
+IsProgress users s L q live status (logon.Final binding channel encrypts) (Final keys number seals) =
     (keys ≡ keys_behind users L q binding) × (keys.cipher ≤ 4) × (number ≡ channel) × (seals ≡ encrypts)
-IsProgress users L q _ _ = ⊥
+IsProgress users s L q live status _ _ = ⊥
 
 -- ---- an answer
 
@@ -75,7 +92,7 @@ RepliesSetup shown users s L records now q r =
     let A = answer_to s now m m.command in
     let p = logon.progress m.command A.reply in
     ServerAnswers m (logon.answer_token_by users (L.pending q.connection) q.form.token.now q.fresh now p) A r
-    × IsProgress users L q p r.progress × shown A.server (setup_logons users L q now p) (records ++ A.records)
+    × IsProgress users s L q (A.server.present q.session_id) A.reply.status p r.progress × shown A.server (setup_logons users L q now p) (records ++ A.records)
 
 -- the step's answer to what isn't a message: its status alone, and the state and the records behind it
 abbrev pub RepliesOther : Showing → model.Server → Logons → List model.Record → ℕ → model.ServerEvent → Reply → Type 0

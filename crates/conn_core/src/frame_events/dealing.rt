@@ -136,13 +136,14 @@ fn deal<S: Serve>(
     moment: &Moment,
     asked: &CheckedFrame,
     at: usize,
+    carried: &Option<Carry>,
     dealt: &mut Dealt,
 ) -> Result<Carry, ConnEnd>
     requires message { HasMessage asked.now at }
     requires room { length dealt.old.replies.items.items < vec_capacity dealt.old.replies.items }
     ensures room { vec_capacity dealt.old.replies.items ≤ vec_capacity dealt.new.replies.items }
     ensures deals { (m : Checked) → slice_get asked.now.messages.items at ≡ Some m → (given : Option (Result Reply ServeError))
-        × DealsOne m (message_in asked.now.bytes.items m) given dealt.old dealt.new result
+        × DealsOne m (message_in asked.now.bytes.items m) (option_map carry_of carried.now) given dealt.old dealt.new result
         × ((z : ServerSettings) (before : Option ℕ) (s : Server) (L : Logons) (records : List Record) (f : ServerEnd)
         (c : hearing.Checked) → Onward (S.shows server.old z.users) before (S.stopped server.old) s L records
         → ShowsEnd conn.now.id z.guid conn.now f → ShowsGoing asked.now.bytes.items m c → m.fails ≡ None
@@ -151,14 +152,14 @@ fn deal<S: Serve>(
     ensures stops { (count : ℕ) → result ≡ Err (ends.Stopped count) → S.stopped server.new ≡ Some count }
 {
     let answer = answer_of(conn, server, moment, asked, at);
-    let behind = carry(asked, at, answer.as_ref());
+    let behind = carry(asked, at, carried, answer.as_ref());
     let takes = takes(asked.checked(at), answer.as_ref());
     dealt.took = dealt.took || takes;
     add(dealt, answer)?;
     Ok(behind)
 }
 
-/// What becomes of a message: false where it is related to one that failed.
+/// What becomes of a message: false where it fails with a CREATE before it.
 fn goes(asked: &mut CheckedFrame, at: usize, carried: &Option<Carry>) -> bool
     requires { HasMessage asked.old at }
     ensures turn { (m n : Checked) (c : hearing.Checked) → slice_get asked.old.messages.items at ≡ Some m
@@ -208,13 +209,13 @@ fn step<S: Serve>(
     if !goes(asked, at, carried) {
         return Ok(*carried);
     }
-    match deal(conn, server, moment, asked, at, dealt) {
+    match deal(conn, server, moment, asked, at, carried, dealt) {
         Ok(behind) => Ok(Some(behind)),
         Err(why) => Err(why),
     }
 }
 
-/// The events of a frame's messages in order, and what becomes of each message. A related one behind one that failed has no event. A
+/// The events of a frame's messages in order, and what becomes of each message. One that fails with a CREATE has no event. A
 /// server that stopped is told by its count, and no message behind that has an event; nor has one behind an event whose reply is
 /// lost, since memory ran out for it.
 pub fn carry_out<S: Serve>(

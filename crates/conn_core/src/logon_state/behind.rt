@@ -51,6 +51,7 @@ impl Behind {
     {
         match progress {
             Progress::Stays => (),
+            Progress::Refused { .. } => (),
             Progress::Interim { .. } => {
                 // Anew from NEGOTIATE, so that a logon's chain always has five messages.
                 self.logon.making = Some(taken(self.logon.greeted(), request, response));

@@ -5,14 +5,16 @@ ghost use Rattle.spec_wire.specs.messages.Error.{error_response_spelling};
 ghost use Rattle.spec_commands.specs.Tables.{bit_if};
 ghost use Rattle.spec_wire.specs.credits.Window.{granted};
 ghost use Rattle.spec_world.specs.Ends.{ServerEnd, signer_on};
+ghost use Rattle.spec_world.specs.Logon.{unless_faulty};
 ghost use Rattle.spec_world.specs.Hearing as hearing;
 ghost use Rattle.spec_world.specs.Answering as answering;
 ghost use Rattle.spec_world.specs.Connection.{said_failed};
 ghost use Rattle.conn_ends.specs.declared.conn.Progress.TheVariants.{Stays};
 ghost use Rattle.conn_ends.specs.reply_sealing.Saying.{CanPut, IsReplySaid};
-ghost use Rattle.conn_core.specs.message_replies.Replying.{Grants, IsLike};
+ghost use Rattle.conn_core.specs.message_replies.Replying.{Grants, IsLike, progress_signer};
 
 use conn_ends::{Checked, Conn, Progress, Said};
+use spec_crypto::Signer;
 use wire_bytes::Header;
 
 /// The error response (MS-SMB2 2.2.2).
@@ -90,6 +92,26 @@ pub(crate) fn bare_or_error(status: u32) -> &'static [u8]
     if status == 0 { &BARE } else { error_body() }
 }
 
+/// Who signs a reply, by what a SESSION_SETUP comes to: `own` does for the connection. Nobody signs what answers a request that isn't
+/// signed or sealed as owed.
+pub(crate) fn signer_of(
+    checked: &Checked,
+    progress: Progress,
+    own: Option<Signer>,
+) -> Option<Signer>
+    ensures { result ≡ unless_faulty checked.now.fault (progress_signer progress own) }
+{
+    if checked.fault.is_some() {
+        return None;
+    }
+    match progress {
+        Progress::Stays => own,
+        Progress::Refused { signer } => signer,
+        Progress::Interim { signer } => signer,
+        Progress::Final { keys, .. } => Some(keys.signing),
+    }
+}
+
 /// A reply of no progress, of the credits that the window grants it.
 pub(crate) fn plain<'a>(
     conn: &mut Conn,
@@ -101,7 +123,7 @@ pub(crate) fn plain<'a>(
     ensures grants { Grants checked.now.header.credits conn.old conn.new }
     ensures header { (c : hearing.Checked) → IsLike checked.now c → answering.reply_header c named.status named.session named.tree
         (granted c.header.credits conn.old.window) ≡ result.header }
-    ensures rest { (result.at ≡ at) × (result.body.now ≡ body.now) × (result.signer ≡ signer_on conn.old.logon.keys)
+    ensures rest { (result.at ≡ at) × (result.body.now ≡ body.now) × (result.signer ≡ unless_faulty checked.now.fault (signer_on conn.old.logon.keys))
         × (result.progress ≡ Stays) }
     ensures fits { length body.now ≤ 1113984 → CanPut result }
 {
@@ -111,7 +133,7 @@ pub(crate) fn plain<'a>(
         at,
         header,
         body,
-        signer: conn.logon.signer(),
+        signer: signer_of(checked, Progress::Stays, conn.logon.signer()),
         progress: Progress::Stays,
     }
 }

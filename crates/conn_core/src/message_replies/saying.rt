@@ -1,10 +1,9 @@
 //! The reply to each message, by what answers it.
-ghost use Rattle.std.specs.Prelude.{◌≡◌, ◌+◌, ◌∷◌, ℕ, true, false, List, Some, None, drop, slice_get, if◌then◌else◌, option_copied, IfSome};
-ghost use Rattle.spec_wire.specs.messages.Bare.{bare_fault};
+ghost use Rattle.std.specs.Prelude.{◌≡◌, ◌+◌, ◌∷◌, ℕ, true, false, List, Some, None, drop, slice_get, if◌then◌else◌, option_copied};
+ghost use Rattle.std.specs.Prelude.{◌≤◌, IfSome, length};
 ghost use Rattle.spec_wire.specs.credits.Window.{HeldIds};
-ghost use Rattle.spec_commands.specs.CommandOf.{echo_status};
+ghost use Rattle.spec_exchange.specs.Status.{invalid_parameter};
 ghost use Rattle.spec_world.specs.Settings.{ServerSettings};
-ghost use Rattle.spec_world.specs.Negotiate.{negotiate_status};
 ghost use Rattle.spec_world.specs.Ends.{ServerEnd};
 ghost use Rattle.spec_world.specs.Hearing as hearing;
 ghost use Rattle.spec_world.specs.Answering as answering;
@@ -13,20 +12,24 @@ ghost use Rattle.conn_ends.specs.reply_sealing.Saying.{CanPut, CanPutIf, IsReply
 ghost use Rattle.conn_ends.specs.negotiating.Greeting.{IsHello, IsShortHello};
 ghost use Rattle.conn_core.specs.served.Serving.{IsServerShort};
 ghost use Rattle.conn_ends.specs.frame_messages.Checking.{HasMessage};
+ghost use Rattle.conn_core.specs.related.Carrying as carrying;
 ghost use Rattle.conn_core.specs.message_replies.Replying as replying;
-ghost use Rattle.conn_core.specs.message_replies.Replying.{AreMessagesSaid, AreMessagesShort, Grants, HelloFor, IsLike};
+ghost use Rattle.conn_core.specs.message_replies.Replying.{AreMessagesSaid, AreMessagesShort, Grants, HelloFor, IsLike, echo_due, negotiate_due};
 ghost use Rattle.conn_core.specs.message_replies.Replying.{IsSaidTo, IsShortAnswer, MessageKept, SaysNext, said_aside};
 
-use crate::message_replies::plain::{Named, bare_or_error, own, plain, refusal};
-use crate::related::bare_status;
+use crate::message_replies::plain::{Named, bare_or_error, own, plain, refusal, signer_of};
+use crate::related::{bare_status, breaks_form};
 use crate::served::{Replies, Reply, ServeError};
-use conn_ends::{Checked, CheckedFrame, Conn, Hello, Progress, Said};
+use conn_ends::{Checked, CheckedFrame, Conn, Hello, Said, is_probe};
 use spec_crypto::Signer;
 
 const SUCCESS: u32 = 0;
 
 /// STATUS_NO_MEMORY (MS-ERREF 2.3.1)
 const NO_MEMORY: u32 = 0xc000_0017;
+
+/// STATUS_INVALID_PARAMETER
+const INVALID_PARAMETER: u32 = 0xc000_000d;
 
 const NEGOTIATE: u16 = 0;
 
@@ -60,17 +63,6 @@ pub fn has_event(checked: &Checked) -> bool
     checked.fails.is_none() && command != NEGOTIATE && command != ECHO && command != CANCEL
 }
 
-/// Who signs what a SESSION_SETUP comes to. Any other reply goes by the connection's keys.
-fn signer_of(progress: Progress, own: Option<Signer>) -> Option<Signer>
-    ensures { result ≡ replying.signer_by progress own }
-{
-    match progress {
-        Progress::Stays => own,
-        Progress::Interim { signer } => signer,
-        Progress::Final { keys, .. } => Some(keys.signing),
-    }
-}
-
 fn said_to<'a>(conn: &mut Conn, at: usize, checked: &Checked, reply: &'a Reply) -> Said<'a>
     ensures grants { Grants checked.now.header.credits conn.old conn.new }
     ensures place { result.at ≡ at }
@@ -78,11 +70,23 @@ fn said_to<'a>(conn: &mut Conn, at: usize, checked: &Checked, reply: &'a Reply) 
         → IsSaidTo f conn.old.window c reply.now s → IsReplySaid result s }
     ensures fits { IsServerShort reply.now → CanPut result }
 {
+    let own = conn.logon.signer();
     let plain = plain(conn, at, checked, told(reply), reply.body.as_slice());
     Said {
-        signer: signer_of(reply.progress, plain.signer),
+        signer: signer_of(checked, reply.progress, own),
         progress: reply.progress,
         ..plain
+    }
+}
+
+/// The status of a message by its own body, but where its form is broken before.
+fn placed_status(checked: &Checked, status: u32) -> u32
+    ensures { result ≡ (if carrying.breaks_form checked.now then invalid_parameter else status) }
+{
+    if breaks_form(checked) {
+        INVALID_PARAMETER
+    } else {
+        status
     }
 }
 
@@ -91,11 +95,13 @@ fn greeted_by<'a>(conn: &mut Conn, at: usize, checked: &Checked, hello: &'a Hell
     ensures grants { Grants checked.now.header.credits conn.old conn.new }
     ensures place { result.at ≡ at }
     ensures said { (z : ServerSettings) (now : ℕ) (f : ServerEnd) (c : hearing.Checked) → f.keys ≡ conn.old.logon.keys
-        → IsLike checked.now c → hearing.is_negotiate c.header ≡ true → IsHello z.guid f.salt now c.bytes hello.now
-        → IsReplySaid result (said_aside z now f conn.old.window c (negotiate_status c.bytes)) }
+        → IsLike checked.now c → c.fault ≡ checked.now.fault → hearing.is_negotiate c.header ≡ true
+        → IsHello z.guid f.salt now c.bytes hello.now
+        → IsReplySaid result (said_aside z now f conn.old.window c (negotiate_due c)) }
     ensures fits { IsShortHello (Some hello.now) → CanPut result }
 {
-    if hello.status == SUCCESS {
+    let status = placed_status(checked, hello.status);
+    if status == SUCCESS {
         plain(
             conn,
             at,
@@ -104,7 +110,7 @@ fn greeted_by<'a>(conn: &mut Conn, at: usize, checked: &Checked, hello: &'a Hell
             hello.body.as_slice(),
         )
     } else {
-        refusal(conn, at, checked, hello.status)
+        refusal(conn, at, checked, status)
     }
 }
 
@@ -112,8 +118,9 @@ fn greeted<'a>(conn: &mut Conn, at: usize, checked: &Checked, hello: Option<&'a 
     ensures grants { Grants checked.now.header.credits conn.old conn.new }
     ensures place { result.at ≡ at }
     ensures said { (z : ServerSettings) (now : ℕ) (f : ServerEnd) (c : hearing.Checked) → f.keys ≡ conn.old.logon.keys
-        → IsLike checked.now c → hearing.is_negotiate c.header ≡ true → HelloFor z.guid f.salt now c (option_copied hello.entry)
-        → IsReplySaid result (said_aside z now f conn.old.window c (negotiate_status c.bytes)) }
+        → IsLike checked.now c → c.fault ≡ checked.now.fault → hearing.is_negotiate c.header ≡ true
+        → HelloFor z.guid f.salt now c (option_copied hello.entry)
+        → IsReplySaid result (said_aside z now f conn.old.window c (negotiate_due c)) }
     ensures fits { IsShortHello (option_copied hello.entry) → CanPut result }
 {
     match hello {
@@ -122,23 +129,40 @@ fn greeted<'a>(conn: &mut Conn, at: usize, checked: &Checked, hello: Option<&'a 
     }
 }
 
+/// Who signs the answer to an ECHO: nobody where it is one of SessionId 0.
+fn echo_signer(checked: &Checked, message: &[u8], own: Option<Signer>) -> Option<Signer>
+    requires { 64 ≤ length message.now }
+    ensures { result ≡ (if hearing.is_probe checked.now.header message.now then None else own) }
+{
+    if is_probe(&checked.header, message) {
+        None
+    } else {
+        own
+    }
+}
+
 /// The reply to an ECHO.
 fn echoed<'a>(conn: &mut Conn, at: usize, checked: &Checked, message: &[u8]) -> Said<'a>
+    requires { 64 ≤ length message.now }
     ensures grants { Grants checked.now.header.credits conn.old conn.new }
     ensures place { result.at ≡ at }
     ensures said { (z : ServerSettings) (now : ℕ) (f : ServerEnd) (c : hearing.Checked) → f.keys ≡ conn.old.logon.keys
         → IsLike checked.now c → c.fault ≡ checked.now.fault → c.bytes ≡ message.now → hearing.is_negotiate c.header ≡ false
-        → IsReplySaid result (said_aside z now f conn.old.window c (echo_status c.fault (bare_fault c.bytes))) }
+        → IsReplySaid result (said_aside z now f conn.old.window c (echo_due c)) }
     ensures fits { CanPut result }
 {
-    let status = bare_status(checked.fault, message);
-    plain(
+    let status = placed_status(checked, bare_status(checked.fault, message));
+    let plain = plain(
         conn,
         at,
         checked,
         own(checked, status),
         bare_or_error(status),
-    )
+    );
+    Said {
+        signer: echo_signer(checked, message, plain.signer),
+        ..plain
+    }
 }
 
 /// The reply to a message by the answer of its event.

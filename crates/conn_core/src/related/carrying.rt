@@ -1,38 +1,44 @@
 //! What the messages of a frame hand on, and take over.
-ghost use Rattle.std.specs.Prelude.{◌≡◌, ◌≤◌, ◌<◌, ◌++◌, None, Some, slice_get, slice_set, option_copied, length, take, drop};
+ghost use Rattle.std.specs.Prelude.{◌≡◌, ◌≤◌, ◌<◌, ◌++◌, None, Some, slice_get, slice_set, option_copied, option_map, length, take, drop};
 ghost use Rattle.spec_world.specs.Hearing as hearing;
 ghost use Rattle.spec_world.specs.Related.{failed_as, turn_of, with_file};
 ghost use Rattle.conn_ends.specs.declared.frame_messages.checked.Checked.{Checked};
 ghost use Rattle.conn_ends.specs.frame_messages.Checking.{AreInOrder, HasMessage, bytes_of, message_in};
 ghost use Rattle.conn_core.specs.related.Carrying.{carry_of, IsCarried, RelatedCarries, Inherits, SameOthers, TakesOver};
 
-use crate::related::related::{Carry, behind_answer, behind_none, put_file};
+use crate::related::related::{Carry, behind_answer, behind_none, can_follow, put_file};
 use crate::served::{Reply, ServeError};
 use conn_ends::{Checked, CheckedFrame};
 use wire_bytes::Span;
 
-/// What a message and its answer hand on to a related one (MS-SMB2 3.3.5.2.7.2). NEGOTIATE, ECHO and CANCEL, which
-/// have no event, have no answer here. It takes no memory.
-pub fn carry(frame: &CheckedFrame, at: usize, answer: Option<&Result<Reply, ServeError>>) -> Carry
+/// What a message and its answer hand on to a related one (MS-SMB2 3.3.5.2.7.2). `before` is what the message in front
+/// of it handed on. NEGOTIATE, ECHO and CANCEL, which have no event, have no answer here. It takes no memory.
+pub fn carry(
+    frame: &CheckedFrame,
+    at: usize,
+    before: &Option<Carry>,
+    answer: Option<&Result<Reply, ServeError>>,
+) -> Carry
     requires { HasMessage frame.now at }
     ensures { (m : Checked) (c : hearing.Checked) → slice_get frame.now.messages.items at ≡ Some m
-        → IsCarried m (message_in frame.now.bytes.items m) c → RelatedCarries c (option_copied answer.entry) result }
+        → IsCarried m (message_in frame.now.bytes.items m) c
+        → RelatedCarries (option_map carry_of before.now) c (option_copied answer.entry) result }
 {
     let checked = frame.checked(at);
     let message = frame.message(at);
     match answer {
-        None => behind_none(checked, message),
-        Some(answer) => behind_answer(checked, message, answer),
+        None => behind_none(before, checked, message),
+        Some(answer) => behind_answer(before, checked, message, answer),
     }
 }
 
-/// A related message takes over the session and the tree, and fails where the one before it did.
+/// A related message takes over the session and the tree; it fails where it names an open and the last CREATE failed.
 fn take_over(checked: &mut Checked, before: &Carry) -> bool
     ensures { TakesOver checked.old before.now result checked.new }
 {
     checked.header.session = before.session;
     checked.header.tree = before.tree;
-    if before.status == 0 {
+    if can_follow(checked, before) {
         return true;
     }
     checked.fails = Some(before.status);
@@ -72,8 +78,8 @@ fn put_file_in(frame: &mut CheckedFrame, span: &Span, command: u16, file: &[u8; 
 }
 
 /// Puts what was handed on into a message, where it is related: the session, the tree and the FileId. False exactly
-/// where it is related to a message that failed; it then fails with the same status, and tells the session and the
-/// tree of that one. It takes no memory.
+/// where it names an open and the last CREATE before it in its chain failed; it then fails with the same status, and
+/// tells the session and the tree of that one. It takes no memory.
 pub fn inherit(frame: &mut CheckedFrame, at: usize, before: &Carry) -> bool
     requires { HasMessage frame.old at }
     ensures turn { (m n : Checked) (c : hearing.Checked) → slice_get frame.old.messages.items at ≡ Some m

@@ -1,11 +1,12 @@
 //! Related messages (MS-SMB2 3.2.4.1.4, 3.3.5.2.7.2).
-ghost use Rattle.std.specs.Prelude.{◌≡◌, ◌≤◌, IfSome, None, Some, Ok};
+ghost use Rattle.std.specs.Prelude.{◌≡◌, ◌≤◌, ℕ, List, IfSome, None, Some, Ok, option_map};
 ghost use Rattle.spec_wire.specs.messages.Bare.{bare_fault};
 ghost use Rattle.spec_commands.specs.Ids as ids;
 ghost use Rattle.spec_commands.specs.CommandOf;
 ghost use Rattle.spec_world.specs.Hearing as hearing;
 ghost use Rattle.spec_world.specs.Related as related;
-ghost use Rattle.conn_core.specs.related.Carrying.{carry_of, file_told, IsCarried, RelatedCarries};
+ghost use Rattle.conn_core.specs.related.Carrying as carrying;
+ghost use Rattle.conn_core.specs.related.Carrying.{carry_of, file_told, follows, status_before, IsCarried, RelatedCarries};
 
 use crate::served::{Reply, ServeError};
 use conn_ends::Checked;
@@ -24,9 +25,15 @@ const INVALID_INFO_CLASS: u32 = 0xc000_0003;
 /// STATUS_NO_MEMORY
 const NO_MEMORY: u32 = 0xc000_0017;
 
-/// What a message hands on to a related one: the status that answered it, and the ids.
+const CREATE: u16 = 5;
+
+/// The flag of a related request (MS-SMB2 2.2.1.2).
+const RELATED: u32 = 4;
+
+/// What a message hands on to a related one.
 #[derive(Clone, Copy, Debug, PartialEq, Eq)]
 pub struct Carry {
+    /// Of the last CREATE of the chain so far, success where it has none.
     pub status: u32,
     pub session: u64,
     pub tree: u32,
@@ -99,12 +106,56 @@ fn file_id(file: u64) -> [u8; 16]
     out.finish()
 }
 
-/// Behind a message that was answered with a status and no ids of its own.
-fn carried_past(checked: &Checked, message: &[u8], status: u32) -> Carry
-    ensures { (c : hearing.Checked) → IsCarried checked.now message.now c → carry_of result ≡ related.carried_past c status }
+/// The related flag on a frame's first message breaks its form, where it isn't refused before.
+#[tactic(auto, unfolding(spec_exchange::specs::Commands::has_bit))]
+pub fn breaks_form(checked: &Checked) -> bool
+    ensures { result ≡ carrying.breaks_form checked.now }
+{
+    checked.fault.is_none() && !checked.related && checked.header.flags / RELATED % 2 == 1
+}
+
+/// Only what names an open fails with a CREATE.
+pub(crate) fn can_follow(checked: &Checked, before: &Carry) -> bool
+    ensures { result ≡ follows checked.now before.now }
+{
+    file_place(checked.header.command).is_none() || before.status == SUCCESS
+}
+
+/// The status of the last CREATE in front of a message in its chain, which begins at a message that isn't related.
+fn create_before(before: &Option<Carry>, checked: &Checked) -> u32
+    ensures { result ≡ status_before before.now checked.now }
+{
+    match before {
+        None => SUCCESS,
+        Some(before) => {
+            if checked.related {
+                before.status
+            } else {
+                SUCCESS
+            }
+        }
+    }
+}
+
+/// And behind it, where it was answered with this status.
+fn create_behind(before: &Option<Carry>, checked: &Checked, status: u32) -> u32
+    ensures { (message : List ℕ) (c : hearing.Checked) → IsCarried checked.now message c
+        → result ≡ related.create_behind (option_map carry_of before.now) c status }
+{
+    if checked.header.command == CREATE {
+        status
+    } else {
+        create_before(before, checked)
+    }
+}
+
+/// Behind a message that has no ids of its own, of this status.
+fn carried_past(before: &Option<Carry>, checked: &Checked, message: &[u8], status: u32) -> Carry
+    ensures { (c : hearing.Checked) → IsCarried checked.now message.now c
+        → carry_of result ≡ related.carried_past (option_map carry_of before.now) c status }
 {
     Carry {
-        status,
+        status: create_behind(before, checked, status),
         session: checked.header.session,
         tree: checked.header.tree,
         file: handed_on(file_named(checked.header.command, message)),
@@ -137,10 +188,11 @@ pub fn bare_status(fault: Option<u32>, message: &[u8]) -> u32
 }
 
 /// Behind an ECHO or a CANCEL.
-pub(crate) fn behind_none(checked: &Checked, message: &[u8]) -> Carry
-    ensures { (c : hearing.Checked) → IsCarried checked.now message.now c → RelatedCarries c None result }
+pub(crate) fn behind_none(before: &Option<Carry>, checked: &Checked, message: &[u8]) -> Carry
+    ensures { (c : hearing.Checked) → IsCarried checked.now message.now c
+        → RelatedCarries (option_map carry_of before.now) c None result }
 {
-    carried_past(checked, message, bare_status(checked.fault, message))
+    carried_past(before, checked, message, SUCCESS)
 }
 
 /// The FileId behind an answer: of the open that it tells, else the one that the request names.
@@ -154,11 +206,12 @@ fn file_behind(checked: &Checked, message: &[u8], file: Option<u64>) -> [u8; 16]
 }
 
 /// Behind an answer.
-fn behind_reply(checked: &Checked, message: &[u8], reply: &Reply) -> Carry
-    ensures { (c : hearing.Checked) → IsCarried checked.now message.now c → RelatedCarries c (Some (Ok reply.now)) result }
+fn behind_reply(before: &Option<Carry>, checked: &Checked, message: &[u8], reply: &Reply) -> Carry
+    ensures { (c : hearing.Checked) → IsCarried checked.now message.now c
+        → RelatedCarries (option_map carry_of before.now) c (Some (Ok reply.now)) result }
 {
     Carry {
-        status: reply.status,
+        status: create_behind(before, checked, reply.status),
         session: reply.session,
         tree: reply.tree,
         file: file_behind(checked, message, reply.file),
@@ -167,15 +220,17 @@ fn behind_reply(checked: &Checked, message: &[u8], reply: &Reply) -> Carry
 
 /// Behind an event. One that has no reply hands on NO_MEMORY.
 pub(crate) fn behind_answer(
+    before: &Option<Carry>,
     checked: &Checked,
     message: &[u8],
     answer: &Result<Reply, ServeError>,
 ) -> Carry
-    ensures { (c : hearing.Checked) → IsCarried checked.now message.now c → RelatedCarries c (Some answer.now) result }
+    ensures { (c : hearing.Checked) → IsCarried checked.now message.now c
+        → RelatedCarries (option_map carry_of before.now) c (Some answer.now) result }
 {
     match answer {
-        Ok(reply) => behind_reply(checked, message, reply),
-        Err(_) => carried_past(checked, message, NO_MEMORY),
+        Ok(reply) => behind_reply(before, checked, message, reply),
+        Err(_) => carried_past(before, checked, message, NO_MEMORY),
     }
 }
 

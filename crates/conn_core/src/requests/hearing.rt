@@ -1,6 +1,8 @@
 //! What a message asks of the server.
-ghost use Rattle.std.specs.Prelude.{◌≡◌, ◌∷◌, ◌++◌, ℕ, List, [], None, Some, slice_get, option_map, true, IfOk};
+ghost use Rattle.std.specs.Prelude.{◌≡◌, ◌∷◌, ◌++◌, ℕ, List, [], None, Some, slice_get, option_map, true, false, if◌then◌else◌, IfOk};
 ghost use Rattle.spec_crypto.specs.sessions.Chain.{chain};
+ghost use Rattle.spec_exchange.specs.Status.{invalid_parameter};
+ghost use Rattle.spec_exchange.specs.Commands as asks;
 ghost use Rattle.spec_commands.specs.CommandOf;
 ghost use Rattle.wire_commands.specs.values.Meaning;
 ghost use Rattle.spec_world.specs.Ends.{Logons, ServerEnd};
@@ -13,14 +15,19 @@ ghost use Rattle.conn_ends.specs.declared.frame_messages.checked.Checked.{Checke
 ghost use Rattle.conn_ends.specs.Shown.{ShowsEnd, ShowsGreeting, ShowsMaking};
 ghost use Rattle.conn_ends.specs.frame_messages.Checking.{HasMessage, IsDenied, ShowsGoing};
 ghost use Rattle.conn_core.specs.requests.Asking.{IsRequestEvent, IsFormed, IsRequestTold};
+ghost use Rattle.conn_core.specs.related.Carrying as carrying;
 ghost use Rattle.conn_core.specs.related.Carrying.{IsCarried};
 
+use crate::related::breaks_form;
 use conn_ends::{Checked, CheckedFrame, Conn};
 use crypto_sessions::{Chain, chain_law};
 use server_checks::{ServerEvent, SetupHeard};
 use spec_crypto::Chosen;
 use std::alloc::{AllocError, Global};
-use wire_commands::{Request, SetupForm, heard_as, request_of};
+use wire_commands::{Command, Request, SetupForm, heard_as, request_of};
+
+/// STATUS_INVALID_PARAMETER (MS-ERREF 2.3.1)
+const INVALID_PARAMETER: u32 = 0xc000_000d;
 
 const SESSION_SETUP: u16 = 1;
 
@@ -66,6 +73,33 @@ fn setup_heard<'a>(
     }
 }
 
+/// A command whose message breaks its form by its place doesn't read.
+fn placed<'a>(checked: &Checked, command: Command<'a>) -> Command<'a>
+    ensures { Meaning.command_of result
+        ≡ (if carrying.breaks_form checked.now then asks.Unreadable invalid_parameter else Meaning.command_of command.entry) }
+{
+    if breaks_form(checked) {
+        Command::Unreadable {
+            status: INVALID_PARAMETER,
+        }
+    } else {
+        command
+    }
+}
+
+fn form_placed<'a>(checked: &Checked, form: SetupForm<'a>) -> SetupForm<'a>
+    ensures { result ≡ (if carrying.breaks_form checked.now then record form.entry { readable = false } else form.entry) }
+{
+    if breaks_form(checked) {
+        SetupForm {
+            readable: false,
+            ..form
+        }
+    } else {
+        form
+    }
+}
+
 /// What a message of this header asks of the server by what was found in it.
 fn event_of<'a>(
     told: &Told,
@@ -82,7 +116,7 @@ fn event_of<'a>(
         Request::Negotiate => None,
         Request::Echo { form: _form } => None,
         Request::Setup(form) => Some(ServerEvent::Setup {
-            setup: setup_heard(told, checked, form, message),
+            setup: setup_heard(told, checked, form_placed(checked, form), message),
         }),
         Request::Command(command) => Some(ServerEvent::Message {
             message: heard_as(
@@ -90,7 +124,7 @@ fn event_of<'a>(
                 told.client_guid,
                 checked.fault,
                 &checked.header,
-                command,
+                placed(checked, command),
             ),
         }),
     }

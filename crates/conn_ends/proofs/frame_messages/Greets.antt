@@ -4,7 +4,7 @@ use Rattle.std.proofs.Common.{refl, sym, ap, subst, ◌∙◌}
 use Rattle.std.specs.Prelude.{is_some}
 use Rattle.spec_world.specs.Ends.{ServerEnd, ConnEnd, BadFrame, SecondNegotiate}
 use Rattle.spec_world.specs.Messages.{HeardMessage}
-use Rattle.spec_world.specs.Hearing.{Checked, Frame, is_negotiate, is_setup, turn_end, behind_turn, if_in_turn}
+use Rattle.spec_world.specs.Hearing.{Checked, Frame, is_negotiate, turn_end, behind_turn, if_in_turn, bars}
 use Rattle.spec_world.specs.Hearing.{in_front, end_by_id, outside_of}
 use Rattle.spec_world.specs.Hearing.{checked_as, checked_in, checked_behind}
 use Rattle.conn_ends.specs.frame_messages.Checking.{NoneGreets, GreetsFirst}
@@ -42,7 +42,7 @@ none_greets f sealed setup (x ∷ xs) F asked e =
     ap (λ (a : Bool). is_negotiate x.header || a) asked ∙ or_true (is_negotiate x.header) in
     subst NoneGreets (sym b.2) (
       no_second (is_some f.greeting) (is_negotiate x.header) f.asked (end_by_id (outside_of f.window x.header)) asked t.0,
-      none_greets (behind_turn f x.header) sealed (setup || is_setup x.header) xs b.0 still b.1,
+      none_greets (behind_turn f x.header) sealed (bars f sealed setup x) xs b.0 still b.1,
     )
   where
     or_true : (a : Bool) → (a || true) ≡ true
@@ -63,4 +63,4 @@ greets_first f sealed (x ∷ xs) F met e =
     let t = in_turn (turn_end f x.header) _ F e in
     let b = behind (checked_as f sealed false true x) _ F t.1 in
     let asked = heard_first (is_some f.greeting) (is_negotiate x.header) f.asked (end_by_id (outside_of f.window x.header)) met t.0 in
-    subst GreetsFirst (sym b.2) (none_greets (behind_turn f x.header) sealed (is_setup x.header) xs b.0 asked b.1)
+    subst GreetsFirst (sym b.2) (none_greets (behind_turn f x.header) sealed (bars f sealed false x) xs b.0 asked b.1)

@@ -15,15 +15,15 @@ pub due_next : (first sealed behind : Bool) (f : ends.ServerEnd) (x : HeardMessa
     → hearing.turn_end f x.header ≡ None
     → rest_due first f sealed behind (x ∷ xs)
     ≡ hearing.in_front (hearing.checked_as f sealed behind first x)
-    (rest_due false (hearing.behind_turn f x.header) sealed (behind || hearing.is_setup x.header) xs)
+    (rest_due false (hearing.behind_turn f x.header) sealed (hearing.bars f sealed behind x) xs)
 unfolding hearing.checked_behind
 due_next true sealed false f x xs differs e =
     ap (λ (o : Option ends.ConnEnd). hearing.if_in_turn o (hearing.in_front (hearing.checked_as f sealed false true x)
-    (hearing.checked_behind (hearing.behind_turn f x.header) sealed (hearing.is_setup x.header) xs))) e
+    (hearing.checked_behind (hearing.behind_turn f x.header) sealed (hearing.bars f sealed false x) xs))) e
 due_next true sealed true f x xs differs e = absurd (differs refl refl)
 due_next false sealed behind f x xs differs e =
     ap (λ (o : Option ends.ConnEnd). hearing.if_in_turn o (hearing.in_front (hearing.checked_as f sealed behind false x)
-    (hearing.checked_behind (hearing.behind_turn f x.header) sealed (behind || hearing.is_setup x.header) xs))) e
+    (hearing.checked_behind (hearing.behind_turn f x.header) sealed (hearing.bars f sealed behind x) xs))) e
 
 -- one that isn't ends the connection
 pub due_ends : (first sealed behind : Bool) (f : ends.ServerEnd) (x : HeardMessage) (xs : List HeardMessage) (why : ends.ConnEnd)
@@ -31,10 +31,10 @@ pub due_ends : (first sealed behind : Bool) (f : ends.ServerEnd) (x : HeardMessa
 unfolding hearing.checked_behind
 due_ends true sealed behind f x xs why e =
     ap (λ (o : Option ends.ConnEnd). hearing.if_in_turn o (hearing.in_front (hearing.checked_as f sealed false true x)
-    (hearing.checked_behind (hearing.behind_turn f x.header) sealed (hearing.is_setup x.header) xs))) e
+    (hearing.checked_behind (hearing.behind_turn f x.header) sealed (hearing.bars f sealed false x) xs))) e
 due_ends false sealed behind f x xs why e =
     ap (λ (o : Option ends.ConnEnd). hearing.if_in_turn o (hearing.in_front (hearing.checked_as f sealed behind false x)
-    (hearing.checked_behind (hearing.behind_turn f x.header) sealed (behind || hearing.is_setup x.header) xs))) e
+    (hearing.checked_behind (hearing.behind_turn f x.header) sealed (hearing.bars f sealed behind x) xs))) e
 
 pub prefixed_more : (cs : List hearing.Checked) (c : hearing.Checked) (due : Due) → check_prefixed (cs ++ c ∷ []) due
     ≡ check_prefixed cs (hearing.in_front c due)

@@ -1,7 +1,7 @@
 -- The messages of a frame, checked one after the other.
 use Rattle.std.proofs.Common.{◌≡◌, ℕ, zero, suc, ◌+◌, ◌-◌, ◌≤◌, ◌<◌, ◌==◌, Bool, true, false, ◌||◌, if◌then◌else◌, List, [], ◌∷◌, ◌++◌}
 use Rattle.std.proofs.Common.{take, drop, map, length, length-append, length-drop, min, Option, Some, None, Result, Ok, Err, get_or}
-use Rattle.std.proofs.Common.{refl, sym, ap, subst, ◌∙◌, arith}
+use Rattle.std.proofs.Common.{refl, sym, ap, subst, ◌∙◌, arith, is_some}
 use Rattle.std.proofs.lemmas.List.{append-nil, drop-drop, drop_more, length-take}
 use Rattle.std.proofs.Math.Nat.{min-le_left}
 use Rattle.std.proofs.Math.ListN.{drop_of_length-le}
@@ -96,7 +96,7 @@ going bytes f sealed setup first m s is inside head checked =
       raw = λ none. same;
       related = checked.related;
       fault = checked.fault;
-      denied = subst (λ (o : Option ℕ). IsDenied o) checked.fault (denied setup (hearing.is_negotiate x.header || hearing.is_setup x.header)
+      denied = subst (λ (o : Option ℕ). IsDenied o) checked.fault (denied setup (hearing.owes_nothing x)
           (hearing.is_protected f sealed x));
     }
 
@@ -131,22 +131,22 @@ pub goes_on : (k : ℕ) (guid bytes : List ℕ) (due : Due) (sealed setup : Bool
     → ((f : ends.ServerEnd) → ShowsEnd k guid old f
     → ChecksOne k guid (hearing.turn_end f (header_in (bytes_of bytes s))) (hearing.behind_turn f (header_in (bytes_of bytes s))) new
     (hearing.checked_as f sealed setup (length ms == 0) (heard_in (bytes_of bytes s))) s (Ok m))
-    → SoFar k guid bytes due sealed new (setup || (m.header.command == 1)) (ms ++ m ∷ []) xs
+    → SoFar k guid bytes due sealed new (setup || ((m.header.command == 1) || is_some m.fault)) (ms ++ m ∷ []) xs
 goes_on k guid bytes due sealed setup old new ms m s xs apart inside head far one =
     let f = far.server_end in
     let x = heard_in (bytes_of bytes s) in
     let c = hearing.checked_as f sealed setup (length ms == 0) x in
     let t = by_turn k guid (hearing.turn_end f x.header) (hearing.behind_turn f x.header) new c s m (one f far.shows) in
     let next = due_next (length ms == 0) sealed setup f x xs apart t.0 in
-    let behind_it = rest_due false (hearing.behind_turn f x.header) sealed (setup || hearing.is_setup x.header) xs in
-    let named : hearing.is_setup x.header ≡ (m.header.command == 1) =
-    ap (λ (h : Header). h.command == 1) t.2.header in
+    let behind_it = rest_due false (hearing.behind_turn f x.header) sealed (hearing.bars f sealed setup x) xs in
+    let named : hearing.bars f sealed setup x ≡ (setup || ((m.header.command == 1) || is_some m.fault)) =
+    λ i. setup || (((t.2.header i).command == 1) || is_some (t.2.fault i)) in
     let joined : due ≡ check_prefixed (far.checked ++ c ∷ []) behind_it =
     far.is ∙ (ap (λ (d : Due). check_prefixed far.checked d) next ∙ sym (prefixed_more far.checked c behind_it)) in
     let later : due ≡ check_prefixed (far.checked ++ c ∷ [])
-    (rest_due (length (ms ++ m ∷ []) == 0) (hearing.behind_turn f x.header) sealed (setup || hearing.is_setup x.header) xs) =
+    (rest_due (length (ms ++ m ∷ []) == 0) (hearing.behind_turn f x.header) sealed (hearing.bars f sealed setup x) xs) =
     joined ∙ ap (λ (b : Bool). check_prefixed (far.checked ++ c ∷ []) (rest_due b (hearing.behind_turn f x.header) sealed
-    (setup || hearing.is_setup x.header) xs)) (sym (not_none ms m)) in
+    (hearing.bars f sealed setup x) xs)) (sym (not_none ms m)) in
     record {
       server_end = hearing.behind_turn f x.header;
       checked = far.checked ++ c ∷ [];
@@ -154,7 +154,7 @@ goes_on k guid bytes due sealed setup old new ms m s xs apart inside head far on
       messages = shows_more bytes ms far.checked m c far.messages (going bytes f sealed setup (length ms == 0) m s t.3 inside head t.2)
           t.2.fails;
       is = later ∙ ap (λ (b : Bool). check_prefixed (far.checked ++ c ∷ []) (rest_due (length (ms ++ m ∷ []) == 0)
-          (hearing.behind_turn f x.header) sealed (setup || b) xs)) named;
+          (hearing.behind_turn f x.header) sealed b xs)) named;
     }
 
 -- ---- the exits
@@ -228,7 +228,8 @@ pub loops_next : (old now new : Conn) (sealed : Bool) (bytes : List ℕ) (at : �
     → ChecksOne k guid (hearing.turn_end f (header_in (bytes_of bytes s))) (hearing.behind_turn f (header_in (bytes_of bytes s))) new
     (hearing.checked_as f sealed setup (length ms == 0) (heard_in (bytes_of bytes s))) s (Ok m))
     → Loops old now sealed bytes (drop at bytes) spans i setup ms
-    → Loops old new sealed bytes (drop at bytes) spans (i + 1) (setup || (m.header.command == 1)) (ms ++ m ∷ [])
+    → Loops old new sealed bytes (drop at bytes) spans (i + 1)
+    (setup || ((m.header.command == 1) || is_some m.fault)) (ms ++ m ∷ [])
 loops_next old now new sealed bytes at spans i setup ms p d s m are less e room start end one l =
     let x = stands (drop at bytes) spans i p d are less e in
     let same : bytes_of bytes s ≡ bytes_of (drop at bytes) p = moved_bytes bytes at p s start end in

@@ -23,12 +23,6 @@ use Rattle.conn_ends.proofs.frame_messages.Steps.{by_cause}
 
 -- ---- the text of a frame
 
-at_most : (n : ℕ) → n ≤ 1114112 → nat_lt 1114112 n ≡ false
-at_most n e = grind (arith, nat_tests)
-
-above : (n : ℕ) → 1114112 < n → nat_lt 1114112 n ≡ true
-above n e = grind (arith, nat_tests)
-
 abbrev from_some : List ℕ → Option (List ℕ) → List ℕ
 from_some d None = d
 from_some d (Some x) = x
@@ -40,13 +34,13 @@ text_is false true o frame text h e = ap (λ (p : Option (List ℕ)). hearing.op
 text_is false false o frame text h e = ap (λ (t : List ℕ). hearing.split_text false (messages_in t)) (ap (from_some frame) e)
 text_is true s o frame text h e = absurd cc
 
-due_is : (f : ends.ServerEnd) (frame text : List ℕ) → length frame ≤ 1114112
+due_is : (f : ends.ServerEnd) (frame text : List ℕ) → hearing.is_too_long f.keys frame ≡ false
     → (if hearing.begins_sealed frame then hearing.opened_by f.keys frame else Some frame) ≡ Some text
     → hearing.check_frame f frame ≡ hearing.checked_text f (hearing.split_text (hearing.begins_sealed frame) (messages_in text))
 due_is f frame text short e =
     ap (λ (p : Result hearing.FrameText ends.ConnEnd). hearing.checked_text f p)
-    (text_is (hearing.is_too_long frame) (hearing.begins_sealed frame) (hearing.opened_by f.keys frame) frame text
-    (at_most (length frame) short) e)
+    (text_is (hearing.is_too_long f.keys frame) (hearing.begins_sealed frame) (hearing.opened_by f.keys frame) frame text
+    short e)
 
 closed_is : (long s : Bool) (o : Option (List ℕ)) (frame new : List ℕ) (e : ConnEnd) → long ≡ false
     → TextBy (if s then o else Some frame) (Err e) new
@@ -57,21 +51,28 @@ closed_is false true (Some x) frame new e h t = absurd t
 closed_is false false o frame new e h t = absurd t
 closed_is true s o frame new e h t = absurd cc
 
+-- the limit goes by the keys that the connection in code has
+pub own_limit : (f : ends.ServerEnd) (conn : Conn) (frame : List ℕ) → f.keys ≡ conn.logon.keys
+    → hearing.is_too_long conn.logon.keys frame ≡ false → hearing.is_too_long f.keys frame ≡ false
+own_limit f conn frame same short = subst (λ (o : Option Keys). hearing.is_too_long o frame ≡ false) (sym same) short
+
 -- ---- the exits
 
-pub ends_long : (f : ends.ServerEnd) (frame : List ℕ) → 1114112 < length frame → EndsAll (hearing.check_frame f frame) causes.BadFrame
+pub ends_long : (f : ends.ServerEnd) (frame : List ℕ) → hearing.is_too_long f.keys frame ≡ true
+    → EndsAll (hearing.check_frame f frame) causes.BadFrame
 ends_long f frame long =
     by_cause (hearing.check_frame f frame) causes.BadFrame ends.BadFrame
     (ap (λ (b : Bool). hearing.checked_text f (if b then Err ends.BadFrame
     else if hearing.begins_sealed frame then hearing.opened_text (hearing.opened_by f.keys frame)
-    else hearing.split_text false (messages_in frame))) (above (length frame) long)) refl
+    else hearing.split_text false (messages_in frame))) long) refl
 
-pub ends_closed : (f : ends.ServerEnd) (frame new : List ℕ) (keys : Option Keys) (e : ConnEnd) → length frame ≤ 1114112 → f.keys ≡ keys
+pub ends_closed : (f : ends.ServerEnd) (frame new : List ℕ) (keys : Option Keys) (e : ConnEnd)
+    → hearing.is_too_long f.keys frame ≡ false → f.keys ≡ keys
     → TextBy (if hearing.begins_sealed frame then hearing.opened_by keys frame else Some frame) (Err e) new
     → EndsAll (hearing.check_frame f frame) e
 ends_closed f frame new keys e short same t =
-    let z = closed_is (hearing.is_too_long frame) (hearing.begins_sealed frame) (hearing.opened_by f.keys frame) frame new e
-    (at_most (length frame) short)
+    let z = closed_is (hearing.is_too_long f.keys frame) (hearing.begins_sealed frame) (hearing.opened_by f.keys frame) frame new e
+    short
     (subst (λ (o : Option Keys). TextBy (if hearing.begins_sealed frame then hearing.opened_by o frame else Some frame) (Err e) new)
     (sym same) t) in
     by_cause (hearing.check_frame f frame) e ends.Unsealable
@@ -121,11 +122,11 @@ kept f sealed setup [] F e =
     (sym (ap (λ (x : hearing.Frame). x.sealed) same), sym (ap (λ (x : hearing.Frame). x.server_end.keys) same))
 kept f sealed setup (x ∷ xs) F e =
     let g = hearing.behind_turn f x.header in
-    let rest = hearing.checked_behind g sealed (setup || hearing.is_setup x.header) xs in
+    let rest = hearing.checked_behind g sealed (hearing.bars f sealed setup x) xs in
     let c = hearing.checked_as f sealed setup false x in
     let t = in_turn (hearing.turn_end f x.header) (hearing.in_front c rest) F e in
     let b = behind c rest F t.1 in
-    let k = kept g sealed (setup || hearing.is_setup x.header) xs b.0 b.1 in
+    let k = kept g sealed (hearing.bars f sealed setup x) xs b.0 b.1 in
     (b.2 ∙ k.0, ap (λ (y : ends.ServerEnd). y.keys) b.3 ∙ k.1)
 
 kept_in : (f : ends.ServerEnd) (sealed : Bool) (xs : List HeardMessage) (F : hearing.Frame)
@@ -133,11 +134,11 @@ kept_in : (f : ends.ServerEnd) (sealed : Bool) (xs : List HeardMessage) (F : hea
 kept_in f sealed [] F e = absurd cc
 kept_in f sealed (x ∷ xs) F e =
     let g = hearing.behind_turn f x.header in
-    let rest = hearing.checked_behind g sealed (hearing.is_setup x.header) xs in
+    let rest = hearing.checked_behind g sealed (hearing.bars f sealed false x) xs in
     let c = hearing.checked_as f sealed false true x in
     let t = in_turn (hearing.turn_end f x.header) (hearing.in_front c rest) F e in
     let b = behind c rest F t.1 in
-    let k = kept g sealed (hearing.is_setup x.header) xs b.0 b.1 in
+    let k = kept g sealed (hearing.bars f sealed false x) xs b.0 b.1 in
     (b.2 ∙ k.0, ap (λ (y : ends.ServerEnd). y.keys) b.3 ∙ k.1)
 
 by_due : (k : ℕ) (guid bytes : List ℕ) (d : Due) (new : Conn) (ms : List Checked) → AllGo k guid bytes d new ms
@@ -152,9 +153,10 @@ by_split f s (Some xs) F e = (xs, e)
 
 -- ---- keys that opened a frame seal its answer
 
-by_zero : (b : Bool) (o : Option (List ℕ)) (text : List ℕ) → (if b then None else o) ≡ Some text → b ≡ false
-by_zero true o text e = absurd cc
-by_zero false o text e = refl
+by_zero : (b flagged : Bool) (o : Option (List ℕ)) (text : List ℕ) → (if b then None else if flagged then o else None) ≡ Some text
+    → b ≡ false
+by_zero true flagged o text e = absurd cc
+by_zero false flagged o text e = refl
 
 some_cipher : (n : ℕ) → (n == 0) ≡ false → 1 ≤ n
 some_cipher n e = grind (arith, nat_tests)
@@ -162,7 +164,7 @@ some_cipher n e = grind (arith, nat_tests)
 may_seal : (keys : Option Keys) (frame text : List ℕ) → AreKnown keys → hearing.opened_by keys frame ≡ Some text → MaySeal keys
 may_seal None frame text known e = absurd cc
 may_seal (Some keys) frame text known e =
-    (some_cipher keys.cipher (by_zero (keys.cipher == 0) (opened keys true frame) text e), known)
+    (some_cipher keys.cipher (by_zero (keys.cipher == 0) (hearing.is_encrypted frame) (opened keys true frame) text e), known)
 
 text_stands : (o : Option (List ℕ)) (at : ℕ) (bytes : List ℕ) → TextBy o (Ok at) bytes → o ≡ Some (drop at bytes)
 text_stands (Some text) at bytes t = ap (λ (y : List ℕ). Some y) (sym t.1)
@@ -171,7 +173,7 @@ text_stands None at bytes t = absurd t
 -- ---- a frame that goes on
 
 pub goes : (k : ℕ) (guid frame new_bytes : List ℕ) (f : ends.ServerEnd) (keys : Option Keys) (now at : ℕ) (new : Conn) (x : CheckedFrame)
-    → length frame ≤ 1114112 → f.keys ≡ keys → AreKnown keys → (is_some f.greeting ≡ true → f.asked ≡ true)
+    → hearing.is_too_long f.keys frame ≡ false → f.keys ≡ keys → AreKnown keys → (is_some f.greeting ≡ true → f.asked ≡ true)
     → x.sealed ≡ hearing.begins_sealed frame → x.moment ≡ now → x.bytes.items ≡ new_bytes
     → TextBy (if hearing.begins_sealed frame then hearing.opened_by keys frame else Some frame) (Ok at) new_bytes
     → AllGo k guid new_bytes (hearing.checked_text f (hearing.split_text (hearing.begins_sealed frame) (messages_in (drop at new_bytes))))
@@ -210,7 +212,7 @@ goes k guid frame bytes f keys now at new x short same known met sealed moment i
 -- ---- the same, of what the code's steps gave
 
 pub goes_by : (k : ℕ) (guid frame old new read : List ℕ) (f : ends.ServerEnd) (conn behind_it : Conn) (keys : Option Keys) (sealed : Bool)
-    (now at : ℕ) (x : CheckedFrame) → length frame ≤ 1114112 → sealed ≡ hearing.begins_sealed frame → old ≡ frame → read ≡ new
+    (now at : ℕ) (x : CheckedFrame) → hearing.is_too_long conn.logon.keys frame ≡ false → sealed ≡ hearing.begins_sealed frame → old ≡ frame → read ≡ new
     → keys ≡ conn.logon.keys → ShowsEnd k guid conn f → x.sealed ≡ sealed → x.moment ≡ now → x.bytes.items ≡ new
     → (AreKnown keys → TextBy (if sealed then hearing.opened_by keys old else Some old) (Ok at) new)
     → AllGo k guid read (hearing.checked_text f (hearing.split_text sealed (messages_in (drop at read)))) behind_it x.messages.items
@@ -227,10 +229,11 @@ goes_by k guid frame old new read f conn behind_it keys sealed now at x short be
     begins
     (subst (λ (b : List ℕ). AllGo k guid b (hearing.checked_text f (hearing.split_text sealed (messages_in (drop at b)))) behind_it
     x.messages.items) same all) in
-    goes k guid frame new f keys now at behind_it x short (shown.keys ∙ sym own) known shown.heard (kept ∙ begins) moment items mine whole
+    goes k guid frame new f keys now at behind_it x (own_limit f conn frame shown.keys short) (shown.keys ∙ sym own) known shown.heard (kept ∙ begins) moment items mine whole
 
 pub ends_by : (k : ℕ) (guid frame old new read : List ℕ) (f : ends.ServerEnd) (conn : Conn) (keys : Option Keys) (sealed : Bool)
-    (at : ℕ) (e : ConnEnd) → length frame ≤ 1114112 → sealed ≡ hearing.begins_sealed frame → old ≡ frame → read ≡ new
+    (at : ℕ) (e : ConnEnd) → hearing.is_too_long conn.logon.keys frame ≡ false → sealed ≡ hearing.begins_sealed frame → old ≡ frame
+    → read ≡ new
     → keys ≡ conn.logon.keys → ShowsEnd k guid conn f
     → (AreKnown keys → TextBy (if sealed then hearing.opened_by keys old else Some old) (Ok at) new)
     → EndsAll (hearing.checked_text f (hearing.split_text sealed (messages_in (drop at read)))) e
@@ -242,7 +245,7 @@ ends_by k guid frame old new read f conn keys sealed at e short begins copied sa
     (own ∙ sym shown.keys)
     (subst (λ (b : Bool). TextBy (if b then hearing.opened_by keys frame else Some frame) (Ok at) new) begins
     (subst (λ (b : List ℕ). TextBy (if sealed then hearing.opened_by keys b else Some b) (Ok at) new) copied (text known))) in
-    let due = due_is f frame (drop at new) short
+    let due = due_is f frame (drop at new) (own_limit f conn frame shown.keys short)
     (text_stands (if hearing.begins_sealed frame then hearing.opened_by f.keys frame else Some frame)
     at new mine) in
     subst (λ (d : Due). EndsAll d e) (sym due)

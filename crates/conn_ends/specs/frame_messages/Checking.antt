@@ -160,7 +160,7 @@ ChecksAll k guid bytes due new (Err e) = EndsAll due e
 -- ---- what is due of the rest of a frame's messages, none of which was checked yet or some were
 
 abbrev pub rest_due : Bool → ends.ServerEnd → Bool → Bool → List HeardMessage → Result hearing.Frame ends.ConnEnd
-rest_due first f sealed behind_setup xs = if first then hearing.checked_in f sealed xs else hearing.checked_behind f sealed behind_setup xs
+rest_due first f sealed barred xs = if first then hearing.checked_in f sealed xs else hearing.checked_behind f sealed barred xs
 
 -- ---- what a loop has checked, in front of what is due of the rest
 

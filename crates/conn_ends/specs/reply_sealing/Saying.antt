@@ -5,10 +5,11 @@ use Rattle.spec_world.specs.Answering as answering
 use Rattle.spec_world.specs.Logon as logon
 use Rattle.conn_ends.specs.declared.reply_sealing.said.Said.{Said}
 use Rattle.conn_ends.specs.declared.conn.Progress.{Progress}
-use Rattle.conn_ends.specs.declared.conn.Progress.TheVariants.{Stays, Interim, Final}
+use Rattle.conn_ends.specs.declared.conn.Progress.TheVariants.{Stays, Refused, Interim, Final}
 
 abbrev pub MovesAs : Progress → answering.SaidReply → Type 0
 MovesAs Stays r = r.progress ≡ logon.Stays
+MovesAs (Refused signer) r = r.progress ≡ logon.Stays
 MovesAs (Interim signer) r = (binding : Bool) × (r.progress ≡ logon.Interim binding)
 MovesAs (Final keys channel encrypts) r = (binding : Bool) × (r.progress ≡ logon.Final binding channel encrypts) × (r.keys ≡ keys)
 

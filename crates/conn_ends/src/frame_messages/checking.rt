@@ -1,6 +1,6 @@
 //! What the connection hears in a frame, before any of its messages is carried out (MS-SMB2 3.3.5.2).
-ghost use Rattle.std.specs.Prelude.{◌≡◌, ◌<◌, ◌≤◌, ◌^◌, ◌+◌, ◌%◌, ◌/◌, ℕ, Bool, List, [], length, drop, true, Some, option_copied, OnOk};
-ghost use Rattle.std.specs.Prelude.{IfOk, if◌then◌else◌, not, ◌&&◌};
+ghost use Rattle.std.specs.Prelude.{◌≡◌, ◌<◌, ◌≤◌, ◌^◌, ◌+◌, ◌%◌, ◌/◌, ℕ, Bool, List, [], length, drop, true, false, Some, option_copied, OnOk};
+ghost use Rattle.std.specs.Prelude.{IfOk, if◌then◌else◌, not, ◌&&◌, ◌||◌, ◌==◌, is_some};
 ghost use Rattle.spec_exchange.specs.Commands.{has_bit as has_bit_of};
 ghost use Rattle.spec_world.specs.Ends.{ServerEnd};
 ghost use Rattle.spec_world.specs.Hearing as hearing;
@@ -14,16 +14,26 @@ use crate::frame_messages::checked::{Checked, CheckedFrame};
 use crate::{Conn, ConnEnd};
 use crypto_sessions::{Keys, unseal_in_place, verify};
 use std::alloc::Global;
-use wire_bytes::{Cursor, Header, HeaderError, Parts, Span, read_header, split_compound};
+use wire_bytes::{
+    Cursor, Header, HeaderError, Parts, Span, read_header, split_compound, u16_at, u64_at,
+};
 
 /// The most bytes of a frame's message.
 const MOST: usize = 1_114_112;
+
+/// The same before a connection has had a session.
+const FIRST_MOST: usize = 66_000;
 
 /// What a sealed frame begins with (MS-SMB2 2.2.41).
 const PROTOCOL: [u8; 4] = [0xfd, b'S', b'M', b'B'];
 
 /// The bytes of a transform header (MS-SMB2 2.2.41).
 const TRANSFORM: usize = 52;
+
+/// Where it has its Flags, and the value of a sealed frame's.
+const FLAGS: usize = 42;
+
+const ENCRYPTED: u16 = 1;
 
 /// STATUS_ACCESS_DENIED (MS-ERREF 2.3.1)
 const ACCESS_DENIED: u32 = 0xc000_0022;
@@ -33,6 +43,11 @@ const NEGOTIATE: u16 = 0;
 const SESSION_SETUP: u16 = 1;
 
 const CANCEL: u16 = 12;
+
+const ECHO: u16 = 13;
+
+/// Where a header has its SessionId (MS-SMB2 2.2.1.2).
+const SESSION_ID: usize = 40;
 
 const RELATED: u32 = 4;
 
@@ -65,13 +80,24 @@ fn is_related(first: bool, header: &Header) -> bool
     !first && has_flag(header, RELATED)
 }
 
+/// Whether a transform header has the Flags of a sealed frame.
+fn is_encrypted(frame: &[u8]) -> bool
+    requires { 52 ≤ length frame.now }
+    ensures { result ≡ hearing.is_encrypted frame.now }
+{
+    u16_at(frame, FLAGS) == ENCRYPTED
+}
+
 /// Opens a sealed frame where it stands, under keys that were told.
-#[tactic(auto, using(crate::proofs::frame_messages::Opening::opens, crate::proofs::frame_messages::Opening::refuses, crate::proofs::frame_messages::Opening::without_cipher, crate::proofs::frame_messages::Opening::too_short))]
+#[tactic(auto, using(crate::proofs::frame_messages::Opening::opens, crate::proofs::frame_messages::Opening::refuses, crate::proofs::frame_messages::Opening::without_cipher, crate::proofs::frame_messages::Opening::too_short, crate::proofs::frame_messages::Opening::of_other_flags))]
 fn open_under(keys: &Keys, frame: &mut [u8]) -> Result<(), ConnEnd>
     ensures whole { OnOk result (52 ≤ length frame.new) }
     ensures text { keys.now.cipher ≤ 4 → HeardBy (hearing.opened_by (Some keys.now) frame.old) result frame.new frame.old }
 {
     if keys.cipher == 0 || keys.cipher > 4 || frame.len() < TRANSFORM {
+        return Err(ConnEnd::Unsealable);
+    }
+    if !is_encrypted(frame) {
         return Err(ConnEnd::Unsealable);
     }
     match unseal_in_place(keys, true, frame) {
@@ -144,7 +170,7 @@ fn placed<'a>(bytes: &'a [u8], span: &Span) -> &'a [u8]
 #[derive(Clone, Copy)]
 struct Place {
     sealed: bool,
-    behind_setup: bool,
+    barred: bool,
     first: bool,
 }
 
@@ -188,17 +214,32 @@ fn is_protected(conn: &Conn, sealed: bool, header: &Header, message: &[u8]) -> b
     }
 }
 
-/// A SESSION_SETUP owes nothing here, nor does NEGOTIATE. What stands behind a SESSION_SETUP in its frame is refused,
-/// since its keys aren't there yet.
+/// An ECHO of SessionId 0, by the header as it was heard, which its bytes keep.
+pub fn is_probe(header: &Header, message: &[u8]) -> bool
+    requires { 64 ≤ length message.now }
+    ensures { result ≡ hearing.is_probe header.now message.now }
+{
+    header.command == ECHO && u64_at(message, SESSION_ID) == 0
+}
+
+/// Neither a signature nor a seal is owed by NEGOTIATE, a SESSION_SETUP and an ECHO of SessionId 0.
+fn owes_nothing(header: &Header, message: &[u8]) -> bool
+    requires { 64 ≤ length message.now }
+    ensures { result ≡ hearing.owes_nothing (record { header = header.now; bytes = message.now }) }
+{
+    header.command == NEGOTIATE || header.command == SESSION_SETUP || is_probe(header, message)
+}
+
+/// ACCESS_DENIED to what isn't protected and owes it, and to what stands behind a message that bars the rest of its frame.
 fn fault_of(conn: &Conn, place: Place, header: &Header, message: &[u8]) -> Option<u32>
     requires { (64 ≤ length message.now) × (length message.now < 2 ^ 60) }
     ensures { (k : ℕ) (guid : List ℕ) (f : ServerEnd) → ShowsEnd k guid conn.now f
-        → result ≡ hearing.fault_of f place.sealed place.behind_setup (record { header = header.now; bytes = message.now }) }
+        → result ≡ hearing.fault_of f place.sealed place.barred (record { header = header.now; bytes = message.now }) }
 {
-    if place.behind_setup {
+    if place.barred {
         return Some(ACCESS_DENIED);
     }
-    if header.command == NEGOTIATE || header.command == SESSION_SETUP {
+    if owes_nothing(header, message) {
         return None;
     }
     if is_protected(conn, place.sealed, header, message) {
@@ -214,7 +255,7 @@ fn check_one(conn: &mut Conn, place: Place, message: &[u8], span: Span) -> Resul
     requires short { length message.now < 2 ^ 60 }
     ensures turn { (k : ℕ) (guid : List ℕ) (f : ServerEnd) → ShowsEnd k guid conn.old f
         → ChecksOne k guid (hearing.turn_end f (header_in message.now)) (hearing.behind_turn f (header_in message.now)) conn.new
-        (hearing.checked_as f place.sealed place.behind_setup place.first (heard_in message.now)) span result }
+        (hearing.checked_as f place.sealed place.barred place.first (heard_in message.now)) span result }
     ensures place { IfOk result (λ m. m.span ≡ span) }
 {
     let header = match read_header(message) {
@@ -235,6 +276,13 @@ fn check_one(conn: &mut Conn, place: Place, message: &[u8], span: Span) -> Resul
     }
 }
 
+/// Whether what stands behind a message in its frame is refused: its keys may not be there yet, or anybody may have put it there.
+fn bars(barred: bool, checked: &Checked) -> bool
+    ensures { result ≡ (barred || (checked.now.header.command == 1 || is_some checked.now.fault)) }
+{
+    barred || checked.header.command == SESSION_SETUP || checked.fault.is_some()
+}
+
 /// Checks the messages at these places of the text behind the first bytes of a frame, in order.
 fn check_each(
     conn: &mut Conn,
@@ -253,12 +301,12 @@ fn check_each(
         → ChecksAll k guid bytes.now (hearing.checked_in f sealed (heard_at (drop from bytes.now) spans.now)) conn.new result }
 {
     let mut messages = Vec::with_capacity(conn.alloc, spans.len())?;
-    let mut behind_setup = false;
+    let mut barred = false;
     for part in spans {
         let span = moved(from, part);
         let place = Place {
             sealed,
-            behind_setup,
+            barred,
             first: messages.is_empty(),
         };
         let message = placed(bytes, &span);
@@ -266,7 +314,7 @@ fn check_each(
             Ok(checked) => checked,
             Err(cause) => return Err(cause),
         };
-        behind_setup = behind_setup || checked.header.command == SESSION_SETUP;
+        barred = bars(barred, &checked);
         let Ok(()) = messages.push(checked) else {
             return Err(ConnEnd::Memory);
         };
@@ -294,6 +342,18 @@ fn check_all(
     }
 }
 
+/// Whether a frame is longer than may come. Before a connection has had a session no more comes than NEGOTIATE and
+/// tokens, of at most 65,535 bytes each.
+fn is_too_long(conn: &Conn, frame: &[u8]) -> bool
+    ensures is { result ≡ hearing.is_too_long conn.now.logon.keys frame.now }
+    ensures few { result ≡ false → length frame.now ≤ 1114112 }
+{
+    match &conn.logon.keys {
+        Some(_keys) => frame.len() > MOST,
+        None => frame.len() > FIRST_MOST,
+    }
+}
+
 /// Checks a whole frame before any message of it is carried out: it is opened where it is sealed, split, each message
 /// is admitted by its command and its ids, and its signature is verified. An end says why the connection ends, and
 /// then nothing of the frame is carried out. `now` is kept for a NEGOTIATE's response. The frame is copied once.
@@ -302,7 +362,7 @@ pub fn check(conn: &mut Conn, frame: &[u8], now: u64) -> Result<CheckedFrame, Co
     ensures checks { (k : ℕ) (guid : List ℕ) (f : ServerEnd) → ShowsEnd k guid conn.old f
         → Checks k guid (hearing.check_frame f frame.now) now conn.new result }
 {
-    if frame.len() > MOST {
+    if is_too_long(conn, frame) {
         return Err(ConnEnd::BadFrame);
     }
     // A copy, since it is opened in place, and FileIds are written into its related messages.

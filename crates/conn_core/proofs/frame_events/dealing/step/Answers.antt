@@ -1,4 +1,4 @@
-use Rattle.std.proofs.Common.{◌≡◌, ◌<◌, true, false, length, ◌++◌, subst, arith}
+use Rattle.std.proofs.Common.{◌≡◌, ◌<◌, length, ◌++◌, subst, arith}
 use Rattle.spec_world.specs.Related.{failed_as, turn_of}
 use Rattle.conn_ends.specs.frame_messages.Checking.{message_in}
 use Rattle.conn_ends.proofs.frame_messages.Places.{each_has}

@@ -1,7 +1,9 @@
-use Rattle.std.proofs.Common.{◌∙◌, ℕ, refl, sym, ap}
+use Rattle.std.proofs.Common.{◌∙◌, ℕ, Option, refl, sym, ap}
 use Rattle.spec_wire.specs.declared.messages.header.Header.{Header}
 use Rattle.spec_wire.specs.credits.Window.{granted}
+use Rattle.spec_crypto.specs.declared.sessions.material.Signer.{Signer}
 use Rattle.spec_world.specs.Answering as answering
+use Rattle.spec_world.specs.Logon.{unless_faulty}
 use Rattle.conn_core.proofs.message_replies.plain.plain.Goals as goal
 
 pub returns-clause-grants : goal.returns-clause-grants
@@ -18,7 +20,12 @@ returns-clause-header c = λ x like.
     ∙ c.reply_header-header.ensures.header x like
 
 pub returns-clause-rest : goal.returns-clause-rest
-returns-clause-rest c = (refl, refl, c.signer.ensures, refl)
+returns-clause-rest c = (
+  refl,
+  refl,
+  c.signer_of.ensures ∙ ap (λ (o : Option Signer). unless_faulty c.args.checked.now.fault o) c.signer.ensures,
+  refl,
+)
 
 pub returns-clause-fits : goal.returns-clause-fits
 returns-clause-fits c = λ short. (c.reply_header-header.ensures.flags, short)

@@ -1,10 +1,10 @@
-use Rattle.std.proofs.Common.{◌≡◌, ◌∙◌, ◌==◌, ℕ, true, false, sym, ap, subst}
+use Rattle.std.proofs.Common.{◌≡◌, ◌∙◌, ◌==◌, ◌≤◌, ℕ, List, true, false, length, sym, ap, subst}
 use Rattle.std.specs.Prelude.{slice_get}
 use Rattle.spec_wire.specs.declared.messages.header.Header.{Header}
 use Rattle.spec_world.specs.Hearing as hearing
 use Rattle.conn_ends.specs.declared.frame_messages.checked.Checked.{Checked}
 use Rattle.conn_core.specs.message_replies.Replying.{Grants, IsLike}
-use Rattle.conn_core.proofs.message_replies.Parts.{aside_echoes, aside_greets, aside_heard, differs, inside, same_message}
+use Rattle.conn_core.proofs.message_replies.Parts.{aside_echoes, aside_greets, aside_heard, differs, inside, part_long, same_message}
 use Rattle.conn_core.proofs.message_replies.saying.said_going.Goals as goal
 
 pub checked-checked-requires : goal.checked-checked-requires
@@ -28,10 +28,18 @@ returns-then-checked-eq-NEGOTIATE-clause-said c = λ z f m x e keys shown hello.
     ∙ ap (λ (n : ℕ). n == 0) c.if-checked-eq-NEGOTIATE.true in
     let now = c.args.answers.now.asked.now.moment in
     aside_greets z now f c.args.conn.now.window x (slice_get c.args.answers.now.replies.now.items.items c.args.place)
-    c.greeted.result greets (c.greeted.ensures.said z now f x keys like greets hello)
+    c.greeted.result greets
+    (c.greeted.ensures.said z now f x keys like (shown.like.fault ∙ ap (λ (k : Checked). k.fault) (sym same)) greets hello)
 
 pub returns-then-checked-eq-NEGOTIATE-clause-fits : goal.returns-then-checked-eq-NEGOTIATE-clause-fits
 returns-then-checked-eq-NEGOTIATE-clause-fits c = λ shorts hello. c.greeted.ensures.fits hello
+
+pub echoed-requires : goal.echoed-requires
+echoed-requires c =
+    let has = c.requires in
+    let m = has.0 in
+    subst (λ (b : List ℕ). 64 ≤ length b) (sym (c.message.ensures m has.1))
+    (part_long m.span.start m.span.end c.args.answers.now.asked.now.bytes.items has.2 has.3)
 
 pub returns-then-checked-eq-ECHO-clause-grants : goal.returns-then-checked-eq-ECHO-clause-grants
 returns-then-checked-eq-ECHO-clause-grants c = λ m e.
@@ -54,7 +62,7 @@ returns-then-checked-eq-ECHO-clause-said c = λ z f m x e keys shown hello.
     let now = c.args.answers.now.asked.now.moment in
     aside_echoes z now f c.args.conn.now.window x (slice_get c.args.answers.now.replies.now.items.items c.args.place)
     c.echoed.result other echoes
-    (c.echoed.ensures.said z now f x keys like (shown.fault ∙ ap (λ (k : Checked). k.fault) (sym same))
+    (c.echoed.ensures.said z now f x keys like (shown.like.fault ∙ ap (λ (k : Checked). k.fault) (sym same))
     (shown.bytes ∙ sym (c.message.ensures m e)) other)
 
 pub returns-then-checked-eq-ECHO-clause-fits : goal.returns-then-checked-eq-ECHO-clause-fits

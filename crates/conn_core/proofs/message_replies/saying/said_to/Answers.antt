@@ -1,6 +1,9 @@
-use Rattle.std.proofs.Common.{◌∙◌, sym, ap, subst, length, List, ℕ, ◌≤◌}
+use Rattle.std.proofs.Common.{◌∙◌, sym, ap, subst, length, List, Option, ℕ, ◌≤◌}
 use Rattle.spec_wire.specs.credits.Window.{granted}
+use Rattle.spec_crypto.specs.declared.sessions.material.Signer.{Signer}
 use Rattle.spec_world.specs.Answering as answering
+use Rattle.spec_world.specs.Logon.{unless_faulty}
+use Rattle.conn_core.specs.message_replies.Replying.{progress_signer}
 use Rattle.conn_core.specs.declared.message_replies.plain.Named.{Named}
 use Rattle.conn_core.proofs.message_replies.Parts.{signer_same}
 use Rattle.conn_core.proofs.message_replies.saying.said_to.Goals as goal
@@ -21,8 +24,9 @@ returns-clause-said c = λ f x s keys like to.
           ∙ c.plain-plain.ensures.header x like);
       body = to.body ∙ sym (rest.1 ∙ c.as_slice.ensures);
       signer = to.signer
-          ∙ (signer_same f c.args.conn.now.logon.keys c.args.reply.now.progress c.plain-plain.result.signer keys rest.2
-          ∙ sym c.signer_of.ensures);
+          ∙ (signer_same f x c.args.checked.now c.args.conn.now.logon.keys c.args.reply.now.progress keys like
+          ∙ (ap (λ (o : Option Signer). unless_faulty c.args.checked.now.fault (progress_signer c.args.reply.now.progress o)) (sym c.signer-own.ensures)
+          ∙ sym c.signer_of.ensures));
       progress = to.progress;
     }
 

@@ -19,7 +19,7 @@ returns-in-Ok-check_all-clause-checks c = λ k guid f shown.
       messages = c.in-Ok-check_all.messages;
       sealed = c.begins_sealed-sealed.result;
       moment = c.args.now;
-    }) c.if-frame-gt-MOST.false
+    }) (sym c.is_too_long.ensures.is ∙ c.if-is_too_long.false)
     c.begins_sealed-sealed.ensures (c.as_mut_slice.ensures.value ∙ c.in_ok-bytes.ensures.items) (c.as_slice.ensures.value ∙ whole)
     c.as_ref.ensures.value shown refl refl whole c.in-Ok.ensures.text (c.in-Ok-check_all.ensures.checks k guid f shown)
 
@@ -28,6 +28,7 @@ returns-in-Err-check_all-clause-checks c = λ k guid f shown.
     let now : List ℕ = c.text_at.new.frame in
     let whole = written now c.in_ok-bytes.bytes.items c.in_ok-bytes.bytes.len (sym (c.text_at.auto.frame ∙ c.as_mut_slice.ensures.len)) in
     ends_by k guid c.args.frame.now c.as_mut_slice.result.now c.text_at.new.frame c.as_slice.result.now f c.args.conn.now
-    (option_copied c.as_ref.result) c.begins_sealed-sealed.result c.in-Ok.from c.in-Err-check_all.cause c.if-frame-gt-MOST.false
+    (option_copied c.as_ref.result) c.begins_sealed-sealed.result c.in-Ok.from c.in-Err-check_all.cause
+    (sym c.is_too_long.ensures.is ∙ c.if-is_too_long.false)
     c.begins_sealed-sealed.ensures (c.as_mut_slice.ensures.value ∙ c.in_ok-bytes.ensures.items) (c.as_slice.ensures.value ∙ whole)
     c.as_ref.ensures.value shown c.in-Ok.ensures.text (c.in-Err-check_all.ensures.checks k guid f shown)

@@ -1,5 +1,5 @@
 use Rattle.std.proofs.Common.{◌≡◌, ℕ, ◌+◌, ◌==◌, ◌||◌, Bool, false, List, drop, length, vec_len, slice_index_or, refl}
-use Rattle.std.proofs.Common.{sym, ap, subst, ◌∙◌, Ok, Err}
+use Rattle.std.proofs.Common.{sym, ap, subst, ◌∙◌, Ok, Err, is_some}
 use Rattle.std.proofs.Common.{arith}
 use Rattle.spec_wire.specs.declared.messages.header.Span.{Span}
 use Rattle.spec_world.specs.Messages.{has_header}
@@ -9,7 +9,6 @@ use Rattle.conn_ends.proofs.frame_messages.Steps.{Loops, Places, loops_first, lo
 use Rattle.conn_ends.proofs.frame_messages.Steps.{place_fits, place_heads, as_placed}
 use Rattle.conn_ends.proofs.frame_messages.Steps.{places_first, places_next, places_whole}
 use Rattle.conn_ends.proofs.frame_messages.checking.check_each.Goals as goal
-use Rattle.conn_ends.proofs.frame_messages.checking.check_each.Goals.{then-behind_setup, else-behind_setup}
 
 abbrev none : Span
 none = record { start = 0; end = 0 }
@@ -57,10 +56,10 @@ returns-in-Err-clause-checks c = λ k guid f shown.
     let count : vec_len c.loop-part.messages ≡ length c.loop-part.messages.items = omega (arith, c.loop-part.messages.ok.0) in
     let first : c.is_empty.result ≡ (length c.loop-part.messages.items == 0) = c.is_empty.ensures ∙ ap (λ (n : ℕ). n == 0) count in
     loops_ends c.args.conn.now c.loop-part.conn c.check_one.new.conn c.args.sealed c.args.bytes.now c.args.from c.args.spans.now
-    c.loop-part.part-index c.loop-part.behind_setup c.loop-part.messages.items
+    c.loop-part.part-index c.loop-part.barred c.loop-part.messages.items
     (slice_index_or c.args.spans.now c.loop-part.part-index none) none c.moved-span.result c.in-Err.cause k guid f c.requires.spans
     (let t = c.loop-part-test.true in omega (arith, t)) refl c.moved-span.ensures.0 c.moved-span.ensures.1
-    (λ j g e h. as_placed j g e c.args.sealed c.loop-part.behind_setup c.is_empty.result (length c.loop-part.messages.items == 0)
+    (λ j g e h. as_placed j g e c.args.sealed c.loop-part.barred c.is_empty.result (length c.loop-part.messages.items == 0)
     c.check_one.new.conn c.placed-message.result.now (bytes_of c.args.bytes.now c.moved-span.result) c.moved-span.result
     (Err c.in-Err.cause)
     first c.placed-message.ensures.value (c.in-Err.ensures.turn j g e h)) c.loop-part.invariant.0 shown
@@ -71,19 +70,14 @@ loop-part-preserved c =
     let first : c.is_empty.result ≡ (length c.loop-part.messages.items == 0) = c.is_empty.ensures ∙ ap (λ (n : ℕ). n == 0) count in
     let m = c.in-Ok.checked in
     let kept = loops_next c.args.conn.now c.loop-part.conn c.check_one.new.conn c.args.sealed c.args.bytes.now c.args.from c.args.spans.now
-    c.loop-part.part-index c.loop-part.behind_setup c.loop-part.messages.items
+    c.loop-part.part-index c.loop-part.barred c.loop-part.messages.items
     (slice_index_or c.args.spans.now c.loop-part.part-index none) none c.moved-span.result m c.requires.spans
     (let t = c.loop-part-test.true in omega (arith, t)) refl
     c.requires.text c.moved-span.ensures.0 c.moved-span.ensures.1
-    (λ j g e h. as_placed j g e c.args.sealed c.loop-part.behind_setup c.is_empty.result (length c.loop-part.messages.items == 0)
+    (λ j g e h. as_placed j g e c.args.sealed c.loop-part.barred c.is_empty.result (length c.loop-part.messages.items == 0)
     c.check_one.new.conn c.placed-message.result.now (bytes_of c.args.bytes.now c.moved-span.result) c.moved-span.result (Ok m)
     first c.placed-message.ensures.value (c.in-Ok.ensures.turn j g e h)) c.loop-part.invariant.0 in
-    let setup : (c.loop-part.behind_setup || (m.header.command == 1)) ≡ c.if-behind_setup.behind_setup =
-    elim c.if-behind_setup.branch [
-      | then-behind_setup w ↦ ap (λ (b : Bool). b || (m.header.command == 1)) w.if-behind_setup.true
-          ∙ (sym w.if-behind_setup.true ∙ sym w.behind_setup-is)
-      | else-behind_setup w ↦ ap (λ (b : Bool). b || (m.header.command == 1)) w.if-behind_setup.false ∙ sym w.behind_setup-is
-    ] in
+    let setup : (c.loop-part.barred || ((m.header.command == 1) || is_some m.fault)) ≡ c.bars-barred.result = sym c.bars-barred.ensures in
     let placed = places_next c.args.from (length c.args.bytes.now) c.args.spans.now c.loop-part.part-index c.loop-part.messages.items
     (slice_index_or c.args.spans.now c.loop-part.part-index none) none c.moved-span.result m
     (let t = c.loop-part-test.true in omega (arith, t)) refl c.moved-span.ensures.0 c.moved-span.ensures.1 c.in-Ok.ensures.place
@@ -92,7 +86,7 @@ loop-part-preserved c =
     (drop c.args.from c.args.bytes.now) c.args.spans.now (c.loop-part.part-index + 1) b c.push.new.self.items) setup
     (subst (λ (ms : List Checked). Loops c.args.conn.now c.check_one.new.conn c.args.sealed c.args.bytes.now
     (drop c.args.from c.args.bytes.now) c.args.spans.now (c.loop-part.part-index + 1)
-    (c.loop-part.behind_setup || (m.header.command == 1)) ms) (sym c.in-Ok-push.ensures.items) kept) in
+    (c.loop-part.barred || ((m.header.command == 1) || is_some m.fault)) ms) (sym c.in-Ok-push.ensures.items) kept) in
     let stands = subst (λ (ms : List Checked). Places c.args.from (length c.args.bytes.now) c.args.spans.now
     (c.loop-part.part-index + 1) ms)
     (sym c.in-Ok-push.ensures.items) placed in
@@ -106,6 +100,6 @@ returns-clause-places c =
 pub returns-clause-checks : goal.returns-clause-checks
 returns-clause-checks c = λ k guid f shown.
     loops_whole c.args.conn.now c.loop-part.conn c.args.sealed c.args.bytes.now (drop c.args.from c.args.bytes.now) c.args.spans.now
-    c.loop-part.part-index c.loop-part.behind_setup c.loop-part.messages.items k guid f c.requires.some
+    c.loop-part.part-index c.loop-part.barred c.loop-part.messages.items k guid f c.requires.some
     (let t = c.loop-part-test.false in omega (arith, t))
     c.loop-part.invariant.0 shown

@@ -9,7 +9,7 @@ returns-in-Err-clause-turn c = λ k guid f s.
 
 pub returns-in-Ok-admit-clause-turn : goal.returns-in-Ok-admit-clause-turn
 returns-in-Ok-admit-clause-turn c = λ k guid f s.
-    one_goes k guid c.in-Ok.header c.args.message.now f c.args.place.sealed c.args.place.behind_setup c.args.place.first c.admit.new.conn
+    one_goes k guid c.in-Ok.header c.args.message.now f c.args.place.sealed c.args.place.barred c.args.place.first c.admit.new.conn
     c.args.span (record {
       header = c.in-Ok.header;
       related = c.is_related-related.result;
@@ -21,5 +21,5 @@ returns-in-Ok-admit-clause-turn c = λ k guid f s.
 
 pub returns-in-Err-admit-clause-turn : goal.returns-in-Err-admit-clause-turn
 returns-in-Err-admit-clause-turn c = λ k guid f s.
-    one_ends k guid c.in-Ok.header c.args.message.now f c.args.place.sealed c.args.place.behind_setup c.args.place.first c.admit.new.conn
+    one_ends k guid c.in-Ok.header c.args.message.now f c.args.place.sealed c.args.place.barred c.args.place.first c.admit.new.conn
     c.args.span c.in-Err-admit.cause c.in-Ok.ensures (c.in-Err-admit.ensures k guid f s)

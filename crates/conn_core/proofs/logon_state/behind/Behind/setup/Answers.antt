@@ -11,6 +11,10 @@ pub returns-in-Stays : goal.returns-in-Stays
 returns-in-Stays c = λ nonces f s shows moves settles raw.
     moved_stays nonces c.args.self.now f s c.args.response.now shows (subst (λ (p : Progress). MovesAs p s) c.in-Stays.is moves)
 
+pub returns-in-Refused : goal.returns-in-Refused
+returns-in-Refused c = λ nonces f s shows moves settles raw.
+    moved_stays nonces c.args.self.now f s c.args.response.now shows (subst (λ (p : Progress). MovesAs p s) c.in-Refused.is moves)
+
 pub returns-in-Interim : goal.returns-in-Interim
 returns-in-Interim c = λ nonces f s shows moves settles raw.
     let heard = subst (λ (p : Progress). IsHashed p s c.args.request.now) c.in-Interim.is raw in
