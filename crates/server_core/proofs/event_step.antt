@@ -7,5 +7,5 @@ mod Lacking
 mod Moments
 mod Out
 mod Refused
-mod Said
+pub mod Said
 mod Without

@@ -1,9 +1,9 @@
 -- What a connection is told, from what the server answers.
-use Rattle.std.proofs.Common.{◌≡◌, ℕ, ◌==◌, ◌||◌, Bool, true, false, if◌then◌else◌, List, [], ◌++◌, ◌⊎◌, inl, inr, refl}
+use Rattle.std.proofs.Common.{◌≡◌, ℕ, ◌==◌, ◌&&◌, ◌||◌, not, Bool, true, false, if◌then◌else◌, List, [], ◌++◌, ◌⊎◌, inl, inr, refl}
 use Rattle.std.proofs.Common.{sym, ap, subst, ◌∙◌}
 use Rattle.std.proofs.Common.{Option, Some, None, is_some, Result, Ok, Err, IfOk}
 use Rattle.std.proofs.lemmas.List.{append-nil}
-use Rattle.server_core.specs.event_replies.Told.{IsBookTold, ProgressTold, SetupTold}
+use Rattle.server_core.specs.event_replies.Told.{IsBookTold, ProgressTold, SetupTold, refused_progress}
 use Rattle.server_core.specs.declared.event_replies.progress.Logon.{Logon}
 use Rattle.spec_commands.specs.ReplyBody.{reply_body, seals_in}
 use Rattle.wire_commands.specs.values.Meaning.{body_of, command_of, message_of, reply_of}
@@ -12,6 +12,7 @@ use Rattle.wire_commands.specs.declared.values.request.Message.{Message}
 use Rattle.conn_ends.specs.declared.conn.Progress.{Progress}
 use Rattle.conn_ends.specs.declared.conn.Progress.TheVariants as goes
 use Rattle.conn_core.specs.served.Serving.{Halts, IsNamed, IsServerPlain, IsProgress, IsServerServed, IsServerShort}
+use Rattle.conn_core.specs.served.Serving.{RefusesBy, has_own_signature, refusal_due}
 use Rattle.conn_core.specs.served.Serving.{ServerLacks, ServerLoses, ServerReplies, ServerServes, Showing}
 use Rattle.conn_core.specs.declared.served.error.ServeError.{ServeError}
 use Rattle.conn_core.specs.declared.served.error.ServeError.TheVariants as errors
@@ -29,7 +30,7 @@ use Rattle.conn_ends.specs.frame_messages.Checking.{IsDenied}
 use Rattle.server_checks.specs.event_heard.Heard.{heard_event, without_token}
 use Rattle.server_checks.specs.declared.event_heard.event.ServerEvent.{ServerEvent}
 use Rattle.server_checks.specs.declared.event_heard.event.ServerEvent.TheVariants as events
-use Rattle.server_core.specs.disk_server.Asked.{HasShape, BookLogonIs}
+use Rattle.server_core.specs.disk_server.Asked.{HasShape, BookLogonIs, IsBookLogon, signs_binding}
 use Rattle.server_core.specs.disk_server.Telling.{TellsAnswer, refusal}
 use Rattle.server_core.specs.Shown.{HoldsServer, config_of, state_of}
 use Rattle.server_core.specs.declared.server.Server.{Server}
@@ -48,6 +49,7 @@ use Rattle.spec_world.specs.Ends.{Logons}
 use Rattle.spec_world.specs.Lacking.{alone_records}
 use Rattle.spec_world.specs.Logon as logon
 use Rattle.spec_world.specs.Logon.{answer_token_by}
+use Rattle.server_core.proofs.logon_progress.Along.{present_kept}
 
 -- ---- a message that isn't a SESSION_SETUP, NEGOTIATE or ECHO is heard as it is, and answered by the step
 
@@ -146,28 +148,80 @@ by_tests interim done binds body =
     else if done then logon.Final binds (logon.channel_in body) (seals_in body)
     else logon.Stays
 
-told_progress : (users : List User) (L : Logons) (q : SetupHeard) (now : ℕ) (l : Logon) (a : Answer) (p : Progress) (interim done : Bool)
-    (body : model.Body) (present : Bool) → l.binds ≡ q.form.binding
-    → l.signer ≡ (if present then Some (L.keys q.session_id).signing else None) → body_of a.reply.body ≡ body
+-- a refusal, where the session is live: its own key judged the request and signs; and where it isn't
+refused_live_as : (binds signed own_signed deleted : Bool) (algorithm : ℕ) (k : Signer) (own : Option Signer)
+    → RefusesBy (if not binds then goes.Stays else if deleted then goes.Refused None
+    else goes.Refused (if not signed || not (binds && own_signed) then None else Some (record k { algorithm = algorithm }))) own
+    (if binds then (if deleted then None else if not signed || not own_signed then None else Some (record k { algorithm = algorithm })) else own)
+refused_live_as false signed own_signed deleted algorithm k own = refl
+refused_live_as true signed own_signed true algorithm k own = refl
+refused_live_as true signed own_signed false algorithm k own = refl
+
+refused_gone_as : (binds deleted : Bool) (own : Option Signer)
+    → RefusesBy (if not binds then goes.Stays else if deleted then goes.Refused None else goes.Stays) own
+    (if binds then (if deleted then None else own) else own)
+refused_gone_as false deleted own = refl
+refused_gone_as true true own = refl
+refused_gone_as true false own = refl
+
+refused_as : (users : List User) (s : model.Server) (L : Logons) (q : SetupHeard) (l : Logon) (status : ℕ) (present : Bool)
+    → s.present q.session_id ≡ present → IsBookLogon s L q l → (own : Option Signer)
+    → RefusesBy (refused_progress l status) own (refusal_due users s L q present status own)
+refused_as users s L q l status true e known own =
+    let k = (L.keys q.session_id).signing in
+    let signer : l.signer ≡ Some k = known.signer ∙ ap (λ (b : Bool). if b then Some k else None) e in
+    let verified : l.verified ≡ (q.form.binding && has_own_signature L q) = known.verified ∙ ap (λ (o : Option Signer). signs_binding q o) signer in
+    let told : refused_progress l status ≡ refused_progress (record {
+      binds = q.form.binding;
+      signed = q.form.signed;
+      verified = q.form.binding && has_own_signature L q;
+      algorithm = q.chosen.signing;
+      signer = Some k;
+    }) status =
+    λ i. refused_progress (record {
+      binds = known.binds i;
+      signed = known.signed i;
+      verified = verified i;
+      algorithm = known.algorithm i;
+      signer = signer i;
+    }) status in
+    subst (λ (x : Progress). RefusesBy x own (refusal_due users s L q true status own)) (sym told)
+    (refused_live_as q.form.binding q.form.signed (has_own_signature L q) (status == user_session_deleted)
+    q.chosen.signing k own)
+refused_as users s L q l status false e known own =
+    let k = (L.keys q.session_id).signing in
+    let signer : l.signer ≡ None = known.signer ∙ ap (λ (b : Bool). if b then Some k else None) e in
+    let told : refused_progress l status ≡ refused_progress (record l { binds = q.form.binding; signer = None }) status =
+    λ i. refused_progress (record l { binds = known.binds i; signer = signer i }) status in
+    subst (λ (x : Progress). RefusesBy x own (refusal_due users s L q false status own)) (sym told)
+    (refused_gone_as q.form.binding (status == user_session_deleted) own)
+
+told_progress : (users : List User) (s : model.Server) (L : Logons) (q : SetupHeard) (now : ℕ) (l : Logon) (a : Answer) (p : Progress)
+    (interim done : Bool) (body : model.Body) (live : Bool) (status : ℕ) → IsBookLogon s L q l → body_of a.reply.body ≡ body
+    → a.reply.status ≡ status → (by_tests interim done q.form.binding body ≡ logon.Stays → live ≡ s.present q.session_id)
     → SetupAnswers users L q now (by_tests interim done q.form.binding body) a.token a.keys a.channel
     → SetupTold l a (by_tests interim done q.form.binding body) p
-    → IsProgress users L q (by_tests interim done q.form.binding body) p
-told_progress users L q now l a (goes.Interim signer) true done body present binds own same k t =
-    subst (λ (b : Bool). signer ≡ (if b then Some (L.keys q.session_id).signing else None)) binds
-    (signed l.binds present (L.keys q.session_id).signing l.signer signer own t.0 t.1)
-told_progress users L q now l a goes.Stays true done body present binds own same k t = absurd t
-told_progress users L q now l a (goes.Final keys number seals) true done body present binds own same k t = absurd t
-told_progress users L q now l a (goes.Final keys number seals) false true body present binds own same k t = (
+    → IsProgress users s L q live status (by_tests interim done q.form.binding body) p
+told_progress users s L q now l a (goes.Interim signer) true done body live status known same word kept k t =
+    subst (λ (b : Bool). signer ≡ (if b then Some (L.keys q.session_id).signing else None)) known.binds
+    (signed l.binds (s.present q.session_id) (L.keys q.session_id).signing l.signer signer known.signer t.0 t.1)
+told_progress users s L q now l a goes.Stays true done body live status known same word kept k t = absurd t
+told_progress users s L q now l a (goes.Refused signer) true done body live status known same word kept k t = absurd t
+told_progress users s L q now l a (goes.Final keys number seals) true done body live status known same word kept k t = absurd t
+told_progress users s L q now l a (goes.Final keys number seals) false true body live status known same word kept k t = (
   some_same keys (keys_behind users L q q.form.binding) (sym t.0 ∙ k.1),
   t.1,
   some_same number (logon.channel_in body) (sym t.2 ∙ k.2),
   t.3 ∙ ap (λ (b : model.Body). seals_in b) same,
 )
-told_progress users L q now l a goes.Stays false true body present binds own same k t = absurd t
-told_progress users L q now l a (goes.Interim signer) false true body present binds own same k t = absurd t
-told_progress users L q now l a goes.Stays false false body present binds own same k t = tt
-told_progress users L q now l a (goes.Interim signer) false false body present binds own same k t = absurd t
-told_progress users L q now l a (goes.Final keys number seals) false false body present binds own same k t = absurd t
+told_progress users s L q now l a goes.Stays false true body live status known same word kept k t = absurd t
+told_progress users s L q now l a (goes.Refused signer) false true body live status known same word kept k t = absurd t
+told_progress users s L q now l a (goes.Interim signer) false true body live status known same word kept k t = absurd t
+told_progress users s L q now l a p false false body live status known same word kept k t =
+    λ own. subst (λ (x : Progress). RefusesBy x own (refusal_due users s L q live status own))
+    (sym (t ∙ ap (λ (n : ℕ). refused_progress l n) word))
+    (subst (λ (b : Bool). RefusesBy (refused_progress l status) own (refusal_due users s L q b status own)) (sym (kept refl))
+    (refused_as users s L q l status (s.present q.session_id) refl known own))
 
 token_is : (users : List User) (L : Logons) (q : SetupHeard) (now : ℕ) (p : logon.Progress) (token : List ℕ) (keys : Option Keys)
     (channel : Option ℕ) → SetupAnswers users L q now p token keys channel
@@ -232,7 +286,7 @@ module _ {D : Type 0} (told : Type 0) (seen : D → List ℕ) (may_leave : D →
       let reply : reply_of a.reply ≡ A.reply = k.1 in
       let own : SetupTold l a p r.progress =
       subst (λ (R : model.Reply). SetupTold l a (logon.setup_progress q.form.binding R) r.progress) reply
-      (subst (λ (b : Bool). SetupTold l a (logon.setup_progress b (reply_of a.reply)) r.progress) known.0 t.progress) in
+      (subst (λ (b : Bool). SetupTold l a (logon.setup_progress b (reply_of a.reply)) r.progress) known.binds t.progress) in
       let token = token_is users L q now p a.token a.keys a.channel beside in (
         record {
           named = subst (λ (R : model.Reply). IsNamed r R) reply t.named;
@@ -244,8 +298,9 @@ module _ {D : Type 0} (told : Type 0) (seen : D → List ℕ) (may_leave : D →
           short = t.short;
           acted = t.acted ∙ k.2;
         },
-        told_progress users L q now l a r.progress (A.reply.status == more_processing_required) (A.reply.status == success)
-            A.reply.body (s.present q.session_id) known.0 known.1 (ap (λ (R : model.Reply). R.body) reply) beside own,
+        told_progress users s L q now l a r.progress (A.reply.status == more_processing_required) (A.reply.status == success)
+            A.reply.body (A.server.present q.session_id) A.reply.status known (ap (λ (R : model.Reply). R.body) reply)
+            (ap (λ (R : model.Reply). R.status) reply) (λ e. present_kept s now m q.session_id refl (steady ∙ e)) beside own,
         show A.server (setup_logons users L q now p) (records ++ A.records)
             (subst (λ (x : logon.Progress). JournaledHolds told seen may_leave c A.server (setup_logons users L q now x)
             (records ++ A.records))

@@ -8,7 +8,7 @@ use Rattle.wire_commands.specs.writing.Writing.{IsBodyRefused}
 use Rattle.wire_commands.specs.declared.writing.fault.WriteError.{WriteError}
 use Rattle.wire_commands.specs.declared.writing.fault.WriteError.TheVariants.{Memory, Unwritable}
 use Rattle.conn_ends.specs.declared.conn.Progress.{Progress}
-use Rattle.conn_ends.specs.declared.conn.Progress.TheVariants.{Stays, Interim, Final}
+use Rattle.conn_ends.specs.declared.conn.Progress.TheVariants.{Stays, Refused, Interim, Final}
 use Rattle.server_effects.specs.declared.answering.Answer.{Answer}
 use Rattle.spec_crypto.specs.declared.sessions.material.Keys.{Keys}
 use Rattle.spec_crypto.specs.declared.sessions.material.Signer.{Signer}
@@ -31,22 +31,26 @@ some_same x y e = cc
 -- who binds has a session that signs
 pub no_signer : (l : Logon) → l.binds ≡ true → l.signer ≡ None → (p : Progress) → InterimTold l p → ⊥
 no_signer l binds none Stays t = t
+no_signer l binds none (Refused signer) t = t
 no_signer l binds none (Interim signer) t = none_there l.signer none (t.1 binds)
 no_signer l binds none (Final keys number seals) t = t
 
 -- a final response has keys of a known cipher, and a number
 pub no_keys : (a : Answer) → a.keys ≡ None → (p : Progress) → FinalTold a p → ⊥
 no_keys a none Stays t = t
+no_keys a none (Refused signer) t = t
 no_keys a none (Interim signer) t = t
 no_keys a none (Final keys number seals) t = none_some a.keys keys none t.0
 
 pub no_number : (a : Answer) → a.channel ≡ None → (p : Progress) → FinalTold a p → ⊥
 no_number a none Stays t = t
+no_number a none (Refused signer) t = t
 no_number a none (Interim signer) t = t
 no_number a none (Final keys number seals) t = none_some a.channel number none t.2
 
 pub no_cipher : (a : Answer) (k : Keys) → a.keys ≡ Some k → 4 < k.cipher → (p : Progress) → FinalTold a p → ⊥
 no_cipher a k is above Stays t = t
+no_cipher a k is above (Refused signer) t = t
 no_cipher a k is above (Interim signer) t = t
 no_cipher a k is above (Final keys number seals) t =
     let same : k.cipher ≡ keys.cipher = ap (λ (x : Keys). x.cipher) (some_same k keys (sym is ∙ t.0)) in

@@ -1,6 +1,6 @@
 -- What a reply says of a logon, along the checks of a SESSION_SETUP.
 use Rattle.std.proofs.Common.{◌≡◌, ℕ, ◌==◌, nat_le, Bool, true, false, not, ◌&&◌, ◌||◌, if◌then◌else◌, List}
-use Rattle.std.proofs.Common.{length, Option, Some, None, is_some, refl, sym, ap, subst, ◌∙◌}
+use Rattle.std.proofs.Common.{length, Option, Some, None, is_some, inl, inr, refl, sym, ap, subst, ◌∙◌}
 use Rattle.spec_exchange.specs.Texts.{same_name}
 use Rattle.spec_exchange.specs.Status.{access_denied, insufficient_resources, invalid_parameter, logon_failure}
 use Rattle.spec_exchange.specs.Status.{more_processing_required, request_not_accepted, success, user_session_deleted}
@@ -14,13 +14,15 @@ use Rattle.spec_exchange.specs.CheckSetup.{count_channels, max_channels, max_num
 use Rattle.spec_exchange.specs.Check.{check, owed, formed, command_check, has_session}
 use Rattle.spec_exchange.specs.Effects.{apply}
 use Rattle.spec_exchange.specs.Verdict.{Verdict, Refuse, Challenge, ChallengeBinding, Begin, Join}
-use Rattle.spec_exchange.specs.Step.{TakesIn, TurnsAway, carried_out, max_connections, ruling, ruling_without_room, without_room}
+use Rattle.spec_exchange.specs.Step.{TakesIn, TurnsAway, carried_out, max_connections, ruling, ruling_without_room, step, with_deadlines, without_room}
 use Rattle.spec_world.specs.Logon.{Stays, Interim, Final, progress, setup_progress}
 use Rattle.server_checks.specs.setups.Setups.{progress_of, unless_fault}
 use Rattle.law_server.proofs.tables.Logic.{either, front_off}
+use Rattle.law_server.proofs.tables.Doors.{Before, Finds, by_verdict}
 use Rattle.law_server.proofs.tables.Found.{Facts}
 use Rattle.law_server.proofs.tables.Checked.{checked}
 use Rattle.server_core.specs.logon_progress.Progress.{ruled_progress, verdict_progress}
+use Rattle.server_core.proofs.event_step.Said.{same_present}
 
 -- ---- a SESSION_SETUP whose body reads
 
@@ -28,6 +30,9 @@ use Rattle.server_core.specs.logon_progress.Progress.{ruled_progress, verdict_pr
 record Tells (s : Server) (m : Message) (now : ℕ) (binding : Bool) (v : Verdict) : Type 0 where
   told : setup_progress binding (apply s m now v).reply ≡ verdict_progress s v
   lesser : setup_progress binding (apply s m now (without_room v)).reply ≡ verdict_progress s v
+  -- the same sessions are live, where nothing comes of it
+  kept : verdict_progress s v ≡ Stays → (apply s m now v).server.present ≡ s.present
+  kept_lesser : verdict_progress s v ≡ Stays → (apply s m now (without_room v)).server.present ≡ s.present
 
 -- where it is refused, by a status that is neither a success nor asks for more
 stays_by : (x y b encrypts : Bool) (n : ℕ) → x ≡ false → y ≡ false
@@ -39,20 +44,21 @@ stays_by false false b encrypts n e h = refl
 off : (s : Server) (m : Message) (now : ℕ) (b : Bool) (status : ℕ) → (status == more_processing_required) ≡ false
     → (status == success) ≡ false → Tells s m now b (Refuse status)
 off s m now b status p q =
-    let e = stays_by (status == more_processing_required) (status == success) b false 0 p q in record { told = e; lesser = e }
+    let e = stays_by (status == more_processing_required) (status == success) b false 0 p q in
+    record { told = e; lesser = e; kept = λ h. refl; kept_lesser = λ h. refl }
 
 begins : (s : Server) (m : Message) (now x : ℕ) (user : List ℕ) (previous : Option ℕ) (r : SetupRequest) (q : Bool)
     → Tells s m now false (Begin x user previous r q)
-begins s m now x user previous r q = record { told = refl; lesser = refl }
+begins s m now x user previous r q = record { told = refl; lesser = refl; kept = λ h. absurd (cc); kept_lesser = λ h. absurd (cc) }
 
 challenges : (s : Server) (m : Message) (now : ℕ) → Tells s m now false Challenge
-challenges s m now = record { told = refl; lesser = refl }
+challenges s m now = record { told = refl; lesser = refl; kept = λ h. absurd (cc); kept_lesser = λ h. absurd (cc) }
 
 challenges_binding : (s : Server) (m : Message) (now x : ℕ) → Tells s m now true (ChallengeBinding x)
-challenges_binding s m now x = record { told = refl; lesser = refl }
+challenges_binding s m now x = record { told = refl; lesser = refl; kept = λ h. absurd (cc); kept_lesser = λ h. absurd (cc) }
 
 joins : (s : Server) (m : Message) (now x : ℕ) → Tells s m now true (Join x)
-joins s m now x = record { told = refl; lesser = refl }
+joins s m now x = record { told = refl; lesser = refl; kept = λ h. absurd (cc); kept_lesser = λ h. absurd (cc) }
 
 granted : (s : Server) (m : Message) (now : ℕ) (r : SetupRequest) (user : List ℕ) → Tells s m now false (granted_session s m r user)
 granted s m now r user =
@@ -142,9 +148,12 @@ set_up s m now r = by r.binding
 record TellsOf (s : Server) (m : Message) (now : ℕ) (c : Command) (v : Verdict) : Type 0 where
   told : progress c (apply s m now v).reply ≡ verdict_progress s v
   lesser : progress c (apply s m now (without_room v)).reply ≡ verdict_progress s v
+  kept : verdict_progress s v ≡ Stays → (apply s m now v).server.present ≡ s.present
+  kept_lesser : verdict_progress s v ≡ Stays → (apply s m now (without_room v)).server.present ≡ s.present
 
 commanded : (s : Server) (m : Message) (now : ℕ) (c : Command) → is_setup c ≡ true → TellsOf s m now c (command_check s m c)
-commanded s m now (Setup r) h = let t = set_up s m now r in record { told = t.told; lesser = t.lesser }
+commanded s m now (Setup r) h =
+    let t = set_up s m now r in record { told = t.told; lesser = t.lesser; kept = t.kept; kept_lesser = t.kept_lesser }
 commanded s m now _ h = absurd (cc)
 
 -- its body doesn't read
@@ -152,7 +161,7 @@ unread : (s : Server) (m : Message) (now : ℕ) (c : Command) (status : ℕ) →
 unread s m now (Setup r) status e = subst (λ (n : ℕ). TellsOf s m now (Setup r) (Refuse n)) (by r.readable e) invalid
   where
     invalid : TellsOf s m now (Setup r) (Refuse invalid_parameter)
-    invalid = record { told = refl; lesser = refl }
+    invalid = record { told = refl; lesser = refl; kept = λ h. refl; kept_lesser = λ h. refl }
 
     value : Option ℕ → ℕ
     value None = 0
@@ -161,7 +170,7 @@ unread s m now (Setup r) status e = subst (λ (n : ℕ). TellsOf s m now (Setup 
     by : (b : Bool) → (if b then None else Some invalid_parameter) ≡ Some status → invalid_parameter ≡ status
     by true k = absurd (cc)
     by false k = ap value k
-unread s m now _ status e = record { told = refl; lesser = refl }
+unread s m now _ status e = record { told = refl; lesser = refl; kept = λ h. refl; kept_lesser = λ h. refl }
 
 formed_told : (s : Server) (m : Message) (now : ℕ) (u : Option ℕ) → form m.command ≡ u → is_setup m.command ≡ true
     → TellsOf s m now m.command (formed s m u)
@@ -172,11 +181,14 @@ formed_told s m now None e h = commanded s m now m.command h
 record TellsHeard (s : Server) (m : Message) (now : ℕ) (u : Option ℕ) (v : Verdict) : Type 0 where
   told : unless_fault u (progress m.command (apply s m now v).reply) ≡ verdict_progress s v
   lesser : unless_fault u (progress m.command (apply s m now (without_room v)).reply) ≡ verdict_progress s v
+  kept : is_setup m.command ≡ true → verdict_progress s v ≡ Stays → (apply s m now v).server.present ≡ s.present
+  kept_lesser : is_setup m.command ≡ true → verdict_progress s v ≡ Stays → (apply s m now (without_room v)).server.present ≡ s.present
 
 owed_told : (s : Server) (m : Message) (now : ℕ) (u : Option ℕ) → is_setup m.command ≡ true → TellsHeard s m now u (owed s m u)
-owed_told s m now (Some status) h = record { told = refl; lesser = refl }
+owed_told s m now (Some status) h = record { told = refl; lesser = refl; kept = λ q e. refl; kept_lesser = λ q e. refl }
 owed_told s m now None h =
-    let t = formed_told s m now (form m.command) refl h in record { told = t.told; lesser = t.lesser }
+    let t = formed_told s m now (form m.command) refl h in
+    record { told = t.told; lesser = t.lesser; kept = λ q e. t.kept e; kept_lesser = λ q e. t.kept_lesser e }
 
 on_and_off : (b : Bool) → b ≡ true → b ≡ false → ⊥
 on_and_off b e h = let k : true ≡ false = sym e ∙ h in cc
@@ -212,6 +224,8 @@ plain_told s m now h =
       told = ap (unless_fault m.fault) (quiet_command m.command (apply s m now (check s m)).reply h) ∙ (no_fault m.fault ∙ k);
       lesser = ap (unless_fault m.fault) (quiet_command m.command (apply s m now (without_room (check s m))).reply h)
           ∙ (no_fault m.fault ∙ k);
+      kept = λ q e. absurd (on_and_off (is_setup m.command) q h);
+      kept_lesser = λ q e. absurd (on_and_off (is_setup m.command) q h);
     }
 
 message_told : (s : Server) (m : Message) (now : ℕ) → TellsHeard s m now m.fault (check s m)
@@ -260,3 +274,31 @@ refusal_status s m r status c f e =
     let b = subst (λ (k : Command). unless_fault m.fault (progress k (apply s m 0 (Refuse status)).reply) ≡ Stays) c a in
     let d = subst (λ (u : Option ℕ). unless_fault u (progress (Setup r) (apply s m 0 (Refuse status)).reply) ≡ Stays) f b in
     neither (status == more_processing_required) (status == success) r.binding false 0 d
+
+-- ---- a SESSION_SETUP of which nothing comes leaves the live sessions as they are
+
+found_kept : (t : Server) (m : Message) (now : ℕ) (v : Verdict) (x : ℕ) → is_setup m.command ≡ true → Finds t m v
+    → unless_fault m.fault (progress m.command (apply t m now v).reply) ≡ Stays → (apply t m now v).server.present x ≡ t.present x
+found_kept t m now v x q (inl e) stays =
+    let a = message_told t m now in
+    subst (λ (y : Verdict). unless_fault m.fault (progress m.command (apply t m now y).reply) ≡ Stays
+    → (apply t m now y).server.present x ≡ t.present x) (sym e)
+    (λ h. ap (λ (p : ℕ → Bool). p x) (a.kept q (sym a.told ∙ h))) stays
+found_kept t m now v x q (inr e) stays =
+    let a = message_told t m now in
+    subst (λ (y : Verdict). unless_fault m.fault (progress m.command (apply t m now y).reply) ≡ Stays
+    → (apply t m now y).server.present x ≡ t.present x) (sym e)
+    (λ h. ap (λ (p : ℕ → Bool). p x) (a.kept_lesser q (sym a.lesser ∙ h))) stays
+
+-- the expiry of an open does too
+before_kept : (s : Server) (now : ℕ) (t : Server) (x : ℕ) → Before s now t → t.present x ≡ s.present x
+before_kept s now t x (inl e) = ap (λ (y : Server). y.present x) e
+before_kept s now t x (inr e) =
+    ap (λ (y : Server). y.present x) e.2 ∙ ap (λ (p : ℕ → Bool). p x) (same_present (with_deadlines s now) e.0)
+
+pub present_kept : (s : Server) (now : ℕ) (m : Message) (x : ℕ) → is_setup m.command ≡ true
+    → unless_fault m.fault (progress m.command (step s now (Heard m)).reply) ≡ Stays
+    → (step s now (Heard m)).server.present x ≡ s.present x
+present_kept s now m x q =
+    by_verdict (λ A. unless_fault m.fault (progress m.command A.reply) ≡ Stays → A.server.present x ≡ s.present x) s now m
+    (λ t v records b f stays. found_kept t m now v x q f stays ∙ before_kept s now t x b)

@@ -1,6 +1,8 @@
 -- The reply that connections see, from the server's answer.
-use Rattle.std.specs.Prelude.{◌≡◌, ◌≤◌, ◌<◌, ◌⊎◌, true, if◌then◌else◌, length, Option, Some, None, is_some, ⊤}
+use Rattle.std.specs.Prelude.{◌≡◌, ◌≤◌, ◌<◌, ◌⊎◌, ◌==◌, ℕ, Bool, true, not, ◌&&◌, ◌||◌, if◌then◌else◌, length, Option, Some, None, is_some, ⊤}
 use Rattle.server_core.specs.declared.event_replies.progress.Logon.{Logon}
+use Rattle.spec_crypto.specs.declared.sessions.material.Signer.{Signer}
+use Rattle.spec_exchange.specs.Status.{user_session_deleted}
 use Rattle.spec_commands.specs.Fits.{FitsReply}
 use Rattle.spec_commands.specs.ReplyBody.{reply_body, seals_in}
 use Rattle.wire_commands.specs.values.Meaning.{body_of, command_of, reply_of}
@@ -8,7 +10,7 @@ use Rattle.wire_commands.specs.declared.values.command.Command.{Command}
 use Rattle.wire_commands.specs.declared.writing.fault.WriteError.{WriteError}
 use Rattle.wire_commands.specs.declared.writing.fault.WriteError.TheVariants.{Memory, Unwritable}
 use Rattle.conn_ends.specs.declared.conn.Progress.{Progress}
-use Rattle.conn_ends.specs.declared.conn.Progress.TheVariants.{Interim, Final}
+use Rattle.conn_ends.specs.declared.conn.Progress.TheVariants.{Stays, Refused, Interim, Final}
 use Rattle.conn_core.specs.served.Serving.{IsNamed, IsServerShort, ServerStands}
 use Rattle.conn_core.specs.declared.served.serve.Reply.{Reply}
 use Rattle.server_effects.specs.declared.answering.Answer.{Answer}
@@ -27,8 +29,23 @@ FinalTold a (Final keys number seals) = (a.keys ≡ Some keys) × (keys.cipher �
     × (seals ≡ seals_in (body_of a.reply.body))
 FinalTold a _ = ⊥
 
+-- a refusal: of a binding to a live session that session signs it, or nobody does
+abbrev pub lacks_own : Logon → Bool
+lacks_own l = not l.signed || not l.verified
+
+abbrev pub refused_live : Logon → Option Signer → Progress
+refused_live l None = Stays
+refused_live l (Some own) =
+    Refused (if lacks_own l then None else Some (record own { algorithm = l.algorithm }))
+
+abbrev pub refused_progress : Logon → ℕ → Progress
+refused_progress l status =
+    if not l.binds then Stays
+    else if status == user_session_deleted then Refused None
+    else refused_live l l.signer
+
 abbrev pub SetupTold : Logon → Answer → logon.Progress → Progress → Type 0
-SetupTold l a logon.Stays p = ServerStands p
+SetupTold l a logon.Stays p = p ≡ refused_progress l a.reply.status
 SetupTold l a (logon.Interim binding) p = InterimTold l p
 SetupTold l a (logon.Final binding channel encrypts) p = FinalTold a p
 

@@ -90,6 +90,30 @@ impl<D: Disk> Book<D> {
     }
 
     // An event of a server that goes on: the room first.
+    fn go_with(
+        &mut self,
+        now: u64,
+        event: ServerEvent<'_>,
+        logon: &Option<Logon>,
+    ) -> Result<Reply, ServeError>
+        requires { stopped_of self.old.server ≡ None }
+        ensures short { IfOk result (λ r. IsServerShort r) }
+        ensures serves { (users : List User) (s : model.Server) (L : Logons) (records : List model.Record)
+            → ShowsBook D.told D.seen D.may_leave self.old users s L records → IsServerServed event.entry
+            → BookLogonIs s L event.entry logon.now
+            → ServerServes (ShowsBook D.told D.seen D.may_leave self.new users) users s L records now event.entry result }
+        ensures halts { (users : List User) (s : model.Server) (L : Logons) (records : List model.Record)
+            → ShowsBook D.told D.seen D.may_leave self.old users s L records
+            → Halts (stopped_of self.old.server) (stopped_of self.new.server) result }
+        ensures stops { (count : ℕ) → result ≡ Err (errors.Stopped count) → stopped_of self.new.server ≡ Some count }
+    {
+        let command = shape_in(self.alloc, &event);
+        match Vec::<u8>::with_capacity(self.alloc, room_for(&command)) {
+            Ok(room) => self.carry(now, event, &command, logon, room),
+            Err(_) => Err(ServeError::Memory),
+        }
+    }
+
     fn go_on(&mut self, now: u64, event: ServerEvent<'_>) -> Result<Reply, ServeError>
         requires { stopped_of self.old.server ≡ None }
         ensures short { IfOk result (λ r. IsServerShort r) }
@@ -101,10 +125,8 @@ impl<D: Disk> Book<D> {
             → Halts (stopped_of self.old.server) (stopped_of self.new.server) result }
         ensures stops { (count : ℕ) → result ≡ Err (errors.Stopped count) → stopped_of self.new.server ≡ Some count }
     {
-        let command = shape_in(self.alloc, &event);
-        let logon = logon_in(&self.server, &event);
-        match Vec::<u8>::with_capacity(self.alloc, room_for(&command)) {
-            Ok(room) => self.carry(now, event, &command, &logon, room),
+        match logon_in(&self.server, &event) {
+            Ok(logon) => self.go_with(now, event, &logon),
             Err(_) => Err(ServeError::Memory),
         }
     }

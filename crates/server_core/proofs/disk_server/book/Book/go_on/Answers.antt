@@ -4,11 +4,10 @@ use Rattle.server_core.proofs.disk_server.book.Book.go_on.Goals as goal
 
 pub returns-in-Ok : goal.returns-in-Ok
 returns-in-Ok g c = record {
-  short = c.carry.ensures.short;
-  serves = λ users s L records h served.
-      c.carry.ensures.serves users s L records h served c.shape_in-command.ensures (c.logon_in-logon.ensures s L records h.1);
-  halts = λ users s L records h. c.carry.ensures.halts users s L records h;
-  stops = λ count stop. c.carry.ensures.stops count stop;
+  short = c.go_with.ensures.short;
+  serves = λ users s L records h served. c.go_with.ensures.serves users s L records h served (c.in-Ok.ensures s L records h.1);
+  halts = λ users s L records h. c.go_with.ensures.halts users s L records h;
+  stops = λ count stop. c.go_with.ensures.stops count stop;
 }
 
 pub returns-in-Err : goal.returns-in-Err
