@@ -4,12 +4,13 @@ ghost use Rattle.std.specs.Prelude.{◌≤◌, length};
 
 use crate::connection_turns::turn::What;
 use base_outside::{News, SentName};
-use wire_bytes::{u8_at, u16_at, u32_at};
+use wire_bytes::{u16_at, u32_at};
 
 /// The ProtocolId of a message that is not sealed (MS-SMB2 2.2.1.2).
-const PLAIN: u32 = 0x424d_53fe;
+const PLAIN: &[u8] = b"\xfeSMB";
 
-const SESSION_SETUP: u16 = 1;
+/// The command of a SESSION_SETUP, as its two bytes stand in a header.
+const SESSION_SETUP: &[u8] = &[1, 0];
 
 /// SMB2_SESSION_FLAG_BINDING (2.2.5)
 const BINDING: u8 = 1;
@@ -75,39 +76,43 @@ fn token_of(message: &[u8]) -> &[u8]
     &message[at..at + length]
 }
 
-/// What a message asks, without its length, where it is a SESSION_SETUP that is not sealed.
-fn setup_in(message: &[u8]) -> Option<Asked> {
-    if message.len() < 64 || u16_at(message, 12) != SESSION_SETUP || u32_at(message, 0) != PLAIN {
-        return None;
-    }
+/// What a SESSION_SETUP asks.
+fn setup_asks(message: &[u8]) -> Asked {
     if message.len() < 88 {
-        return Some(Asked {
+        return Asked {
             binding: false,
             name: no_name(),
-        });
+        };
     }
-    let binding = u8_at(message, 66) & BINDING != 0;
+    let binding = message[66] & BINDING != 0;
     let name = match authenticate_in(token_of(message)) {
         Some(found) => name_of(found),
         None => no_name(),
     };
-    Some(Asked { binding, name })
+    Asked { binding, name }
+}
+
+/// A message, without its length, that is a SESSION_SETUP and not sealed.
+fn is_setup(message: &[u8]) -> bool {
+    message.len() >= 64 && message.starts_with(PLAIN) && message[12..].starts_with(SESSION_SETUP)
 }
 
 /// What a turn asks in its first message, where that is a SESSION_SETUP.
 pub(crate) fn asked_by(what: &What) -> Option<Asked> {
-    match what {
-        What::Frame(bytes) => setup_in(bytes.as_slice()),
-        What::Accept | What::End => None,
+    let What::Frame(bytes) = what else {
+        return None;
+    };
+    let message = bytes.as_slice();
+    if is_setup(message) {
+        return Some(setup_asks(message));
     }
+    None
 }
 
-/// What a frame brought that asked this, by the status of the first message of its answer. That stands behind its length.
-pub(crate) fn news_of(asked: Option<Asked>, answer: &[u8]) -> News {
-    let Some(Asked { binding, name }) = asked else {
-        return News::Nothing;
-    };
-    if answer.len() < 68 || u16_at(answer, 16) != SESSION_SETUP {
+/// What a SESSION_SETUP brought that asked this, by the status of the first message of its answer. That stands behind its length.
+fn setup_brought(asked: Asked, answer: &[u8]) -> News {
+    let Asked { binding, name } = asked;
+    if answer.len() < 68 || !answer[16..].starts_with(SESSION_SETUP) {
         return News::Nothing;
     }
     match u32_at(answer, 12) {
@@ -115,5 +120,13 @@ pub(crate) fn news_of(asked: Option<Asked>, answer: &[u8]) -> News {
         SUCCESS => News::LoggedOn(name),
         GOES_ON => News::Nothing,
         _ => News::Refused(name),
+    }
+}
+
+/// What a frame brought that asked this.
+pub(crate) fn news_of(asked: Option<Asked>, answer: &[u8]) -> News {
+    match asked {
+        Some(asked) => setup_brought(asked, answer),
+        None => News::Nothing,
     }
 }
