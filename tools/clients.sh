@@ -1,7 +1,7 @@
 #!/bin/bash
 # Tries real clients on a server: tools/clients.sh PROGRAM serve, PROGRAM by its whole path. It is begun as PROGRAM serve ADDR with its
 # settings on standard input, in a new folder. One line a check, and a count at the end; the status is 0 where none failed.
-# It wants Debian's smbclient (4.17) and python3-impacket (0.10); what is missing is said, and its checks are left out.
+# It wants Debian's smbclient (4.17), python3-impacket (0.10) and rclone (1.60); what is missing is said, and its checks are left out.
 # SIZES (bytes of the files that are put and got) and PORT may be given; LIMIT is how many seconds a client may take.
 top=$(cd "$(dirname "$0")/.." && pwd)
 sizes=${SIZES:-0 1 65536 1048577 50000000}; port=${PORT:-4450}; limit=${LIMIT:-600}
@@ -49,12 +49,21 @@ begin() {
 # stop: a kill is a crash, which the journal outlives.
 stop() { kill -9 "$server" 2>/dev/null; wait "$server" 2>/dev/null; server=; }
 
+ciphers="AES-128-GCM AES-128-CCM AES-256-GCM AES-256-CCM"; signings="AES-128-GMAC AES-128-CMAC"
+
 smb() { timeout "$limit" smbclient "//127.0.0.1/${SHARE:-data}" -p "$port" -t "$limit" -m SMB3_11 -U "${WHO:-user%Password}" "$@"; }
 
 # What a put and a get of a file give back.
 round() {
   smb "${protection[@]}" -c "put $room/f$1 f$1; get f$1 $room/got$1" || return 1
   cmp "$room/f$1" "$room/got$1"
+}
+
+# by_one OPTION ALGORITHM: a put, a get and a list of a client that offers this algorithm alone.
+by_one() {
+  local said
+  said=$(smb "${protection[@]}" --option="$1=$2" -c "put $room/f1048577 f$2; get f$2 $room/got; ls; del f$2") || return 1
+  [[ $said == *" f$2 "* ]] && cmp "$room/f1048577" "$room/got"
 }
 
 names() {
@@ -129,17 +138,30 @@ killed() {
   if killed_server > "$room/said" 2>&1; then ok "$1 ($size of $whole bytes are there)"; else bad "$1" "$(tail -n 1 "$room/said")"; fi
 }
 
+# with_impacket TOOL KIND: what a script of tools/ says.
 with_impacket() {
   local line
   while IFS= read -r line; do
-    case $line in ok\ *) ok "${line#ok }" ;; FAILED\ *) bad "${line#FAILED }" "see above" ;; esac
-  done < <(timeout "$limit" /usr/bin/python3 "$top/tools/impacket_client.py" "$port" "$1" user Password data 2>&1)
+    case $line in ok\ *) ok "${line#ok }" ;; FAILED\ *) line=${line#FAILED }; bad "${line%: *}" "${line##*: }" ;; esac
+  done < <(timeout "$limit" /usr/bin/python3 "$top/tools/$1" "$port" "$2" user Password data 2>&1)
+}
+
+# Another client yet, in Go: it copies a folder here and compares the bytes.
+with_rclone() {
+  local there hidden
+  hidden=$(rclone obscure Password)
+  there=":smb,host=127.0.0.1,port=$port,user=user,pass=$hidden:data/rclone"
+  mkdir -p "$room/some" && cp "$room/f1" "$room/f65536" "$room/f1048577" "$room/some" && : > "$room/some/f0" || exit 2
+  check "rclone $kind: copy a folder" timeout "$limit" rclone --config /dev/null --retries 1 copy "$room/some" "$there"
+  check "rclone $kind: read and compare it" timeout "$limit" rclone --config /dev/null --retries 1 check --download "$room/some" "$there"
+  check "rclone $kind: remove it" timeout "$limit" rclone --config /dev/null --retries 1 purge "$there"
 }
 
 for size in $sizes 1 65536 1048577; do [ -e "$room/f$size" ] || head -c "$size" /dev/urandom > "$room/f$size"; done
 head -c "$whole" /dev/urandom > "$room/big"
 has_smbclient=; command -v smbclient > /dev/null && has_smbclient=yes || echo "smbclient is missing: its checks are left out"
 has_impacket=; /usr/bin/python3 -c 'import impacket' 2> /dev/null && has_impacket=yes || echo "python3-impacket is missing: its checks are left out"
+has_rclone=; command -v rclone > /dev/null && has_rclone=yes || echo "rclone is missing: its checks are left out"
 
 users='user user Password\nuser other Second\n'
 for kind in sealed signed; do
@@ -147,11 +169,18 @@ for kind in sealed signed; do
   if [ $kind = sealed ]; then settings="peers 256\n$users"; protection=(); else settings="cipher none\npeers 256\n$users"; protection=(--client-protection=sign); fi
   begin "$folder" "$settings"
   [ -n "$has_smbclient" ] && with_smbclient
-  [ -n "$has_impacket" ] && { [ $kind = sealed ] && with_impacket seal || with_impacket sign; }
-  if [ $kind = sealed ] && [ -n "$has_smbclient" ]; then
+  if [ -n "$has_impacket" ]; then
+    [ $kind = sealed ] && way=seal || way=sign
+    with_impacket impacket_client.py $way
+    with_impacket impacket_frames.py $way
+  fi
+  [ -n "$has_rclone" ] && with_rclone
+  if [ -n "$has_smbclient" ] && [ $kind = sealed ]; then
     check "smbclient signing: a share that seals" smb --client-protection=sign -c ls
-    # it wants NTLMSSP_NEGOTIATE_SEAL (MS-NLMP 2.2.2.5) in the challenge, which this server doesn't answer
-    meets "smbclient sealing by itself" 80090302 smb --client-protection=encrypt -c ls
+    protection=(--client-protection=encrypt)
+    for name in $ciphers; do check "smbclient sealing by itself: put, get and list by $name" by_one "client smb3 encryption algorithms" "$name"; done
+  elif [ -n "$has_smbclient" ]; then
+    for name in $signings; do check "smbclient signed: put, get and list by $name" by_one "client smb3 signing algorithms" "$name"; done
   fi
   check "$kind: 200 connections at once" timeout "$limit" python3 "$top/tools/many_connections.py" "$port" 200 0
   stop
