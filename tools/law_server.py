@@ -95,7 +95,7 @@ def emit(effect):
 SESSION = ('session', 'ℕ')
 EFFECTS = [
     Effect('AddOpen', 'add_open', 'a new open stands, with an id that no open has', [('o', 'ℕ'), ('row', 'Open'),
-    ('session', 'Option ℕ'), ('sequence', 'ℕ'), ('n', 'ℕ'), ('gs', 'ℕ → ℕ')],
+    ('session', 'Option ℕ'), ('sequence', 'ℕ'), ('n', 'ℕ'), ('gs', 'ℕ → ℕ'), ('trees', 'ℕ → ℕ')],
            [('free', 's.standing o ≡ false'), ('above', '0 < o'), ('id', 'o ≤ id_of s.epoch n'),
            ('more', 's.open_ids_given ≤ n'), ('most', 'n ≤ max_ids'),
             ('sess', '(x : ℕ) → session ≡ Some x → s.present x ≡ true'), ('plain', 'row.persistent ≡ false → is_some session ≡ true'),
@@ -103,7 +103,7 @@ EFFECTS = [
             ('pguid', 'row.persistent ≡ true → is_some row.create_guid ≡ true'),
             ('file', 'exists s row.file ≡ true'), ('off_root', 'deletes_on_close row.options ≡ true → row.file ≢ root'),
             ('kept', '(x : ℕ) → s.present x ≡ false → gs x ≡ 0')],
-           'record (add_open s o row session sequence) { open_ids_given = n; guids = gs }',
+           'record (add_open s o row session sequence) { open_ids_given = n; tree_of_open = trees; guids = gs }',
            'opens standing opened session_of_open deadline by_guid open_ids_given guids',
            {'attached': '+let new = sess x in ',
             'guid_open': 'λ c g p. added_guid s o row c g p free i_guid_open row.create_guid refl',
@@ -255,7 +255,7 @@ added_tree s session pipes x n t there old next true e h = elim
 ]
 added_tree s session pipes x n t there old next false e h = old x n t h
 """),
-    Effect('SessionEffects', 'drop_tree', 'a session has a tree less', [('session', 'ℕ'), ('id', 'ℕ')], [],
+    Effect('SessionEffects', 'less_tree', 'a session has a tree less', [('session', 'ℕ'), ('id', 'ℕ')], [],
            'record s { trees = put s.trees session (without_tree id (s.trees session)) }', 'trees',
            {'no_trees': '+let none : without_tree id [] ≡ [] = no_tree id in ',
             'tree_ids': 'λ x n t. dropped_tree s session id x n t i_tree_ids (x == session) refl'}, {},

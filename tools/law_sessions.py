@@ -52,6 +52,9 @@ PARTS = {
     "tree_up": ("conns s", "j n x", "conns server"),
     "tree_live": ("c s", "", "server live session tree"),
     "tree_reply": ("c conns s", "j n y", "conns server stage accepted"),
+    "sent_trees": ("c conns", "j n x", "conns session session_number tree accepted"),
+    "asked_new": ("c", "p", "stage pending session session_number"),
+    "open_trees": ("c s", "p x", "server session session_number tree"),
 }
 
 
@@ -97,7 +100,7 @@ OFF_UP = "let d = no_dialog_up conns k none j n x in "
 OFF_DOWN = "let d = no_dialog_down conns k none j n y in "
 NONE = ("none", "copies 0 (conns k) ≡ 0")
 UP_PARTS = ["current_up", "ranked_up", "from_client", "sequences_up", "work_up", "dialog_up", "logon_up", "first_up",
-    "second_up", "tree_connect_up", "tree_up"]
+    "second_up", "tree_connect_up", "tree_up", "sent_trees"]
 DOWN_PARTS = ["current_down", "first_reply", "second_reply", "tree_reply"]
 
 # a step's parts that speak of a dialog's message or reply on its own connection, where none is
@@ -121,6 +124,7 @@ EVENTS = [
               "making_unranked": "moves.unranked",
               "session_users": "moves.users",
               "open_users": "moves.opens",
+              "open_trees": "moves.attached",
               "pending_given": "λ p. let old = i.pending_given p in let q = moves.ids in grind arith",
               "first_reply": "λ p n y. let old = i.first_reply p n y in let q = moves.ids in grind arith",
               "second_reply": "λ p n y h o st u. let old = i.second_reply p n y h o st u in "
@@ -164,6 +168,7 @@ EVENTS = [
                      pending_accepted="λ p. let old = i.pending_accepted p in let m = i.making p in grind arith",
                      pending_unranked="λ p. let old = i.pending_unranked p in let m = i.making p in grind arith",
                      pending_given="λ p. let old = i.pending_given p in let m = i.making p in grind arith",
+                     asked_new="λ p. let old = i.asked_new p in let m = i.making p in grind arith",
                      asked_fresh="λ p j n x a. let m = i.making p in grind arith")),
     Event("Accepted", "a new session is accepted", "stage accepted accepted_count rank", "(k : ℕ)",
           [NONE, ("at", "c.stage k ≡ SaidSecond false"),
@@ -178,6 +183,9 @@ EVENTS = [
                      pending_unranked="λ p. let m = i.making p in let m0 = i.making k in grind arith",
                      asked_fresh="λ p j n x a h t. let m = i.making p in let m0 = i.making k in "
                          "let u = i.pending_unranked k at in let r = i.ranked_up j n x h t in grind arith",
+                     sent_trees="λ j n x h t. let old = i.sent_trees j n x h t in let u = i.pending_unranked k at in "
+                         "let r = i.ranked_up j n x h t in grind arith",
+                     asked_new="λ p. let old = i.asked_new p in let r = i.session_ranked in let u = i.pending_unranked k at in grind arith",
                      present_accepted="λ p q. let old = i.present_accepted p q in let g = gone in grind arith",
                      ranked_given="λ p. let old = i.ranked_given p in let g = i.pending_given k at in grind arith",
                      making_unranked="λ p q h. let old = i.making_unranked p q h in let u = unmade p in grind arith",
@@ -205,7 +213,8 @@ EVENTS = [
     Event("Bound", "a further channel is ready", "stage", "(k : ℕ)", [], c="(bind_channel c k)"),
     Event("Readied", "a session is ready", "live session session_number tree sequence stage making", "(k : ℕ) (r : Reply)",
           [NONE, ("at", "c.stage k ≡ AskedTree"),
-              ("told", "s.present c.accepted ≡ true → is_some (tree_in (s.trees c.accepted) r.tree_id) ≡ true")],
+              ("told", "s.present c.accepted ≡ true → is_some (tree_in (s.trees c.accepted) r.tree_id) ≡ true"),
+              ("attached", "(o x : ℕ) → s.session_of_open o ≡ Some x → s.present x ≡ true")],
               c="(begin_session c k c.pending r.tree_id)",
           parts={
               "live_accepted": "λ l. let a = i.pending_accepted k at in grind arith",
@@ -216,6 +225,10 @@ EVENTS = [
               "sequences_up": "λ j n x h. let old = i.sequences_up j n x h in let f = i.asked_fresh k j n x at h in "
                   "let d = i.dialog_up j n x h in grind arith",
               "tree_live": "λ l. let a = i.pending_accepted k at in let t = told in grind arith",
+              "sent_trees": "λ j n x h t. let f = i.asked_fresh k j n x at h t in let a = i.pending_accepted k at in grind arith",
+              "asked_new": "λ p. let m = i.making p in let m0 = i.making k in grind arith",
+              "open_trees": "λ p x h. let old = i.open_trees p x h in let q = attached p x h in let r = i.session_ranked old.0 in "
+                  "let a = i.present_accepted x in let b = i.pending_accepted k at in let d = i.asked_new k at old.0 in absurd (grind arith)",
           }),
     Event("DialogOff", "the client closes a channel that isn't ready", "stage making conns", "(k : ℕ) (rs : List RefusedDialog)", [],
           c="(record c { stage = put c.stage k Apart; making = unmade k c.making; refusals = rs })",
@@ -236,6 +249,8 @@ EVENTS = [
               "asked_fresh": "λ p j n x a. let old = i.asked_fresh p j n x a in let l = i.live_accepted live in "
                   "let m = i.making p in grind (arith, get-push)",
               "tree_up": "λ j n x. let old = i.tree_up j n x in let l = i.tree_live in grind (arith, get-push)",
+              "sent_trees": "λ j n x. let old = i.sent_trees j n x in let l = i.live_accepted live in "
+                  "let m = (i.numbered_sessions 0 0).2 live in grind (arith, get-push)",
           }),
     Event("Say", "a reply is on its way", "conns", "(k : ℕ) (y0 : Received)",
           [("ops", "is_ops y0.token ≡ true → c.live ≡ true × y0.reply.session_id ≡ c.session"),

@@ -1,7 +1,7 @@
 -- A server alone, that hears one message after the other.
-use Rattle.std.specs.Prelude.{ℕ, zero, suc, ◌+◌, ◌==◌, Bool, true, false, not, ◌&&◌, List, [], ◌∷◌, length, Option, Some, None}
+use Rattle.std.specs.Prelude.{ℕ, zero, suc, ◌+◌, ◌==◌, Bool, true, false, not, ◌&&◌, List, [], ◌∷◌, length, Option, Some, None, if◌then◌else◌}
 use Rattle.spec_exchange.specs.Content.{same_bytes}
-use Rattle.spec_exchange.specs.Commands.{Command, Setup, TreeConnect, Shows, Begins, Logon, Create, Durable, Element}
+use Rattle.spec_exchange.specs.Commands.{Command, Setup, TreeConnect, Shows, Begins, Logon, Create, Durable, Element, Read, Basic, Close, SetBasic, SetInfo, CreateRequest}
 use Rattle.spec_exchange.specs.State.{Accept, Server, Message, ServerEvent, Heard, Body, Info, Entry, Open, Range}
 use Rattle.spec_exchange.specs.State.{Record, Origin, EpochRecord, CreateRecord, WriteRecord}
 use Rattle.spec_exchange.specs.Files.{same_basic}
@@ -97,11 +97,21 @@ make access share disposition options durable =
       disk_id = false;
     })
 
-abbrev pub by_guid : ℕ → Bool → Option Durable
-by_guid guid persistent = Some (record { timeout = 0; persistent = persistent; guid = guid })
-
-abbrev pub lock_of : ℕ → ℕ → ℕ → ℕ → ℕ → Element
-lock_of o at n flags unused = record { at = at; length = n; flags = flags }
+-- the same with attributes
+abbrev pub make_with : ℕ → ℕ → ℕ → ℕ → ℕ → Option Durable → Command
+make_with attributes access share disposition options durable =
+    Create (record {
+      path = 97 ∷ [];
+      access = access;
+      share = share;
+      attributes = attributes;
+      disposition = disposition;
+      options = options;
+      durable = durable;
+      reconnect = None;
+      maximal = false;
+      disk_id = false;
+    })
 
 -- the ids of the first opens
 abbrev pub first_open : ℕ
@@ -110,6 +120,32 @@ first_open = 4294967297
 abbrev pub second_open : ℕ
 second_open = 4294967298
 
+-- a file that was made with these and closed
+abbrev pub closed_file : ℕ → List ServerEvent
+closed_file attributes = ask (make_with attributes 0x183 7 2 0x40 None) ∷ ask (Close first_open false) ∷ []
+
+-- a setting of its attributes, and of the time at which it was made
+abbrev pub basic_to : ℕ → ℕ → ℕ → Command
+basic_to o attributes created = SetInfo o (SetBasic (record {
+  created = created;
+  accessed = 0;
+  written = 0;
+  changed = 0;
+  attributes = attributes;
+}))
+
+abbrev pub basic_after : Server → List ServerEvent → Basic
+basic_after s events = (after_all s 100 events).basic 1
+
+abbrev pub access_after : Server → List ServerEvent → ℕ → ℕ
+access_after s events o = ((after_all s 100 events).opened o).access
+
+abbrev pub by_guid : ℕ → Bool → Option Durable
+by_guid guid persistent = Some (record { timeout = 0; persistent = persistent; guid = guid })
+
+abbrev pub lock_of : ℕ → ℕ → ℕ → ℕ → ℕ → Element
+lock_of o at n flags unused = record { at = at; length = n; flags = flags }
+
 -- the first file or directory of the share, made at this moment
 abbrev pub made_info : Bool → ℕ → Info
 made_info is_dir now = record {
@@ -117,7 +153,7 @@ made_info is_dir now = record {
   is_directory = is_dir;
   size = 0;
   is_delete_pending = false;
-  times = record { created = now; accessed = now; written = now; changed = now; attributes = 0 };
+  times = record { created = now; accessed = now; written = now; changed = now; attributes = if is_dir then 0 else 0x20 };
 }
 
 -- ---- a second session, of id 4294967298 with tree 1, on connection 1
@@ -172,6 +208,21 @@ reconnect file guid =
       disk_id = false;
     })
 
+-- whatever else it asks
+abbrev pub unjudged : Option Durable → CreateRequest
+unjudged durable = record {
+  path = 92 ∷ [];
+  access = 0x183;
+  share = 0;
+  attributes = 0;
+  disposition = 9;
+  options = 0x41;
+  durable = durable;
+  reconnect = Some (record { file = first_open; guid = 5 });
+  maximal = false;
+  disk_id = false;
+}
+
 -- ---- a server whose journal holds no further record, and one that keeps as many expired guids as it may
 
 abbrev pub with_full_journal : Server → Server
@@ -220,6 +271,16 @@ again command = Heard (from_client 0 7 9 0 true command)
 
 abbrev pub on_pipes : Command → ServerEvent
 on_pipes command = Heard (record (from_client 0 7 9 0 false command) { tree_id = 2 })
+
+-- a second tree of the disk, and a request under it
+abbrev pub disk_again : ServerEvent
+disk_again = ask (TreeConnect (100 ∷ []))
+
+abbrev pub on_second_tree : Bool → Command → ServerEvent
+on_second_tree replay command = Heard (record (from_client 0 7 9 0 replay command) { tree_id = 2 })
+
+abbrev pub read_nothing : ℕ → Command
+read_nothing o = Read o 0 0 0 0
 
 -- ---- a server that has given a session's tree ids below this one
 

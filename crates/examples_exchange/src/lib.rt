@@ -6,16 +6,15 @@
 //! the order of each open that denies writers, the files that stay, and what single steps answer.
 #![tactic(auto, unfolding(crate::specs::Computed::computed))]
 
-ghost use Rattle.std.specs.Prelude.{◌≡◌, ℕ, List, [], ◌∷◌, ◌++◌, true, false};
+ghost use Rattle.std.specs.Prelude.{◌≡◌, ℕ, List, [], ◌∷◌, ◌++◌, true, false, replicate};
 ghost use Rattle.spec_exchange.specs.Operations.{Unsettled, NoSession, HadStatus, OpCreate, OpWrite, OpTime, OpRename};
 ghost use Rattle.spec_exchange.specs.Operations.{OpRemove, WasOk, WasRefused, NoSlot, NoOpen, Unknown, SessionLost};
 ghost use Rattle.spec_exchange.specs.Operations.{WithStatus, IsDone, Action, IsCount, IsContent, Length, Names};
 ghost use Rattle.std.specs.Prelude.{Some, None};
 ghost use Rattle.spec_exchange.specs.State.{Accept, Heard, End, SetUp, Connected, VolumeInfo, FileInfo, Listing};
 ghost use Rattle.spec_exchange.specs.State.{Interfaces, DeleteRecord, RemoveRecord, CloseRecord, ExpireRecord};
-ghost use Rattle.spec_exchange.specs.State.{VersionRecord, EpochRecord};
-ghost use Rattle.spec_exchange.specs.Commands.{Begins, Close, Ioctl, ListDirectory, Lock, Logon, QueryFile, QueryVolume};
-ghost use Rattle.spec_exchange.specs.Commands.{Read, TreeConnect, Write, no_file, path_form, SetInfo, SetEnd, SetDelete};
+ghost use Rattle.spec_exchange.specs.State.{VersionRecord, EpochRecord, CreateRecord};
+ghost use Rattle.spec_exchange.specs.Commands.{Begins, Close, Create, Ioctl, ListDirectory, Lock, Logon, QueryFile, QueryVolume, Read, TreeConnect, Write, create_form, list_form, no_file, path_form, SetInfo, SetEnd, SetDelete, TreeDisconnect};
 ghost use Rattle.spec_exchange.specs.CheckOpen.{is_stale, query_interfaces};
 ghost use Rattle.spec_exchange.specs.CheckSetup.{pipes_name};
 ghost use Rattle.spec_exchange.specs.Listing.{matches};
@@ -28,9 +27,9 @@ ghost use Rattle.examples_exchange.specs.Servers.{one_session, session, from_cli
 ghost use Rattle.examples_exchange.specs.Servers.{body_after, records_after, files_after, binding, binding_logon, setup};
 ghost use Rattle.examples_exchange.specs.Servers.{in_second, second_id, make, by_guid, lock_of, made_info, first_open};
 ghost use Rattle.examples_exchange.specs.Servers.{second_open, with_full_journal, with_all_expired_guids};
-ghost use Rattle.examples_exchange.specs.Servers.{second_session, ask_second, reconnect, journal_stands, again};
+ghost use Rattle.examples_exchange.specs.Servers.{second_session, ask_second, reconnect, unjudged, journal_stands, again, disk_again, on_second_tree, read_nothing};
 ghost use Rattle.examples_exchange.specs.Servers.{on_pipes, with_next_tree, on_disk, epoch_on, version_on};
-ghost use Rattle.examples_exchange.specs.Servers.{first_version_disk};
+ghost use Rattle.examples_exchange.specs.Servers.{first_version_disk, make_with, closed_file, basic_to, basic_after, access_after, its_origin};
 ghost use Rattle.examples_exchange.specs.Laws.{laws_hold};
 ghost use Rattle.examples_exchange.specs.Scripts.{beginning, settings, stranger, worn_out, submit, settled_in};
 ghost use Rattle.examples_exchange.specs.Scripts.{script_ends, note, acted_on, id_told, retried_create};
@@ -599,6 +598,122 @@ pub fn delete_on_close_example()
     ensures access { status_after one_session [] (ask (make 0x183 7 2 0x1040 None)) ≡ 0xc0000022 }
 {}
 
+/// A file that a CREATE makes or empties has the attributes among 3127 that are asked for, and ARCHIVE; a directory those that
+/// are asked for, without ARCHIVE and NORMAL (MS-FSA 2.1.5.1.1, 2.1.5.1.2.1). One that is opened keeps its own.
+pub fn attributes_of_a_create_example()
+    ensures made { (basic_after one_session (ask (make_with 0x80 0x183 7 2 0x40 None) ∷ [])).attributes ≡ 0x20 }
+    ensures all { (basic_after one_session (ask (make_with 0xffffffff 0x183 7 2 0x40 None) ∷ [])).attributes ≡ 0x3127 }
+    ensures overwritten { (basic_after one_session (closed_file 0x1000 ++ ask (make_with 0x82 0x183 7 5 0x40 None) ∷ [])).attributes ≡ 0x22 }
+    ensures superseded { (basic_after one_session (closed_file 0x1000 ++ ask (make_with 0x2010 0x183 7 0 0x40 None) ∷ [])).attributes
+        ≡ 0x2020 }
+    ensures opened { (basic_after one_session (closed_file 0x1000 ++ ask (make_with 0x4 0x183 7 3 0x40 None) ∷ [])).attributes ≡ 0x1020 }
+    ensures directory { (basic_after one_session (ask (make_with 0x20b2 0x81 7 2 0x1 None) ∷ [])).attributes ≡ 0x2012 }
+    ensures temporary { status_after one_session [] (ask (make_with 0x100 0x81 7 2 0x1 None)) ≡ 0xc000000d }
+    ensures temporary_file { status_after one_session [] (ask (make_with 0x100 0x81 7 2 0x40 None)) ≡ 0 }
+    ensures written { (basic_after one_session (ask (make_with 0 0x183 7 2 0x40 None) ∷ ask (basic_to first_open 0x80 0)
+        ∷ ask (Write first_open 0 (97 ∷ []) 0) ∷ [])).attributes ≡ 0 }
+{}
+
+/// The record of a CREATE has the attributes that the file has behind it. A fold stores those of the record, also where a
+/// journal of before tells what was asked for.
+pub fn attributes_of_a_record_example()
+    ensures made { records_after one_session [] (ask (make_with 0x82 0x183 7 2 0x40 None))
+        ≡ CreateRecord (record { session = session; connection = 0; message = 9 }) 2 1 (97 ∷ []) 0x22 false 200 None ∷ [] }
+    ensures directory { records_after one_session [] (ask (make_with 0xa2 0x81 7 2 0x1 None))
+        ≡ CreateRecord (record { session = session; connection = 0; message = 9 }) 2 1 (97 ∷ []) 0x2 true 200 None ∷ [] }
+    ensures opened { records_after one_session (closed_file 0x1000) (ask (make_with 0x4 0x81 7 1 0x40 (by_guid 5 true)))
+        ≡ CreateRecord (record { session = session; connection = 0; message = 9 }) 1 1 (97 ∷ []) 0x1020 false 200 (Some (record {
+          id = second_open;
+          client_guid = 7;
+          create_guid = 5;
+          user = 117 ∷ [];
+          access = 0x81;
+          share = 7;
+          options = 0x40;
+          timeout = 60000;
+        })) ∷ [] }
+    ensures most { records_after one_session (closed_file 0x1) (ask (make_with 0 0x2000000 7 1 0x40 (by_guid 5 true)))
+        ≡ CreateRecord (record { session = session; connection = 0; message = 9 }) 1 1 (97 ∷ []) 0x21 false 200 (Some (record {
+          id = second_open;
+          client_guid = 7;
+          create_guid = 5;
+          user = 117 ∷ [];
+          access = 0x1f01f9;
+          share = 7;
+          options = 0x40;
+          timeout = 60000;
+        })) ∷ [] }
+    ensures told_before { ((with_record one_session (CreateRecord its_origin 2 1 (97 ∷ []) 0x480 false 50 None)).basic 1).attributes ≡ 0x480 }
+{}
+
+/// A file that is HIDDEN or SYSTEM is emptied by a request that names the bit; names and kinds are judged before, sharing behind.
+pub fn hidden_overwritten_example()
+    ensures hidden { status_after one_session (closed_file 0x2) (ask (make_with 0x4 0x183 7 5 0x40 None)) ≡ 0xc0000022 }
+    ensures system { status_after one_session (closed_file 0x4) (ask (make_with 0x2 0x183 7 4 0x40 None)) ≡ 0xc0000022 }
+    ensures superseded { status_after one_session (closed_file 0x6) (ask (make_with 0x4 0x183 7 0 0x40 None)) ≡ 0xc0000022 }
+    ensures named { status_after one_session (closed_file 0x6) (ask (make_with 0x6 0x183 7 5 0x40 None)) ≡ 0 }
+    ensures opened { status_after one_session (closed_file 0x6) (ask (make_with 0 0x183 7 1 0x40 None)) ≡ 0 }
+    ensures behind_names { status_after one_session (closed_file 0x2) (ask (make_with 0 0x183 7 5 0x1 None)) ≡ 0xc0000103 }
+    ensures before_sharing { status_after one_session (ask (make_with 0x2 0x183 0 2 0x40 None) ∷ [])
+        (ask (make_with 0 0x183 7 5 0x40 None)) ≡ 0xc0000022 }
+{}
+
+/// A read-only file is neither opened to write nor emptied, and doesn't go; its maximal access leaves out to write. Who makes
+/// it may write.
+pub fn read_only_file_example()
+    ensures write { status_after one_session (closed_file 0x1) (ask (make_with 0 0x2 7 1 0x40 None)) ≡ 0xc0000022 }
+    ensures append { status_after one_session (closed_file 0x1) (ask (make_with 0 0x4 7 1 0x40 None)) ≡ 0xc0000022 }
+    ensures mapped { status_after one_session (closed_file 0x1) (ask (make_with 0 0x40000000 7 1 0x40 None)) ≡ 0xc0000022 }
+    ensures read { status_after one_session (closed_file 0x1) (ask (make_with 0 0x80000000 7 1 0x40 None)) ≡ 0 }
+    ensures most { access_after one_session (closed_file 0x1 ++ ask (make_with 0 0x2000000 7 1 0x40 None) ∷ []) second_open ≡ 0x1f01f9 }
+    ensures most_of_another { access_after one_session (closed_file 0x2 ++ ask (make_with 0 0x2000000 7 1 0x40 None) ∷ []) second_open
+        ≡ 0x1f01ff }
+    ensures most_and_write { status_after one_session (closed_file 0x1) (ask (make_with 0 0x2000002 7 1 0x40 None)) ≡ 0xc0000022 }
+    ensures emptied { status_after one_session (closed_file 0x1) (ask (make_with 0x1 0x81 7 5 0x40 None)) ≡ 0xc0000022 }
+    ensures closes { status_after one_session (closed_file 0x1) (ask (make_with 0 0x10081 7 1 0x1040 None)) ≡ 0xc0000121 }
+    ensures made_to_go { status_after one_session [] (ask (make_with 0x1 0x10081 7 2 0x1040 None)) ≡ 0xc0000121 }
+    ensures directory { status_after one_session [] (ask (make_with 0x1 0x10081 7 2 0x1001 None)) ≡ 0 }
+    ensures marked { status_after one_session (closed_file 0x1 ++ ask (make_with 0 0x10081 7 1 0x40 None) ∷ [])
+        (ask (SetInfo second_open (SetDelete true))) ≡ 0xc0000121 }
+    ensures unmarked { status_after one_session (closed_file 0x1 ++ ask (make_with 0 0x10081 7 1 0x40 None) ∷ [])
+        (ask (SetInfo second_open (SetDelete false))) ≡ 0 }
+    ensures directory_marked { status_after one_session (ask (make_with 0x1 0x10081 7 2 0x1 None) ∷ [])
+        (ask (SetInfo first_open (SetDelete true))) ≡ 0 }
+    ensures own { status_after one_session (ask (make_with 0x1 0x183 7 2 0x40 None) ∷ []) (ask (Write first_open 0 (97 ∷ []) 0)) ≡ 0 }
+    ensures kept { status_after one_session (closed_file 0x1 ++ ask (make_with 0 0x2 7 1 0x40 (by_guid 5 false))
+        ∷ ask (make_with 0 0x180 7 1 0x40 None) ∷ ask (basic_to second_open 0x80 0) ∷ [])
+        (ask (make_with 0 0x2 7 1 0x40 (by_guid 5 false))) ≡ 0xc0000022 }
+{}
+
+/// Attributes of 0 stay and NORMAL alone takes all away; times of 0, -1 and -2 stay, and none is below -2. No directory is
+/// TEMPORARY, and no file a DIRECTORY.
+pub fn basic_setting_example()
+    ensures stays { (basic_after one_session (ask (make_with 0x2 0x183 7 2 0x40 None) ∷ ask (basic_to first_open 0 0) ∷ [])).attributes
+        ≡ 0x22 }
+    ensures taken_away { (basic_after one_session (ask (make_with 0x2 0x183 7 2 0x40 None) ∷ ask (basic_to first_open 0x80 0)
+        ∷ [])).attributes ≡ 0 }
+    ensures normal_and_more { (basic_after one_session (ask (make_with 0x2 0x183 7 2 0x40 None) ∷ ask (basic_to first_open 0x81 0)
+        ∷ [])).attributes ≡ 0x81 }
+    ensures minus_one { (basic_after one_session (ask (make_with 0 0x183 7 2 0x40 None) ∷ ask (basic_to first_open 0 0xffffffffffffffff)
+        ∷ [])).created ≡ 100 }
+    ensures minus_two { (basic_after one_session (ask (make_with 0 0x183 7 2 0x40 None) ∷ ask (basic_to first_open 0 0xfffffffffffffffe)
+        ∷ [])).created ≡ 100 }
+    ensures minus_three { status_after one_session (ask (make_with 0 0x183 7 2 0x40 None) ∷ [])
+        (ask (basic_to first_open 0 0xfffffffffffffffd)) ≡ 0xc000000d }
+    ensures least { status_after one_session (ask (make_with 0 0x183 7 2 0x40 None) ∷ [])
+        (ask (basic_to first_open 0 0x8000000000000000)) ≡ 0xc000000d }
+    ensures most { (basic_after one_session (ask (make_with 0 0x183 7 2 0x40 None) ∷ ask (basic_to first_open 0 0x7fffffffffffffff)
+        ∷ [])).created ≡ 0x7fffffffffffffff }
+    ensures file_as_directory { status_after one_session (ask (make_with 0 0x183 7 2 0x40 None) ∷ []) (ask (basic_to first_open 0x10 0))
+        ≡ 0xc000000d }
+    ensures temporary_directory { status_after one_session (ask (make_with 0 0x183 7 2 0x1 None) ∷ []) (ask (basic_to first_open 0x100 0))
+        ≡ 0xc000000d }
+    ensures temporary_file { status_after one_session (ask (make_with 0 0x183 7 2 0x40 None) ∷ []) (ask (basic_to first_open 0x100 0)) ≡ 0 }
+    ensures directory { status_after one_session (ask (make_with 0 0x183 7 2 0x1 None) ∷ []) (ask (basic_to first_open 0x10 0)) ≡ 0 }
+    ensures access_before { status_after one_session (ask (make_with 0 0x81 7 2 0x40 None) ∷ []) (ask (basic_to first_open 0x10 0))
+        ≡ 0xc0000022 }
+{}
+
 /// A plain close owes the flag and the removal, and one that leaves nothing owes no record.
 pub fn records_of_a_close_example()
     ensures delete_pending { records_after one_session (ask (make 0x10183 7 2 0x1040 None) ∷ []) (ask (Close first_open false))
@@ -684,6 +799,16 @@ pub fn patterns_of_names_example()
     ensures no_match { matches (97 ∷ []) (97 ∷ 98 ∷ []) ≡ false }
 {}
 
+/// A pattern has at most 1,024 units: `é` has two bytes and one unit. Its room comes before it.
+pub fn forms_of_patterns_example()
+    ensures all { list_form (42 ∷ []) 1048576 ≡ None }
+    ensures longest { list_form (replicate 1024 63) 65536 ≡ None }
+    ensures too_long { list_form (replicate 1025 63) 65536 ≡ Some 0xc0000033 }
+    ensures units { list_form (195 ∷ 169 ∷ replicate 1023 63) 65536 ≡ None }
+    ensures units_too { list_form (195 ∷ 169 ∷ replicate 1024 63) 65536 ≡ Some 0xc0000033 }
+    ensures room { list_form (replicate 1025 63) 1048577 ≡ Some 0xc000000d }
+{}
+
 /// A path has components that are no dots and hold no forbidden character.
 pub fn forms_of_names_example()
     ensures plain { path_form (100 ∷ 92 ∷ 97 ∷ []) ≡ None }
@@ -752,6 +877,14 @@ pub fn access_and_ranges_example()
     ensures empty_write { records_after one_session (ask (make 0x183 7 2 0x40 None) ∷ []) (ask (Write first_open 9 [] 0)) ≡ [] }
 {}
 
+/// What asks to attach asks for no durable open, and nothing else of it is judged.
+pub fn attaching_forms_example()
+    ensures alone { create_form (unjudged None) ≡ None }
+    ensures durable { create_form (unjudged (by_guid 5 true)) ≡ Some 0xc000000d }
+    ensures attached { status_after second_session (ask (make 0x183 0 2 0x40 (by_guid 5 true)) ∷ End 0 ∷ [])
+        (ask_second true (Create (unjudged None))) ≡ 0 }
+{}
+
 /// An open of a live session is given to no other; one whose session is gone is given again, and denies writers meanwhile.
 pub fn a_second_session_example()
     ensures attach { status_after second_session (ask (make 0x183 0 2 0x40 (by_guid 5 true)) ∷ [])
@@ -764,6 +897,50 @@ pub fn a_second_session_example()
         (ask_second true (make 0x183 0 2 0x40 (by_guid 5 true))) ≡ 0 }
     ensures denied_when_gone { status_after second_session (ask (make 0x183 0 2 0x40 (by_guid 5 true)) ∷ End 0 ∷ [])
         (ask_second false (make 0x183 7 1 0x40 (by_guid 6 false))) ≡ 0xc0000043 }
+{}
+
+/// An open is one of the tree under which it was made or attached: a request under another tree of its session doesn't find it.
+pub fn an_open_of_a_tree_example()
+    ensures own { status_after one_session (disk_again ∷ ask (make 0x183 7 2 0x40 None) ∷ []) (ask (read_nothing first_open)) ≡ 0 }
+    ensures other { status_after one_session (disk_again ∷ ask (make 0x183 7 2 0x40 None) ∷ [])
+        (on_second_tree false (read_nothing first_open)) ≡ 0xc0000128 }
+    ensures made_there { status_after one_session (disk_again ∷ on_second_tree false (make 0x183 7 2 0x40 None) ∷ [])
+        (on_second_tree false (read_nothing first_open)) ≡ 0 }
+    ensures found_in_its_session { status_after one_session (disk_again ∷ ask (make 0x183 7 2 0x40 (by_guid 5 true))
+        ∷ on_second_tree true (make 0x183 7 2 0x40 (by_guid 5 true)) ∷ []) (on_second_tree false (read_nothing first_open))
+        ≡ 0xc0000128 }
+    ensures attached_there { status_after second_session (ask (make 0x183 0 2 0x40 (by_guid 5 true)) ∷ End 0
+        ∷ in_second second_id 1 false (TreeConnect (100 ∷ [])) ∷ in_second second_id 2 true (make 0x183 0 2 0x40 (by_guid 5 true))
+        ∷ []) (in_second second_id 2 false (read_nothing first_open)) ≡ 0 }
+    ensures attached_elsewhere { status_after second_session (ask (make 0x183 0 2 0x40 (by_guid 5 true)) ∷ End 0
+        ∷ in_second second_id 1 false (TreeConnect (100 ∷ [])) ∷ in_second second_id 2 false (reconnect first_open 5)
+        ∷ []) (in_second second_id 1 false (read_nothing first_open)) ≡ 0xc0000128 }
+{}
+
+/// A TREE_DISCONNECT closes the opens of its tree as their CLOSEs would, and where their records don't fit none of them.
+pub fn a_tree_that_goes_example()
+    ensures tree { status_after one_session (ask TreeDisconnect ∷ []) (ask (make 0x183 7 2 0x40 None)) ≡ 0xc00000c9 }
+    ensures closed { status_after one_session (disk_again ∷ ask (make 0x183 7 2 0x40 None) ∷ ask TreeDisconnect ∷ [])
+        (on_second_tree false (make 0x183 0 1 0x40 None)) ≡ 0 }
+    ensures other_stays { status_after one_session (disk_again ∷ on_second_tree false (make 0x183 7 2 0x40 None) ∷ ask TreeDisconnect
+        ∷ []) (on_second_tree false (read_nothing first_open)) ≡ 0 }
+    ensures guid { status_after one_session (disk_again ∷ ask (make 0x183 7 2 0x40 (by_guid 5 true)) ∷ ask TreeDisconnect ∷ [])
+        (on_second_tree false (make 0x183 7 1 0x40 (by_guid 5 true))) ≡ 0xc000022a }
+    ensures records { records_after one_session (ask (make 0x10183 7 2 0x40 (by_guid 5 true)) ∷ ask (make 0x10183 7 1 0x1040 None)
+        ∷ []) (ask TreeDisconnect)
+        ≡ CloseRecord (record { session = session; connection = 0; message = 9 }) first_open
+        ∷ DeleteRecord (record { session = session; connection = 0; message = 9 }) 1 true
+        ∷ RemoveRecord (record { session = session; connection = 0; message = 9 }) 1 ∷ [] }
+    ensures file { files_after one_session (ask (make 0x10183 7 2 0x40 (by_guid 5 true)) ∷ ask (make 0x10183 7 1 0x1040 None)
+        ∷ ask TreeDisconnect ∷ []) ≡ 0 }
+    ensures no_record { records_after one_session (ask (make 0x183 7 2 0x40 None) ∷ []) (ask TreeDisconnect) ≡ [] }
+    ensures no_room { status_after (with_full_journal (after_all one_session 50 (ask (make 0x183 7 2 0x40 (by_guid 5 true)) ∷ [])))
+        [] (ask TreeDisconnect) ≡ 0xc000007f }
+    ensures no_room_no_close { status_after
+        (with_full_journal (after_all one_session 50 (ask (make 0x183 7 2 0x40 (by_guid 5 true)) ∷ [])))
+        (ask TreeDisconnect ∷ []) (ask (read_nothing first_open)) ≡ 0 }
+    ensures nothing_to_write { status_after (with_full_journal (after_all one_session 50 (ask (make 0x183 7 2 0x40 None) ∷ []))) []
+        (ask TreeDisconnect) ≡ 0 }
 {}
 
 /// A plain open leaves with its session: its lock binds no other, and its CreateGuid can be used again.

@@ -9,3 +9,4 @@ pub mod Others
 pub mod Greetings
 pub mod Requests
 pub mod Opened
+pub mod Alone

@@ -2,15 +2,18 @@
 #![tactic(auto, unfolding(crate::specs::commands::Computed::computed))]
 
 ghost use Rattle.std.specs.Prelude.{◌≡◌, ℕ, [], ◌∷◌, ◌++◌, true, false, Some, None};
-ghost use Rattle.spec_exchange.specs.Commands.{Close, Write, ListDirectory, TreeConnect, Create, Unreadable};
+ghost use Rattle.spec_exchange.specs.Commands.{Close, Read, Write, ListDirectory, TreeConnect, Create, Unreadable};
 ghost use Rattle.spec_exchange.specs.State.{Count, Empty, Listing};
+ghost use Rattle.spec_commands.specs.Charges.{payload};
 ghost use Rattle.spec_commands.specs.CommandOf.{command_of};
 ghost use Rattle.spec_commands.specs.BodyOf.{body_of};
 ghost use Rattle.spec_commands.specs.ReplyBody.{reply_body};
 ghost use Rattle.spec_commands.specs.ReplyOf.{reply_of};
 ghost use Rattle.spec_wire.specs.messages.Places.{le};
 ghost use Rattle.spec_commands.specs.Infos.{attributes_of, interface_bytes};
-ghost use Rattle.examples_world.specs.commands.Samples.{header_of, told, zeros, a_create, replied, two_names, with_attributes};
+ghost use Rattle.examples_world.specs.commands.Samples.{header_of, charged, a_read, told, zeros, a_create, replied, two_names, with_attributes};
+ghost use Rattle.examples_world.specs.commands.Samples.{a_plain_create, creating, a_context, an_attaching, old_ask, old_again, maximal, disk};
+ghost use Rattle.examples_world.specs.commands.Samples.{a_unit, half_a_pair};
 
 /// A CLOSE that asks for times and lengths (MS-SMB2 2.2.15).
 pub fn close_example()
@@ -42,6 +45,33 @@ pub fn create_example()
         ∷ 0 ∷ 0 ∷ 0 ∷ 0 ∷ 0 ∷ 0 ∷ 0 ∷ 0 ∷ 0 ∷ 0 ∷ 0 ∷ 0 ∷ [] }
 {}
 
+/// Two contexts of one name are refused, whichever name it is, and DH2C beside DHnQ or DHnC (3.3.5.9.12). Other contexts stand
+/// together: without DH2C those of the first version are passed over.
+pub fn clashing_contexts_example()
+    ensures twice { command_of told (header_of 5 0) (creating a_unit 48 (a_context 24 maximal ++ a_context 0 maximal))
+        ≡ Some (Unreadable 0xc000000d) }
+    ensures unknown_twice { command_of told (header_of 5 0) (creating a_unit 48 (a_context 24 (1 ∷ 2 ∷ 3 ∷ 4 ∷ [])
+        ++ a_context 0 (1 ∷ 2 ∷ 3 ∷ 4 ∷ []))) ≡ Some (Unreadable 0xc000000d) }
+    ensures apart { command_of told (header_of 5 0) (creating a_unit 48 (a_context 24 maximal ++ a_context 0 disk))
+        ≡ Some (Create (a_plain_create true true)) }
+    ensures asked { command_of told (header_of 5 0) (creating a_unit 88 (an_attaching 64 ++ a_context 0 old_ask))
+        ≡ Some (Unreadable 0xc000000d) }
+    ensures attached { command_of told (header_of 5 0) (creating a_unit 88 (a_context 24 old_again ++ an_attaching 0))
+        ≡ Some (Unreadable 0xc000000d) }
+    ensures passed { command_of told (header_of 5 0) (creating a_unit 48 (a_context 24 old_ask ++ a_context 0 old_again))
+        ≡ Some (Create (a_plain_create false false)) }
+{}
+
+/// A name that is no text is told before contexts that clash, and with DH2C it isn't looked at.
+pub fn clash_behind_a_name_example()
+    ensures name { command_of told (header_of 5 0) (creating half_a_pair 48 (a_context 24 maximal ++ a_context 0 maximal))
+        ≡ Some (Unreadable 0xc0000033) }
+    ensures attaching { command_of told (header_of 5 0) (creating half_a_pair 88 (an_attaching 64 ++ a_context 0 old_ask))
+        ≡ Some (Unreadable 0xc000000d) }
+    ensures twice { command_of told (header_of 5 0) (creating half_a_pair 128 (an_attaching 64 ++ an_attaching 0))
+        ≡ Some (Unreadable 0xc000000d) }
+{}
+
 /// What is left out, an unknown class, a short body and a CANCEL (2.2.35, 2.2.37, 2.2.30).
 pub fn unreadable_example()
     ensures notify { command_of told (header_of 15 0) zeros ≡ Some (Unreadable 0xc00000bb) }
@@ -53,6 +83,31 @@ pub fn unreadable_example()
         ≡ Some (Unreadable 0xc0000003) }
     ensures short { command_of told (header_of 7 0) zeros ≡ Some (Unreadable 0xc000000d) }
     ensures cancel { command_of told (header_of 12 0) zeros ≡ None }
+{}
+
+/// A READ of 65,537 bytes costs two credits, and one of 65,536 or of none costs one, for which 0 stands too (3.1.5.2, 3.3.5.2.5).
+pub fn read_charge_example()
+    ensures under { command_of told (charged 8 1) (a_read 65537) ≡ Some (Unreadable 0xc000000d) }
+    ensures enough { command_of told (charged 8 2) (a_read 65537) ≡ Some (Read 5 0 65537 0 0) }
+    ensures one { command_of told (charged 8 1) (a_read 65536) ≡ Some (Read 5 0 65536 0 0) }
+    ensures counted { command_of told (charged 8 0) (a_read 65536) ≡ Some (Read 5 0 65536 0 0) }
+    ensures none { command_of told (charged 8 0) (a_read 0) ≡ Some (Read 5 0 0 0 0) }
+    ensures most { command_of told (charged 8 15) (a_read 1048576) ≡ Some (Unreadable 0xc000000d) }
+    ensures paid { command_of told (charged 8 16) (a_read 1048576) ≡ Some (Read 5 0 1048576 0 0) }
+{}
+
+/// What the others move: the greater of what they carry and what they ask for, of an IOCTL two sums; it comes before the class.
+pub fn other_charges_example()
+    ensures unknown { command_of told (charged 16 1) (zeros ++ 41 ∷ 0 ∷ 1 ∷ 99 ∷ le 4 65537 ++ le 12 0 ++ le 4 0 ++ le 8 5 ++ le 8 5)
+        ≡ Some (Unreadable 0xc000000d) }
+    ensures carried { payload 16 (zeros ++ le 4 0 ++ le 4 7 ++ le 4 0 ++ le 4 65537) ≡ 65537 }
+    ensures sums { payload 11 (zeros ++ le 28 0 ++ le 4 3 ++ le 4 40 ++ le 4 0 ++ le 4 60000 ++ le 4 50) ≡ 60003 }
+    ensures asked { payload 11 (zeros ++ le 28 0 ++ le 4 3 ++ le 4 60000 ++ le 4 0 ++ le 4 4 ++ le 4 50) ≡ 60050 }
+    ensures list { payload 14 (zeros ++ le 28 0 ++ le 4 65537) ≡ 65537 }
+    ensures write { payload 9 (zeros ++ le 4 0 ++ le 4 65537) ≡ 65537 }
+    ensures set { payload 17 (zeros ++ le 4 0 ++ le 4 65537) ≡ 65537 }
+    ensures lock { payload 10 (zeros ++ le 4 0 ++ le 4 65537) ≡ 0 }
+    ensures short { payload 8 (zeros ++ 49 ∷ []) ≡ 0 }
 {}
 
 /// The response to a WRITE of three bytes (2.2.22).

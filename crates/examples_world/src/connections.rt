@@ -84,11 +84,11 @@ pub fn binding_server_example()
     ensures unsigned { binding_verified 0 ≡ false }
 {}
 
-/// NEGOTIATE comes first, and once; what stands behind a SESSION_SETUP in its frame is refused.
+/// NEGOTIATE comes first, and once; what another message of its frame bars is refused.
 pub fn turn_example()
     ensures first { turn_end (first_server_end []) (setup_header 0) ≡ Some BadFrame }
     ensures once { turn_end making_end (record (setup_header 0) { command = 0 }) ≡ Some SecondNegotiate }
-    ensures behind_setup { fault_of making_end true true an_echo_heard ≡ Some access_denied }
+    ensures barred { fault_of making_end true true an_echo_heard ≡ Some access_denied }
 {}
 
 /// A session of a guest, one of nobody, and one that is to be sealed without a cipher are refused.

@@ -28,8 +28,8 @@ pub use runs::{
     made_and_closed_example, no_credit_example, no_memory_example, no_mishap_example,
     refused_create_example, related_messages_example, related_session_example,
     sealed_reply_example, sealing_owed_example, setups_example, short_request_example,
-    signed_reply_example, stopped_example, two_echoes_example, worked_create_example,
-    worked_greeting_example, worked_setup_example, worked_tree_example,
+    signed_reply_example, stopped_example, two_echoes_example, worked_bare_example,
+    worked_create_example, worked_greeting_example, worked_setup_example, worked_tree_example,
 };
 pub use sessions::{
     answer_example, chain_example, choice_example, derivation_example, hint_example, nonce_example,

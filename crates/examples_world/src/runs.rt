@@ -2,29 +2,32 @@
 //! found no memory or a server that stopped, what is signed, sealed and bound, and a dialog without credits; and a worked
 //! logon, the bytes of which another implementation makes.
 
-ghost use Rattle.std.specs.Prelude.{◌≡◌, ℕ, [], ◌∷◌, ◌++◌, true, false, Some, None, Err, replicate, length};
+ghost use Rattle.std.specs.Prelude.{◌≡◌, ℕ, [], ◌∷◌, ◌++◌, ◌+◌, true, false, Some, None, Err, replicate, length};
 ghost use Rattle.spec_wire.specs.credits.Ids.{ids_from};
 ghost use Rattle.spec_exchange.specs.Client.{SaidFirst, SaidSecond, AskedTree};
 ghost use Rattle.spec_exchange.specs.Commands.{Setup, TreeConnect};
 ghost use Rattle.spec_exchange.specs.Fold.{nothing_yet};
 ghost use Rattle.spec_exchange.specs.Operations.{BadToken};
-ghost use Rattle.spec_crypto.specs.tokens.Tokens.{first_token};
+ghost use Rattle.spec_crypto.specs.tokens.Tokens.{Begins, Bad, begun_by, first_token, final_token};
 ghost use Rattle.spec_world.specs.Ends.{BadFrame, OutsideWindow, Stopped};
-ghost use Rattle.spec_world.specs.Hearing.{is_encrypted, is_too_long, opened_by, text_of};
-ghost use Rattle.spec_world.specs.Related.{file_named};
+ghost use Rattle.spec_world.specs.Hearing.{check_frame, is_too_long, opened_by, text_of};
+ghost use Rattle.spec_world.specs.Related.{file_at, file_place};
 ghost use Rattle.spec_world.specs.Dialog.{pays_next};
-ghost use Rattle.spec_world.specs.Logon.{Interim, signer_of, final_keys, staying_signer};
+ghost use Rattle.spec_world.specs.Logon.{Interim, challenge_of, pending_by, signer_by, final_keys, staying_signer};
 ghost use Rattle.spec_world.specs.Sending.{greeting_text, setup_text, request_text};
-ghost use Rattle.examples_world.specs.runs.Ends.{greeted_end, frame_step, echo, probe, cancel, two_echoes, related_echoes, statuses_of, go_through, related_probe, first_echo, echo_and_probe};
+ghost use Rattle.examples_world.specs.runs.Ends.{greeted_end, frame_step, echo, probe, cancel, two_echoes, related_echoes, statuses_of, go_through, related_probe, first_echo, echo_and_probe, nobody};
+ghost use Rattle.examples_world.specs.runs.Ends.{echo_header, faults_of, header_of, in_front_of, lone_setup};
 ghost use Rattle.examples_world.specs.runs.Opened.{on_a_tree, made_and_closed, refused_and_closed, refused_and_apart};
+ghost use Rattle.examples_world.specs.runs.Opened.{misplaced_create, on_no_session, signers_of, with_between};
 ghost use Rattle.examples_world.specs.runs.Keyed.{go_in_session, two_trees, keyed_end, signed_echo, signed_reply};
 ghost use Rattle.examples_world.specs.runs.Keyed.{sealed_echo, sealed_reply, keyed_logons, binding, bound_second};
-ghost use Rattle.examples_world.specs.runs.Keyed.{probe_reply, flagged_transform, unsigned_refusal, bound_request, refused_by};
+ghost use Rattle.examples_world.specs.runs.Keyed.{probe_reply, flagged_transform, tag_of_0, tag_of_1, tag_of_2, unsigned_refusal};
+ghost use Rattle.examples_world.specs.runs.Keyed.{bound_request, other_end, other_signer, refused_by};
 ghost use Rattle.examples_world.specs.runs.Events.{two_disconnects, with_mishaps, lacks, halts, setup_behind, penniless};
 ghost use Rattle.examples_world.specs.runs.Events.{granting, fault_at};
 ghost use Rattle.examples_world.specs.runs.Meeting.{client_of_logon, first_id, sent, dialog_sent, create_asked};
 ghost use Rattle.examples_world.specs.runs.Meeting.{greeting_heard, first_setup_heard, last_told, tree_told};
-ghost use Rattle.examples_world.specs.runs.Meeting.{create_told, signed_tree_heard};
+ghost use Rattle.examples_world.specs.runs.Meeting.{create_told, signed_tree_heard, first_moment, alone_logon, shown_alone};
 ghost use Rattle.examples_world.specs.runs.Worked as worked;
 ghost use Rattle.examples_world.specs.connections.Parts.{some_keys};
 ghost use Rattle.examples_world.specs.settings.Logon.{share_name};
@@ -39,6 +42,17 @@ pub fn two_echoes_example()
 /// An id is taken once.
 pub fn id_taken_twice_example()
     ensures { (frame_step (frame_step greeted_end (echo 1 0)).server_end (echo 1 0)).ends ≡ Some (OutsideWindow 1) }
+{}
+
+/// What stands behind a SESSION_SETUP in its frame is refused, and what stands behind a message that is refused there, though it is
+/// signed itself: behind one without a signature, a CANCEL too. An ECHO of no session isn't refused, and bars nothing.
+pub fn barred_example()
+    ensures setup { faults_of (check_frame greeted_end (in_front_of (header_of 1 1 0 0) (probe 2 0))) ≡ None ∷ Some 0xc000_0022 ∷ [] }
+    ensures unsigned { faults_of (check_frame (keyed_end false) (in_front_of (echo_header 2 0 0) signed_echo))
+        ≡ Some 0xc000_0022 ∷ Some 0xc000_0022 ∷ [] }
+    ensures cancel { faults_of (check_frame (keyed_end false) (in_front_of (header_of 12 2 0 0) signed_echo))
+        ≡ Some 0xc000_0022 ∷ Some 0xc000_0022 ∷ [] }
+    ensures probe { faults_of (check_frame greeted_end (in_front_of (header_of 13 1 0 0) (probe 2 0))) ≡ None ∷ None ∷ [] }
 {}
 
 /// A CANCEL takes no id and has no reply.
@@ -60,6 +74,23 @@ pub fn made_and_closed_example()
     ensures opens { (on_a_tree made_and_closed).server.opens ≡ [] }
 {}
 
+/// What names no open hands on the one of the message before it: the CLOSE behind an ECHO, a CANCEL, or a CHANGE_NOTIFY, which this
+/// server doesn't know, closes what the CREATE made.
+pub fn between_example()
+    ensures echo { statuses_of (on_a_tree (with_between 13)).replies ≡ 0 ∷ 0 ∷ 0 ∷ [] }
+    ensures echo_opens { (on_a_tree (with_between 13)).server.opens ≡ [] }
+    ensures cancel { statuses_of (on_a_tree (with_between 12)).replies ≡ 0 ∷ 0 ∷ [] }
+    ensures cancel_opens { (on_a_tree (with_between 12)).server.opens ≡ [] }
+    ensures notify { statuses_of (on_a_tree (with_between 15)).replies ≡ 0 ∷ 0xc000_00bb ∷ 0 ∷ [] }
+    ensures notify_opens { (on_a_tree (with_between 15)).server.opens ≡ [] }
+{}
+
+/// Who signs the answer to a CREATE, signs that to the CLOSE that fails with it; nobody signs where the connection found a fault.
+pub fn failed_signers_example()
+    ensures faulty { signers_of (on_no_session (Some 0xc000_0022)).replies ≡ None ∷ None ∷ [] }
+    ensures rightful { signers_of (on_no_session None).replies ≡ Some some_keys.signing ∷ Some some_keys.signing ∷ [] }
+{}
+
 /// A CLOSE behind a CREATE that failed fails with its status, also where an ECHO stands between them. Behind a message
 /// that isn't related the CREATE is forgotten: an open of zeros is none (FILE_CLOSED).
 pub fn refused_create_example()
@@ -67,11 +98,15 @@ pub fn refused_create_example()
     ensures apart { statuses_of (on_a_tree refused_and_apart).replies ≡ 0xc000_0022 ∷ 0xc000_0128 ∷ 0xc000_0128 ∷ [] }
 {}
 
-/// The related flag on a frame's first message breaks its form; what isn't signed as owed is refused before.
+/// The related flag on a frame's first message breaks its form, of a CREATE and a SESSION_SETUP too; what isn't signed as owed is
+/// refused before.
 pub fn first_related_example()
     ensures plain { statuses_of (go_through (first_echo 0 None)).replies ≡ 0 ∷ [] }
     ensures related { statuses_of (go_through (first_echo 4 None)).replies ≡ 0xc000_000d ∷ [] }
     ensures refused { statuses_of (go_through (first_echo 4 (Some 0xc000_0022))).replies ≡ 0xc000_0022 ∷ [] }
+    ensures create { statuses_of (on_a_tree misplaced_create).replies ≡ 0xc000_000d ∷ [] }
+    ensures setup { statuses_of (go_through (lone_setup 4)).replies ≡ 0xc000_000d ∷ [] }
+    ensures placed_setup { statuses_of (go_through (lone_setup 0)).replies ≡ 0xc000_0203 ∷ [] }
 {}
 
 /// Without a mishap the frame's step is the connection's own.
@@ -112,8 +147,9 @@ pub fn setups_example()
 
 /// A request too short for its FileId names 16 zeros. An IOCTL's stands at 72.
 pub fn short_request_example()
-    ensures short { file_named 11 (replicate 87 1) ≡ replicate 16 0 }
-    ensures whole { file_named 11 (replicate 88 1) ≡ replicate 16 1 }
+    ensures place { file_place 11 ≡ Some 72 }
+    ensures short { file_at 72 (replicate 87 1) ≡ replicate 16 0 }
+    ensures whole { file_at 72 (replicate 88 1) ≡ replicate 16 1 }
 {}
 
 /// No request of a dialog follows where no credit is held behind the response; behind TREE_CONNECT and a binding none does.
@@ -145,16 +181,17 @@ pub fn probe_example()
     ensures barred { (frame_step greeted_end echo_and_probe).status ≡ Some 0xc000_0022 }
 {}
 
-/// A transform header of other Flags than 1 is none.
+/// A transform header of other Flags than 1 is none, though its tag is right.
 pub fn transform_flags_example()
-    ensures none { opened_by (Some some_keys) (flagged_transform 0) ≡ None }
-    ensures two { opened_by (Some some_keys) (flagged_transform 2) ≡ None }
-    ensures one { is_encrypted (flagged_transform 1) ≡ true }
+    ensures none { opened_by (Some some_keys) (flagged_transform 0 tag_of_0) ≡ None }
+    ensures two { opened_by (Some some_keys) (flagged_transform 2 tag_of_2) ≡ None }
+    ensures one { opened_by (Some some_keys) (flagged_transform 1 tag_of_1) ≡ Some [] }
 {}
 
 /// A frame before a session has at most 66,000 bytes.
 pub fn first_frames_example()
-    ensures long { text_of None (replicate 66001 0) ≡ Err BadFrame }
+    ensures long { is_too_long None (replicate 66001 0) ≡ true }
+    ensures refused { text_of None (replicate 66001 0) ≡ Err BadFrame }
     ensures whole { is_too_long None (replicate 66000 0) ≡ false }
     ensures later { is_too_long (Some some_keys) (replicate 66001 0) ≡ false }
 {}
@@ -171,16 +208,17 @@ pub fn unsigned_refusal_example()
 {}
 
 /// A refused binding is signed by the live session's key with the algorithm of this connection; not where the request isn't signed,
-/// has a wrong signature, or comes from another client. Where the session isn't live, the connection signs.
+/// has a wrong signature whatever the status, or comes from another client. Where the session isn't live, the connection's own signs.
 pub fn refused_binding_example()
     ensures other_algorithm { refused_by true true 0xc000_000d ≡ Some (record some_keys.signing { algorithm = 2 }) }
     ensures other_user { refused_by true true 0xc000_0022 ≡ Some (record some_keys.signing { algorithm = 2 }) }
     ensures unsigned { refused_by false false 0xc000_000d ≡ None }
     ensures ill_signed { refused_by true false 0xc000_0022 ≡ None }
     ensures without_the_key { refused_by true false 0xc000_000d ≡ None }
+    ensures not_told { refused_by true false 0xc000_00d0 ≡ None }
     ensures other_client { refused_by true true 0xc000_0203 ≡ None }
-    ensures in_the_making { staying_signer nothing_yet keyed_logons (keyed_end false) binding (Setup (bound_request true true)) 0xc000_00d0
-        ≡ Some some_keys.signing }
+    ensures in_the_making { staying_signer nothing_yet keyed_logons other_end binding (Setup (bound_request true true)) 0xc000_00d0
+        ≡ Some other_signer }
 {}
 
 /// A sealed request has a sealed reply, which takes a nonce.
@@ -191,8 +229,9 @@ pub fn sealed_reply_example()
 
 /// In a binding the session signs the interim response, and the channel has the session's cipher keys and the next number.
 pub fn binding_example()
-    ensures signer { signer_of [] keyed_logons 0 greeted_end binding (Interim true) ≡ Some some_keys.signing }
-    ensures keys { (final_keys [] keyed_logons 0 greeted_end binding true).to_server ≡ replicate 32 2 }
+    ensures signer { signer_by nothing_yet nobody.users keyed_logons 0 greeted_end binding (Setup (bound_request true true)) 0xc000_0016
+        (Interim true) ≡ Some some_keys.signing }
+    ensures keys { (final_keys nobody.users keyed_logons 0 greeted_end binding true).to_server ≡ replicate 32 2 }
     ensures channel { bound_second.channel ≡ 2 }
 {}
 
@@ -208,6 +247,17 @@ pub fn worked_setup_example()
     ensures interim { first_setup_heard.frames ≡ worked.interim ∷ [] }
     ensures second { setup_text false 0 worked.second_token (dialog_sent 2 first_id) ≡ worked.second_setup }
     ensures last { last_told ≡ worked.last_reply }
+{}
+
+/// NTLM's messages alone. A type 1 begins a logon where the settings say so, and the type 2 alone answers it. Behind it a type 3
+/// in SPNEGO is bad, and the answer that ends the logon is empty.
+pub fn worked_bare_example()
+    ensures begins { begun_by true worked.type_1 ≡ Some (record { list = []; first = worked.type_1 }) }
+    ensures wrapped { begun_by false worked.type_1 ≡ None }
+    ensures challenge { challenge_of (pending_by true worked.type_1 worked.server_challenge (first_moment + 3)) ≡ worked.type_2 }
+    ensures again { shown_alone worked.type_1 ≡ Begins }
+    ensures other { shown_alone worked.second_token ≡ Bad }
+    ensures last { final_token [] alone_logon false ≡ [] }
 {}
 
 /// TREE_CONNECT and its response as they are before they are sealed; and the server's step over a signed one.

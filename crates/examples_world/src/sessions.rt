@@ -2,7 +2,7 @@
 //! values of hashes are Python's.
 #![tactic(auto, unfolding(crate::specs::sessions::Computed::computed))]
 
-ghost use Rattle.std.specs.Prelude.{◌≡◌, ℕ, [], ◌∷◌, true, false, Some, None, Ok, Err};
+ghost use Rattle.std.specs.Prelude.{◌≡◌, ℕ, [], ◌∷◌, true, false, replicate, Some, None, Ok, Err};
 ghost use Rattle.spec_crypto.specs.sessions.Chain.{chain};
 ghost use Rattle.spec_crypto.specs.sessions.Choice.{choice};
 ghost use Rattle.spec_crypto.specs.declared.sessions.choice.ChooseError.TheVariants.{NoPreauth, NoHash};
@@ -10,6 +10,8 @@ ghost use Rattle.spec_crypto.specs.sessions.Derivation.{signing_key, to_server_k
 ghost use Rattle.spec_crypto.specs.sessions.Nonces.{nonce_of};
 ghost use Rattle.spec_crypto.specs.sessions.Signing.{signature};
 ghost use Rattle.spec_crypto.specs.declared.tokens.der.DerError.TheVariants.{Truncated, BadLength, BadTag, Trailing, NoNtlm};
+ghost use Rattle.spec_crypto.specs.tokens.Acceptor.{challenge_flags};
+ghost use Rattle.spec_crypto.specs.tokens.Messages.{type1_value};
 ghost use Rattle.spec_crypto.specs.tokens.Spnego.{init_in, resp_in, init_spelling, resp_spelling, ntlm_list};
 
 /// The chain over two messages.
@@ -33,6 +35,14 @@ pub fn derivation_example()
         ∷ 0 ∷ 0 ∷ 0 ∷ 0 ∷ 0 ∷ 0 ∷ 0 ∷ 0 ∷ 0 ∷ 0 ∷ 0 ∷ 0 ∷ 0 ∷ 0 ∷ 0 ∷ 0 ∷ 0 ∷ 0 ∷ 0 ∷ 0 ∷ 0 ∷ 0 ∷ 0 ∷ 0 ∷ 0 ∷ 0 ∷ 0 ∷ 0
         ∷ 0 ∷ 0 ∷ 0 ∷ 0 ∷ 0 ∷ 0 ∷ []) 4 ≡ 77 ∷ 138 ∷ 53 ∷ 14 ∷ 221 ∷ 131 ∷ 208 ∷ 19 ∷ 44 ∷ 217 ∷ 223 ∷ 223 ∷ 71 ∷ 36 ∷
         236 ∷ 177 ∷ 115 ∷ 110 ∷ 65 ∷ 74 ∷ 239 ∷ 114 ∷ 97 ∷ 149 ∷ 55 ∷ 157 ∷ 175 ∷ 211 ∷ 31 ∷ 28 ∷ 2 ∷ 114 ∷ [] }
+{}
+
+/// The challenge takes over of a first message's flags those that this server knows, sign 0x10, seal 0x20 and always sign 0x8000 too.
+pub fn challenge_flags_example()
+    ensures heard { (type1_value (78 ∷ 84 ∷ 76 ∷ 77 ∷ 83 ∷ 83 ∷ 80 ∷ 0 ∷ 1 ∷ 0 ∷ 0 ∷ 0 ∷ 183 ∷ 130 ∷ 8 ∷ 226 ∷ replicate 24 0)).flags
+        ≡ 0xe208_82b7 }
+    ensures all { challenge_flags 0xe208_82b7 ≡ 0x608a_8235 }
+    ensures none { challenge_flags 0x0000_0002 ≡ 0x0082_0204 }
 {}
 
 /// The first known algorithm of each list, and what is missing.

@@ -1,10 +1,12 @@
 pub mod Fields
 pub mod ReadBack
+pub mod Paid
 pub mod Texts
 pub mod PathLength
 pub mod Items
 pub mod Elements
 pub mod Settings
+pub mod SettingBytes
 pub mod Chained
 pub mod Limits
 pub mod HeardBack

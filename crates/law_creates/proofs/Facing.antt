@@ -1,7 +1,10 @@
 -- What is known where the server takes a message: of the client, of what waits, and of the columns that an expiry leaves.
-use Rattle.std.proofs.Common.{eqb-true, ◌≡◌, ℕ, ◌<◌, ◌==◌, Bool, true, false, if◌then◌else◌, List, Option, Some, None}
+use Rattle.spec_exchange.specs.Operations.{Op}
+use Rattle.law_sessions.proofs.sessions.Run.{own_work}
+use Rattle.law_sessions.proofs.sessions.Serving.{work_keeps}
+use Rattle.std.proofs.Common.{eqb-true, ap, ◌≡◌, ◌≢◌, ℕ, ◌<◌, ◌==◌, Bool, true, false, if◌then◌else◌, List, Option, Some, None}
 use Rattle.std.proofs.Common.{slice_get, is_some, refl, arith, sym, ◌∙◌, subst, not}
-use Rattle.spec_exchange.specs.Commands.{Command, Create, CreateRequest}
+use Rattle.spec_exchange.specs.Commands.{Command, TreeDisconnect, Create, CreateRequest}
 use Rattle.spec_exchange.specs.State.{Server, Tree, Making}
 use Rattle.spec_exchange.specs.CheckSetup.{tree_in, is_new}
 use Rattle.spec_exchange.specs.Files.{set_delete_pending}
@@ -10,9 +13,9 @@ use Rattle.spec_exchange.specs.Step.{expire, add_expired_guid}
 use Rattle.spec_exchange.specs.Client.{Client, guid_for}
 use Rattle.spec_exchange.specs.Network.{Conn, Sent, Token, ForDialog, ForOp, ForAttach}
 use Rattle.spec_exchange.specs.Runs.{is_send_of}
-use Rattle.law_sessions.specs.messages.Connections.{Connections, makes_open, acts_once, create_at}
+use Rattle.law_sessions.specs.messages.Connections.{Connections, makes_open, acts_once, create_at, its_request}
 use Rattle.law_server.proofs.tables.Logic.{either}
-use Rattle.law_sessions.specs.sessions.Sessions.{RankedUp, is_ops, logon_user}
+use Rattle.law_sessions.specs.sessions.Sessions.{RankedUp, is_ops, is_work, logon_user}
 use Rattle.law_creates.specs.Creates.{DialogUp, AskUp, has_files}
 use Rattle.law_creates.proofs.Requests.{asks_create, makes_of}
 
@@ -97,6 +100,22 @@ own_create c conns a k x0 r P f dialog ask front is new go = by_token x0.token r
     by_token (ForOp g) e = let bd = f.bodies k 0 g x0 front e in
         go g e (makes_of (c.op g) (guid_for c g) (c.file (create_at c g)) (c.slot_of g) (c.number_of g) r
         (sym bd.1 ∙ is))
+
+its_work : (op : Op) (guid file slot number : ℕ) → is_work (its_request op guid file slot number) ≡ true
+unfolding its_request
+its_work op guid file slot number = (own_work op guid file slot number).0
+
+-- no message gives a tree up
+pub keeps_trees : (c : Client) (conns : ℕ → Conn) (a : ℕ → ℕ) (k : ℕ) (x0 : Sent) → Connections c conns a → DialogUp conns → AskUp conns
+    → slice_get (conns k).up 0 ≡ Some x0 → x0.message.command ≢ TreeDisconnect
+keeps_trees c conns a k x0 f dialog ask front is = by_token x0.token refl
+  where
+    by_token : (tk : Token) → x0.token ≡ tk → ⊥
+    by_token ForDialog e = let d = dialog k 0 x0 front e in absurd (grind arith)
+    by_token (ForAttach g) e = let d = ask k 0 g x0 front e in absurd (grind arith)
+    by_token (ForOp g) e = let bd = f.bodies k 0 g x0 front e in
+        work_keeps x0.message.command (ap is_work bd.1 ∙ its_work (c.op g) (guid_for c g) (c.file (create_at c g))
+        (c.slot_of g) (c.number_of g)) is
 
 -- a message that creates is of an operation
 pub of_op : (conns : ℕ → Conn) (k : ℕ) (x0 : Sent) (r : CreateRequest) → DialogUp conns → slice_get (conns k).up 0

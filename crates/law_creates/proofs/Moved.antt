@@ -1,4 +1,5 @@
 -- Each verdict of the checks keeps what holds of creates.
+use Rattle.law_creates.proofs.Facing.{keeps_trees}
 use Rattle.std.proofs.Common.{◌≡◌, ◌≢◌, ℕ, ◌+◌, ◌≤◌, ◌<◌, nat_le, Bool, true, false, not, ◌&&◌, if◌then◌else◌, List}
 use Rattle.std.proofs.Common.{Option, Some, None, slice_get, is_some, refl, arith, sym, ◌∙◌, ap, subst, ◌⊎◌, inl, inr}
 use Rattle.spec_exchange.specs.Status.{success}
@@ -345,4 +346,4 @@ moved c conns a t k x0 now f fc i (EndSession session is_quiet) w =
     other c conns a x0.token _ _ _ refl (other_send c conns a k x0 f fc.front (not_creating _ _ w.command refl))
     (ends_it c conns a t k session now x0 is_quiet fc i)
 moved c conns a t k x0 now f fc i (AddTree pipes) w = still c conns a x0.token (seen t) _ false refl refl i
-moved c conns a t k x0 now f fc i DropTree w = still c conns a x0.token (seen t) _ false refl refl i
+moved c conns a t k x0 now f fc i DropTree w = absurd (keeps_trees c conns a k x0 f i.dialog_up i.ask_up fc.front w.command)

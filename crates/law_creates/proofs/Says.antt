@@ -10,8 +10,8 @@ use Rattle.spec_exchange.specs.State.{Server, Message, Reply}
 use Rattle.spec_exchange.specs.Files.{find}
 use Rattle.spec_exchange.specs.Opens.{deletes, mapped}
 use Rattle.spec_exchange.specs.CheckSetup.{tree_in}
-use Rattle.spec_exchange.specs.CheckCreate.{keeps_guid, max_guids, is_counted_out, names, shares, names, names_of_found}
-use Rattle.spec_exchange.specs.CheckCreate.{found_names, missing_names, action_of, refused_by, refused_create}
+use Rattle.spec_exchange.specs.CheckCreate.{keeps_guid, max_guids, is_counted_out, names, shares, names}
+use Rattle.spec_exchange.specs.CheckCreate.{action_of, refused_by, refused_create}
 use Rattle.spec_exchange.specs.CheckCreate.{after_names, new_check, refusal_check, live_check, guid_check}
 use Rattle.spec_exchange.specs.CheckCreate.{durable_check, reconnect_or_create, create_check}
 use Rattle.spec_exchange.specs.Check.{check, owed, formed, command_check, in_tree, tree_command, has_session}
@@ -31,6 +31,7 @@ use Rattle.law_creates.proofs.Words.{zero_by}
 use Rattle.law_creates.proofs.Moves.{make_new}
 use Rattle.law_creates.proofs.Seeing.{make_seen}
 use Rattle.law_creates.proofs.Moved.{counted}
+use Rattle.law_server.proofs.tables.Checked.{names_refuse}
 
 -- what a reply to the create's own message says
 pub record SayFor (c : Client) (v : Seen) (b : ℕ → ℕ) (g : ℕ) (r : Reply) : Type 0 where
@@ -237,12 +238,6 @@ makes_it c t a g tk m r now found action mi =
 
 abbrev Both : Client → Server → (ℕ → ℕ) → ℕ → Token → Message → ℕ → Verdict → Type 0
 Both c t a g tk m now v = Says c t a g tk m now v × Says c t a g tk m now (without_room v)
-
-names_refuse : (s : Server) (r : CreateRequest) (found : Option ℕ) (status : ℕ) → names s r found ≡ Some status
-    → (status == success) ≡ false
-unfolding names names_of_found found_names missing_names
-names_refuse s r None status e = grind arith
-names_refuse s r (Some f) status e = grind arith
 
 both_turned : (c : Client) (t : Server) (a : ℕ → ℕ) (g : ℕ) (tk : Token) (m : Message) (r : CreateRequest)
     (now status : ℕ) → Mine c t a g tk m r → Free c t g m.session_id → t.present m.session_id ≡ true

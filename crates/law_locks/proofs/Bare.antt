@@ -1,14 +1,15 @@
 -- An answer that owes no record leaves the files as they are.
 use Rattle.std.proofs.lemmas.Bool.{eqb-false}
-use Rattle.std.proofs.Common.{eqb-true, ◌≡◌, ℕ, ◌==◌, Bool, true, false, not, ◌&&◌, if◌then◌else◌, List, [], ◌∷◌, ◌++◌}
+use Rattle.std.proofs.Common.{eqb-true, ◌≡◌, ◌≢◌, ℕ, ◌==◌, Bool, true, false, not, ◌&&◌, if◌then◌else◌, List, [], ◌∷◌, ◌++◌}
 use Rattle.std.proofs.Common.{Option, Some, None, is_some, refl, arith, sym, ◌∙◌, ap, subst}
 use Rattle.std.proofs.lemmas.Bool.Decides.{nat_tests}
 use Rattle.spec_exchange.specs.Table.{put, has, placed_in}
-use Rattle.spec_exchange.specs.Commands.{CreateRequest, deletes_on_close, asks_directory}
+use Rattle.spec_exchange.specs.Commands.{TreeDisconnect, CreateRequest, deletes_on_close, asks_directory}
 use Rattle.spec_exchange.specs.State.{Server, Message, Open, Record, Origin, CreateRecord, DeleteRecord, RemoveRecord, CloseRecord, Kept}
 use Rattle.spec_exchange.specs.Files.{set_delete_pending}
 use Rattle.spec_exchange.specs.Opens.{goes, drop_open, leave_open, pending_behind, leave_records, pending_records}
 use Rattle.spec_exchange.specs.Opens.{shut_records, gone_records}
+use Rattle.spec_exchange.specs.Opens.{granted}
 use Rattle.spec_exchange.specs.CheckCreate.{empties, action_on_found}
 use Rattle.spec_exchange.specs.CheckOpen.{is_late, is_slot, file_of}
 use Rattle.spec_exchange.specs.Records.{origin_of}
@@ -16,6 +17,7 @@ use Rattle.spec_exchange.specs.Effects.{apply, reach, attached, keep_closed, kee
 use Rattle.spec_exchange.specs.Effects.{change_records, create_records, make_open, file_made, is_persistent, next_open}
 use Rattle.spec_exchange.specs.Effects.{open_row, new_file, end_session, end_if_named, files_behind, leave_all}
 use Rattle.spec_exchange.specs.Effects.{leave_all_records, end_records, records_if_named, plain_of, leaves, new_open}
+use Rattle.spec_exchange.specs.Effects.{final_attributes}
 use Rattle.spec_exchange.specs.Verdict.{Verdict, Refuse, Give, KeepRefusal, Repeat, Attach, Make, TurnDown, Tell, Show}
 use Rattle.spec_exchange.specs.Verdict.{KeepSlot, PutRanges, Alter, CloseOpen, Challenge, ChallengeBinding, Begin, Join}
 use Rattle.spec_exchange.specs.Verdict.{EndSession, AddTree, DropTree, Change, PutBytes, PutEnd, PutBasic}
@@ -170,8 +172,9 @@ unfolding create_records
 opened_there s m r found action now e = of_bool (action == 1) (is_persistent r.durable) (λ h. eqb-true action 1 h) e
   where
     of_bool : (a p : Bool) → (a ≡ true → action ≡ 1)
-        → (if a && not p then [] else CreateRecord (origin_of m) action (new_file s found) r.path r.attributes
-        (asks_directory r) now (new_open s m r r.durable) ∷ []) ≡ [] → action ≡ 1
+        → (if a && not p then [] else CreateRecord (origin_of m) action (new_file s found) r.path
+        (final_attributes s r found) (asks_directory r) now
+        (new_open s m r (granted s (new_file s found) r.access) r.durable) ∷ []) ≡ [] → action ≡ 1
     of_bool true p h e = h refl
     of_bool false p h e = absurd (cc)
 
@@ -218,24 +221,24 @@ made_steady t m r (Some g) action now f e =
         (ap (λ s. placed_in (next_open t) s.opens) same)
         (ap (λ s. put s.opened (next_open t) (open_row t m r g action)) same)
 
-pub bare_steady : (t : Server) (m : Message) (now : ℕ) (v : Verdict) → Facts t m v → (apply t m now v).records ≡ []
+pub bare_steady : (t : Server) (m : Message) (now : ℕ) (v : Verdict) → m.command ≢ TreeDisconnect → Facts t m v → (apply t m now v).records ≡ []
     → Steady t (apply t m now v).server
-bare_steady t m now (Refuse status) f e = steady_self t
-bare_steady t m now (Give body) f e = steady_self t
-bare_steady t m now (KeepRefusal guid status) f e = steady_same t _ refl refl refl refl refl
-bare_steady t m now (Repeat o r) f e = attached_steady t m o
-bare_steady t m now (Attach o r) f e = attached_steady t m o
-bare_steady t m now (Make r found action) f e = made_steady t m r found action now f e
-bare_steady t m now (TurnDown o status) f e = reach_steady t m o
-bare_steady t m now (Tell o body) f e = reach_steady t m o
-bare_steady t m now (Show o last body) f e = let st = reach_steady t m o in record {
+bare_steady t m now (Refuse status) kept f e = steady_self t
+bare_steady t m now (Give body) kept f e = steady_self t
+bare_steady t m now (KeepRefusal guid status) kept f e = steady_same t _ refl refl refl refl refl
+bare_steady t m now (Repeat o r) kept f e = attached_steady t m o
+bare_steady t m now (Attach o r) kept f e = attached_steady t m o
+bare_steady t m now (Make r found action) kept f e = made_steady t m r found action now f e
+bare_steady t m now (TurnDown o status) kept f e = reach_steady t m o
+bare_steady t m now (Tell o body) kept f e = reach_steady t m o
+bare_steady t m now (Show o last body) kept f e = let st = reach_steady t m o in record {
   entries = st.entries;
   delete_pending = st.delete_pending;
   directory = st.directory;
   others = st.others;
 }
-bare_steady t m now (KeepSlot o index number status elements) f e = slot_steady t (reach t m o) o index number status (reach_steady t m o)
-bare_steady t m now (PutRanges o index number ranges elements) f e =
+bare_steady t m now (KeepSlot o index number status elements) kept f e = slot_steady t (reach t m o) o index number status (reach_steady t m o)
+bare_steady t m now (PutRanges o index number ranges elements) kept f e =
     let st = reach_steady t m o in slot_steady t (set_ranges (reach t m o) (file_of t o) ranges) o index number 0
     (record {
       entries = st.entries;
@@ -243,19 +246,19 @@ bare_steady t m now (PutRanges o index number ranges elements) f e =
       directory = st.directory;
       others = st.others;
     })
-bare_steady t m now (Alter o change body) f e = change_steady t (reach t m o) m (file_of t o) now change (reach_steady t m o) e
-bare_steady t m now (CloseOpen o body) f e = closed_steady t (leave_open t o) m.session_id (t.opened o).create_guid
+bare_steady t m now (Alter o change body) kept f e = change_steady t (reach t m o) m (file_of t o) now change (reach_steady t m o) e
+bare_steady t m now (CloseOpen o body) kept f e = closed_steady t (leave_open t o) m.session_id (t.opened o).create_guid
     (leave_steady t (origin_of m) o e)
-bare_steady t m now Challenge f e = steady_same t _ refl refl refl refl refl
-bare_steady t m now (ChallengeBinding session) f e = steady_same t _ refl refl refl refl refl
-bare_steady t m now (Begin session user previous r is_quiet) f e =
+bare_steady t m now Challenge kept f e = steady_same t _ refl refl refl refl refl
+bare_steady t m now (ChallengeBinding session) kept f e = steady_same t _ refl refl refl refl refl
+bare_steady t m now (Begin session user previous r is_quiet) kept f e =
     let st = named_steady t (origin_of m) now previous is_quiet e in record {
       entries = st.entries;
       delete_pending = st.delete_pending;
       directory = st.directory;
       others = st.others;
     }
-bare_steady t m now (Join session) f e = steady_same t _ refl refl refl refl refl
-bare_steady t m now (EndSession session is_quiet) f e = end_steady t (origin_of m) session now is_quiet e
-bare_steady t m now (AddTree pipes) f e = steady_same t _ refl refl refl refl refl
-bare_steady t m now DropTree f e = steady_same t _ refl refl refl refl refl
+bare_steady t m now (Join session) kept f e = steady_same t _ refl refl refl refl refl
+bare_steady t m now (EndSession session is_quiet) kept f e = end_steady t (origin_of m) session now is_quiet e
+bare_steady t m now (AddTree pipes) kept f e = steady_same t _ refl refl refl refl refl
+bare_steady t m now DropTree kept f e = absurd (kept f.command)

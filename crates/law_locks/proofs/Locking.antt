@@ -1,4 +1,5 @@
 -- The server takes a copy of a lock or unlock.
+use Rattle.law_server.proofs.tables.Logic.{both}
 use Rattle.std.proofs.Common.{eqb-true, ◌≡◌, ◌≢◌, ◌⊎◌, inl, inr, ℕ, ◌+◌, ◌==◌, ◌≤◌, Bool, true, false, ◌&&◌}
 use Rattle.std.proofs.Common.{if◌then◌else◌, List, [], ◌∷◌, ◌++◌, length, Option, Some, None, slice_get, is_some, refl}
 use Rattle.std.proofs.Common.{arith, sym, ◌∙◌, ap, subst}
@@ -7,7 +8,7 @@ use Rattle.spec_exchange.specs.Status.{success, user_session_deleted, disk_full}
 use Rattle.spec_exchange.specs.Commands.{Command, Lock, Element, lock_form, deletes_on_close}
 use Rattle.spec_exchange.specs.State.{Server, Message, Record, LockRecord, Kept, Range}
 use Rattle.spec_exchange.specs.Files.{set_delete_pending, exists, is_full_directory, is_directory, path_of}
-use Rattle.spec_exchange.specs.Opens.{goes, drop_open, file_has_open, is_of_session}
+use Rattle.spec_exchange.specs.Opens.{goes, drop_open, file_has_open, is_of_tree}
 use Rattle.spec_exchange.specs.CheckOpen.{is_late, is_slot, file_of}
 use Rattle.spec_exchange.specs.Check.{check}
 use Rattle.spec_exchange.specs.Records.{lower_limit, fits, entry_bytes, origin_of}
@@ -321,19 +322,20 @@ count_same a tk g n e = grind arith
 same_number : (x : ℕ) → (x == x) ≡ true
 same_number x = grind arith
 
-both_hold : (b : Bool) (u : Option ℕ) (x : ℕ) → b ≡ true → u ≡ Some x → (b && is_at x u) ≡ false → true ≡ false
-both_hold b u x e f h = let t : (b && is_at x u) ≡ true = rw (e, f) (same_number x) in sym t ∙ h
+all_hold : (b : Bool) (u : Option ℕ) (x y z : ℕ) → b ≡ true → u ≡ Some x → y ≡ z → ((b && is_at x u) && (y == z)) ≡ false → true ≡ false
+all_hold b u x y z e f g h =
+    let t : ((b && is_at x u) && (y == z)) ≡ true = rw (e, f, g) (both (x == x) (z == z) (same_number x) (same_number z)) in sym t ∙ h
 
 -- the open of a copy that isn't attached to its session is gone
 away_gone : (c : Client) (conns : ℕ → Conn) (t : Server) (a : ℕ → ℕ) (k g : ℕ) (x0 : Sent) → Copy c conns t a k g x0
-    → t.present x0.message.session_id ≡ true → is_of_session t (open_at c g) x0.message.session_id ≡ false
+    → t.present x0.message.session_id ≡ true → is_of_tree t (open_at c g) x0.message.session_id x0.message.tree_id ≡ false
     → t.standing (open_at c g) ≡ false
 away_gone c conns t a k g x0 w p off =
     elim (t.standing (open_at c g)) as (λ b. t.standing (open_at c g) ≡ b → t.standing (open_at c g) ≡ false) [
       | true ↦ λ st. let at1 = w.serving.locks.copy_attached k 0 g x0 w.serving.front w.token
           (lock_kind (c.op g) w.lock) p st in
-          absurd (let x = both_hold (t.standing (open_at c g)) (t.session_of_open (open_at c g)) x0.message.session_id
-          st at1 off in cc)
+          absurd (let x = all_hold (t.standing (open_at c g)) (t.session_of_open (open_at c g)) x0.message.session_id
+          (t.tree_of_open (open_at c g)) x0.message.tree_id st at1 (w.serving.own_tree (ap is_ops w.token) (open_at c g) at1) off in cc)
       | false ↦ λ st. st
     ] refl
 

@@ -383,15 +383,7 @@ ask_reconnect op guid file e = grind arith
 
 ask_form : (op : Op) (guid file : ℕ) → makes_open op ≡ true → keeps_form op ≡ true → create_form (asked_again op guid file) ≡ None
 unfolding makes_open asked_again keeps_form
-ask_form (OpCreate path access share disposition persist directory) guid file e f =
-    none_if (create_form (create_request path access share disposition directory None (Some (record {
-      file = file;
-      guid = guid;
-    })))) f
-  where
-    none_if : (u : Option ℕ) → not (is_some u) ≡ true → u ≡ None
-    none_if None e = refl
-    none_if (Some n) e = absurd (cc)
+ask_form (OpCreate path access share disposition persist directory) guid file e f = refl
 ask_form (OpWrite create at bytes) guid file e f = absurd (cc)
 ask_form (OpRead create at size) guid file e f = absurd (cc)
 ask_form (OpEnd create size) guid file e f = absurd (cc)

@@ -11,7 +11,7 @@ use Rattle.spec_exchange.specs.Commands.{create_form, path_form, lock_form, is_s
 use Rattle.spec_exchange.specs.State.{Server, Message, Empty, Range}
 use Rattle.spec_exchange.specs.Files.{find, is_directory}
 use Rattle.spec_exchange.specs.Ranges.{RangeAnswer, Stands, Denied, change_ranges}
-use Rattle.spec_exchange.specs.Opens.{is_of_session, deletes, mapped}
+use Rattle.spec_exchange.specs.Opens.{is_of_session, is_of_tree, deletes, mapped}
 use Rattle.spec_exchange.specs.CheckCreate.{reconnect_check, reconnect_or_create, has_guid, guid_check, live_check}
 use Rattle.spec_exchange.specs.CheckCreate.{refusal_check, new_check, durable_check, keeps_guid, max_guids}
 use Rattle.spec_exchange.specs.CheckCreate.{is_counted_out, after_names, names, shares, refused_create, refused_by}
@@ -61,7 +61,7 @@ pub data LockSees (s : Server) (m : Message) (o i n : ℕ) (es : List Element) :
   Deleted : LockSees s m o i n es (Refuse user_session_deleted)
   NoTree : s.session_on m.connection ≡ Some m.session_id → tree_in (s.trees m.session_id) m.tree_id ≡ None
       → LockSees s m o i n es (Refuse network_name_deleted)
-  Away : s.session_on m.connection ≡ Some m.session_id → is_of_session s o m.session_id ≡ false → LockSees s m o i n es (Refuse file_closed)
+  Away : s.session_on m.connection ≡ Some m.session_id → is_of_tree s o m.session_id m.tree_id ≡ false → LockSees s m o i n es (Refuse file_closed)
   Done : s.session_on m.connection ≡ Some m.session_id → s.standing o ≡ true → kept_at (s.lock_sequences o i) n
       ≡ Some success → LockSees s m o i n es (Give Empty)
   Again : (status : ℕ) → s.session_on m.connection ≡ Some m.session_id → s.standing o ≡ true
@@ -109,8 +109,8 @@ lock_sees s m o i n es fault is formed1 slot =
     through P s m fault (ap is_setup is) Deleted (λ status e. let f : form m.command ≡ None = ap form is ∙ formed1 in absurd (grind arith))
     (λ on _. subst (λ c. P (command_check s m c)) (sym is)
     (in_trees P s m (NoTree on) (λ pipes t. subst (λ c. P (tree_command s m pipes c)) (sym is)
-    (either P (is_of_session s o m.session_id) _ _
-    (λ h. let os = of_session s o m.session_id h in slot_sees s m o i n es slot on os.0 (kept_lock s o i n) (sym (kept_is s o i n slot)))
+    (either P (is_of_tree s o m.session_id m.tree_id) _ _
+    (λ h. let os = of_session s o m.session_id (front_of (is_of_session s o m.session_id) _ h) in slot_sees s m o i n es slot on os.0 (kept_lock s o i n) (sym (kept_is s o i n slot)))
     (λ h. Away on h)))))
 
 -- ---- a close
@@ -128,7 +128,8 @@ close_sees s m o fault is =
     through P s m fault (ap is_setup is) Deleted2 (λ status e. let f : form m.command ≡ None = ap form is in absurd (grind arith))
     (λ on _. subst (λ c. P (command_check s m c)) (sym is)
     (in_trees P s m (NoTree2 on) (λ pipes t. subst (λ c. P (tree_command s m pipes c)) (sym is)
-    (either P (is_of_session s o m.session_id) _ _ (λ h. let os = of_session s o m.session_id h in Shuts on os.0) (λ h. Away2)))))
+    (either P (is_of_tree s o m.session_id m.tree_id) _ _
+    (λ h. let os = of_session s o m.session_id (front_of (is_of_session s o m.session_id) _ h) in Shuts on os.0) (λ h. Away2)))))
 
 -- ---- a create that asks for its open again
 

@@ -1,4 +1,5 @@
 -- The server takes the front of a connection.
+use Rattle.law_sessions.proofs.sessions.Trees.{before_tied, own_tree}
 use Rattle.std.proofs.Common.{◌≡◌, inl, inr, ℕ, ◌+◌, ◌<◌, Bool, true, false, List, [], ◌++◌, Some, slice_get, is_some}
 use Rattle.std.proofs.Common.{refl, arith, sym, ◌∙◌, ap, subst}
 use Rattle.spec_exchange.specs.Commands.{Command, Aside, Unreadable, Setup, Logoff, TreeConnect, TreeDisconnect, Create}
@@ -96,6 +97,8 @@ serving_at c conns s a k x0 now t u i front b full =
       trees = λ o. subst (λ (z : Rest). z.present x0.message.session_id ≡ true
           → is_some (tree_in (z.trees x0.message.session_id) x0.message.tree_id) ≡ true) (sym r)
           (u.sessions.tree_up k 0 x0 front o);
+      own_tree = λ ops o at. let q = before_tied s now t b o x0.message.session_id at in
+          q.1 ∙ own_tree c conns s k 0 x0 o u.sessions front ops q.0;
       kinds = subst (λ (z : Rest). (y n : ℕ) (p : Bool) → tree_in (z.trees y) n ≡ Some p → p
           ≡ same_name c.who.share pipes_name) (sym r) u.kinds;
       dialog = λ o. (u.sessions.dialog_up k 0 x0 front o).1;

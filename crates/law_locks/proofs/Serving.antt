@@ -1,8 +1,9 @@
 -- What is known where the server takes the front of a connection, and how a verdict that isn't a lock's keeps it.
-use Rattle.std.proofs.Common.{eqb-true, ◌≡◌, ℕ, ◌+◌, ◌==◌, ◌≤◌, ◌<◌, Bool, true, false, ◌&&◌, if◌then◌else◌, List, []}
+use Rattle.law_sessions.proofs.sessions.Serving.{work_keeps, dialog_keeps}
+use Rattle.std.proofs.Common.{eqb-true, ◌≡◌, ◌≢◌, ℕ, ◌+◌, ◌==◌, ◌≤◌, ◌<◌, Bool, true, false, ◌&&◌, if◌then◌else◌, List, []}
 use Rattle.std.proofs.Common.{Option, Some, None, slice_get, is_some, refl, arith, sym, ◌∙◌, subst}
 use Rattle.spec_exchange.specs.Status.{success, disk_full}
-use Rattle.spec_exchange.specs.Commands.{Command, Create, CreateRequest, Durable, deletes_on_close}
+use Rattle.spec_exchange.specs.Commands.{Command, TreeDisconnect, Create, CreateRequest, Durable, deletes_on_close}
 use Rattle.spec_exchange.specs.State.{Server, Message, Answer, Record}
 use Rattle.spec_exchange.specs.CheckSetup.{tree_in}
 use Rattle.spec_exchange.specs.CheckCreate.{refused_by}
@@ -50,9 +51,19 @@ pub record Serving (c : Client) (conns : ℕ → Conn) (t : Server) (a : ℕ →
   pub users : (x : ℕ) → t.present x ≡ true → t.user x ≡ logon_user c.who.logon
   pub trees : is_ops x0.token ≡ true → t.present x0.message.session_id ≡ true
       → is_some (tree_in (t.trees x0.message.session_id) x0.message.tree_id) ≡ true
+  pub own_tree : is_ops x0.token ≡ true → (o : ℕ) → t.session_of_open o ≡ Some x0.message.session_id → t.tree_of_open o ≡ x0.message.tree_id
   pub kinds : TreeKinds c t
   pub work : is_ops x0.token ≡ true → is_work x0.message.command ≡ true
   pub dialog : is_ops x0.token ≡ false → is_dialog x0.message.command ≡ true
+
+-- it gives no tree up
+pub keeps_trees : (c : Client) (conns : ℕ → Conn) (t : Server) (a : ℕ → ℕ) (k : ℕ) (x0 : Sent) → Serving c conns t a k x0
+    → x0.message.command ≢ TreeDisconnect
+keeps_trees c conns t a k x0 w = by (is_ops x0.token) refl
+  where
+    by : (b : Bool) → is_ops x0.token ≡ b → x0.message.command ≢ TreeDisconnect
+    by true e = work_keeps x0.message.command (w.work e)
+    by false e = dialog_keeps x0.message.command (w.dialog e)
 
 -- what an answer comes to
 abbrev pub Served : Client → (ℕ → Conn) → (ℕ → ℕ) → ℕ → Sent → Answer → Type 0
@@ -138,7 +149,7 @@ new_kept c conns t a k x0 (Begin session user previous r is_quiet) w f = tt
 new_kept c conns t a k x0 (Join session) w f = tt
 new_kept c conns t a k x0 (EndSession session is_quiet) w f = tt
 new_kept c conns t a k x0 (AddTree pipes) w f = tt
-new_kept c conns t a k x0 DropTree w f = tt
+new_kept c conns t a k x0 DropTree w f = keeps_trees c conns t a k x0 w f.command
 
 -- creates act by their own messages alone
 pub plain_other : (c : Client) (conns : ℕ → Conn) (t : Server) (a : ℕ → ℕ) (k : ℕ) (x0 : Sent) (acted : Bool)
@@ -177,7 +188,7 @@ quiet_serve c conns t a k x0 now v rs a2 w f off bare plain same_a shut joined =
     let m = x0.message in let A = apply t m now v in
     quiet_keeps c conns t a (recorded A rs).server a2 m.connection (closes_in m.command) w.low w.links same_a
     (grows (news t m) (closes_in m.command) (view t) (view A.server) (entry_bytes rs)
-    (verdict_quiet t m now v (λ o y h. (w.low.attached o y h).1) f off))
-    (λ big. steady_recorded t A.server _ (bare_steady t m now v f (bare big)))
+    (verdict_quiet t m now v (λ o y h. (w.low.attached o y h).1) (keeps_trees c conns t a k x0 w) f off))
+    (λ big. steady_recorded t A.server _ (bare_steady t m now v (keeps_trees c conns t a k x0 w) f (bare big)))
     plain
     (undeleting t m now v (new_kept c conns t a k x0 v w f) w.locks.kept_files) shut joined w.locks

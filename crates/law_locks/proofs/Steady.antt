@@ -1,5 +1,6 @@
 -- On a full journal no file changes: an answer whose records fit there owes none, and then leaves the files as they are,
 -- so that an open whose file would go with it goes on being such a one.
+use Rattle.spec_exchange.specs.Effects.{opens_of_tree}
 use Rattle.std.proofs.Common.{eqb-true, ◌≡◌, ℕ, ◌+◌, ◌==◌, ◌<◌, Bool, true, false, not, ◌&&◌, ◌||◌, List, [], ◌∷◌, ◌++◌}
 use Rattle.std.proofs.Common.{Option, Some, None, refl, arith, sym, ◌∙◌, ap, subst}
 use Rattle.spec_exchange.specs.Table.{has, is_filled, without}
@@ -110,7 +111,7 @@ heads_apply t m now (Begin session user previous r is_quiet) = heads_named t (or
 heads_apply t m now (Join session) = refl
 heads_apply t m now (EndSession session is_quiet) = heads_end t (origin_of m) session is_quiet
 heads_apply t m now (AddTree pipes) = refl
-heads_apply t m now DropTree = refl
+heads_apply t m now DropTree = heads_all t (origin_of m) (opens_of_tree t m.session_id m.tree_id)
 
 -- ---- files as they were, and no open more but of a file that isn't delete pending
 

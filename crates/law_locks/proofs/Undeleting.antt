@@ -17,6 +17,7 @@ NoDelete v = (o : ℕ) → v.standing o ≡ true → deletes_on_close (v.opened 
 
 abbrev pub NewKept : Verdict → Type 0
 NewKept (Make r found action) = deletes_on_close r.options ≡ false
+NewKept DropTree = ⊥  -- no message gives a tree up
 NewKept _ = Unit {0}
 
 same_view : (v u : View) → u ≡ v → NoDelete v → NoDelete u
@@ -66,4 +67,4 @@ undeleting t m now (Begin session user previous r is_quiet) n k = end_kept t now
 undeleting t m now (Join session) n k = k
 undeleting t m now (EndSession session is_quiet) n k = end_kept t now (Some session) is_quiet k
 undeleting t m now (AddTree pipes) n k = k
-undeleting t m now DropTree n k = k
+undeleting t m now DropTree n k = absurd n

@@ -2,7 +2,7 @@
 use Rattle.std.proofs.Common.{◌≡◌, ◌≢◌, inl, ℕ, ◌+◌, ◌==◌, ◌<◌, Bool, true, false, List, Option, Some, None, is_some}
 use Rattle.std.proofs.Common.{refl, arith, sym, ◌∙◌, subst}
 use Rattle.spec_exchange.specs.Table.{put}
-use Rattle.spec_exchange.specs.Commands.{Command, Close, CreateRequest, SetupRequest}
+use Rattle.spec_exchange.specs.Commands.{Command, TreeDisconnect, Close, CreateRequest, SetupRequest}
 use Rattle.spec_exchange.specs.State.{Server, Message, NewSession, Making}
 use Rattle.spec_exchange.specs.Opens.{id_of, leave_open, with_guid}
 use Rattle.spec_exchange.specs.CheckSetup.{is_new}
@@ -115,26 +115,26 @@ is_slot_verdict (PutRanges o index number ranges elements) = true
 is_slot_verdict _ = false
 
 pub verdict_quiet : (t : Server) (m : Message) (now : ℕ) (v : Verdict) → ((o y : ℕ) → t.session_of_open o ≡ Some y
-    → t.present y ≡ true) → Facts t m v → is_slot_verdict v ≡ false → QuietBy t m (apply t m now v).server
-verdict_quiet t m now (Refuse status) there f off = stays (news t m) (closes_in m.command) (view t)
-verdict_quiet t m now (Give body) there f off = stays (news t m) (closes_in m.command) (view t)
-verdict_quiet t m now (KeepRefusal guid status) there f off = stays (news t m) (closes_in m.command) (view t)
-verdict_quiet t m now (Repeat o r) there f off = attach_quiet t m o
-verdict_quiet t m now (Attach o r) there f off = attach_quiet t m o
-verdict_quiet t m now (Make r found action) there f off = made_quiet t m r found action now
-verdict_quiet t m now (TurnDown o status) there f off = same (news t m) (closes_in m.command) (view t) _ (reach_view t m o)
-verdict_quiet t m now (Tell o body) there f off = same (news t m) (closes_in m.command) (view t) _ (reach_view t m o)
-verdict_quiet t m now (Show o last body) there f off = same (news t m) (closes_in m.command) (view t) _ (show_view t m o last)
-verdict_quiet t m now (KeepSlot o index number status elements) there f off = absurd (cc)
-verdict_quiet t m now (PutRanges o index number ranges elements) there f off = absurd (cc)
-verdict_quiet t m now (Alter o change body) there f off = same (news t m) (closes_in m.command) (view t) _
+    → t.present y ≡ true) → m.command ≢ TreeDisconnect → Facts t m v → is_slot_verdict v ≡ false → QuietBy t m (apply t m now v).server
+verdict_quiet t m now (Refuse status) there kept f off = stays (news t m) (closes_in m.command) (view t)
+verdict_quiet t m now (Give body) there kept f off = stays (news t m) (closes_in m.command) (view t)
+verdict_quiet t m now (KeepRefusal guid status) there kept f off = stays (news t m) (closes_in m.command) (view t)
+verdict_quiet t m now (Repeat o r) there kept f off = attach_quiet t m o
+verdict_quiet t m now (Attach o r) there kept f off = attach_quiet t m o
+verdict_quiet t m now (Make r found action) there kept f off = made_quiet t m r found action now
+verdict_quiet t m now (TurnDown o status) there kept f off = same (news t m) (closes_in m.command) (view t) _ (reach_view t m o)
+verdict_quiet t m now (Tell o body) there kept f off = same (news t m) (closes_in m.command) (view t) _ (reach_view t m o)
+verdict_quiet t m now (Show o last body) there kept f off = same (news t m) (closes_in m.command) (view t) _ (show_view t m o last)
+verdict_quiet t m now (KeepSlot o index number status elements) there kept f off = absurd (cc)
+verdict_quiet t m now (PutRanges o index number ranges elements) there kept f off = absurd (cc)
+verdict_quiet t m now (Alter o change body) there kept f off = same (news t m) (closes_in m.command) (view t) _
     (change_view (reach t m o) (file_of t o) now change ∙ reach_view t m o)
-verdict_quiet t m now (CloseOpen o body) there f off = shut_quiet t m o f.query f.command
-verdict_quiet t m now Challenge there f off = same (news t m) (closes_in m.command) (view t) _ refl
-verdict_quiet t m now (ChallengeBinding session) there f off = same (news t m) (closes_in m.command) (view t) _ refl
-verdict_quiet t m now (Begin session user previous r is_quiet) there f off = begin_quiet t m now session user previous r
+verdict_quiet t m now (CloseOpen o body) there kept f off = shut_quiet t m o f.query f.command
+verdict_quiet t m now Challenge there kept f off = same (news t m) (closes_in m.command) (view t) _ refl
+verdict_quiet t m now (ChallengeBinding session) there kept f off = same (news t m) (closes_in m.command) (view t) _ refl
+verdict_quiet t m now (Begin session user previous r is_quiet) there kept f off = begin_quiet t m now session user previous r
     is_quiet f.making (absent_of t.present t.session_of_open m.session_id there f.absent)
-verdict_quiet t m now (Join session) there f off = same (news t m) (closes_in m.command) (view t) _ refl
-verdict_quiet t m now (EndSession session is_quiet) there f off = end_quiet (news t m) (closes_in m.command) t session now is_quiet
-verdict_quiet t m now (AddTree pipes) there f off = same (news t m) (closes_in m.command) (view t) _ refl
-verdict_quiet t m now DropTree there f off = same (news t m) (closes_in m.command) (view t) _ refl
+verdict_quiet t m now (Join session) there kept f off = same (news t m) (closes_in m.command) (view t) _ refl
+verdict_quiet t m now (EndSession session is_quiet) there kept f off = end_quiet (news t m) (closes_in m.command) t session now is_quiet
+verdict_quiet t m now (AddTree pipes) there kept f off = same (news t m) (closes_in m.command) (view t) _ refl
+verdict_quiet t m now DropTree there kept f off = absurd (kept f.command)

@@ -1,6 +1,7 @@
 pub mod Logic
 pub mod Doors
 pub mod Found
+pub mod Refusals
 pub mod Checked
 pub mod Lists
 pub mod AddOpen
@@ -8,6 +9,7 @@ pub mod DropOpen
 pub mod FileEffects
 pub mod SessionEffects
 pub mod Leaving
+pub mod Closing
 pub mod EndSession
 pub mod Applied
 pub mod Folded

@@ -1,9 +1,11 @@
 pub mod Always
 pub mod Answers
+pub mod Channels
 pub mod Checks
 pub mod Columns
 pub mod Connected
 pub mod Dialog
+pub mod DialogFacts
 pub mod Heard
 pub mod KindsAlways
 pub mod Owed
@@ -12,11 +14,10 @@ pub mod Run
 pub mod Serving
 pub mod Sorted
 pub mod Table
+pub mod Trees
+pub mod Waiting
 pub mod Words
 pub mod Written
-pub mod Channels
-pub mod Waiting
-pub mod DialogFacts
 pub mod Same
 pub mod Moved
 pub mod Opened

@@ -39,6 +39,8 @@ use Rattle.spec_exchange.specs.State.{Message}
 use Rattle.spec_commands.specs.Ids.{file_of, guid_of}
 use Rattle.spec_commands.specs.Text.{text_in}
 use Rattle.spec_commands.specs.Items.{items_in}
+use Rattle.spec_commands.specs.Charges.{paid_for}
+use Rattle.spec_commands.specs.Clashes.{clash_in}
 
 -- what the connection alone tells of a message: its keys, its choices and its acceptor
 pub record Told : Type 0 where
@@ -104,10 +106,8 @@ reconnect_of q = record { file = file_of q.file; guid = guid_of q.guid }
 unfoldable pub contexts_in : List ℕ → Option CreateContexts
 contexts_in bytes = option_map request_contexts (items_in context_in (λ m. is_some (first_fault request_due m)) bytes)
 
-abbrev pub create_of : CreateRequestValue → Option (List ℕ) → Option CreateContexts → Command
-create_of v None contexts = Unreadable object_name_invalid
-create_of v (Some path) None = Unreadable invalid_parameter
-create_of v (Some path) (Some c) =
+abbrev pub created_of : CreateRequestValue → List ℕ → CreateContexts → Command
+created_of v path c =
     Create (record {
       path = path;
       access = v.desired_access;
@@ -120,6 +120,18 @@ create_of v (Some path) (Some c) =
       maximal = c.mxac;
       disk_id = c.qfid;
     })
+
+-- what clashes is told behind a break
+abbrev pub unclashed : Bool → Command → Command
+unclashed clashes c = if clashes then Unreadable invalid_parameter else c
+
+-- of what asks to attach no name is judged (3.3.5.9.12)
+abbrev pub create_of : CreateRequestValue → Option (List ℕ) → Option CreateContexts → Bool → Command
+create_of v None None clashes = Unreadable object_name_invalid
+create_of v None (Some c) clashes =
+    if is_some c.dh2c then unclashed clashes (created_of v [] c) else Unreadable object_name_invalid
+create_of v (Some path) None clashes = Unreadable invalid_parameter
+create_of v (Some path) (Some c) clashes = unclashed clashes (created_of v path c)
 
 -- ---- LOCK (2.2.26): LockSequence is the number in its low 4 bits, and the slot's index; 24 bytes an element
 
@@ -208,7 +220,8 @@ unfoldable pub tree_disconnect_in : List ℕ → Command
 tree_disconnect_in m = unless (bare_fault m) TreeDisconnect
 
 unfoldable pub create_in : List ℕ → Command
-create_in m = unless (create_request_fault m) (let v = create_request_in m in create_of v (text_in v.name) (contexts_in v.contexts))
+create_in m = unless (create_request_fault m) (let v = create_request_in m in create_of v (text_in v.name) (contexts_in v.contexts)
+    (clash_in v.contexts))
 
 -- Flags: it asks for times and lengths 1
 unfoldable pub close_in : List ℕ → Command
@@ -243,7 +256,7 @@ set_in m = unless (set_info_request_fault m) (set_of (set_info_request_in m))
 abbrev pub other_of : ℕ → Command
 other_of n = if (n == 15) || (n == 18) then Unreadable not_supported else Unreadable invalid_parameter
 
--- every command but CANCEL
+-- every command but CANCEL; what is underpaid is refused before its body is looked at (3.3.5.2.5)
 abbrev pub named_command : ℕ → Told → Header → List ℕ → Command
 named_command n t h m =
     if n == 0 then Aside t.negotiated
@@ -254,14 +267,14 @@ named_command n t h m =
     else if n == 5 then create_in m
     else if n == 6 then close_in m
     else if n == 7 then flush_in m
-    else if n == 8 then read_in m
-    else if n == 9 then write_in m
+    else if n == 8 then paid_for 8 h.charge m (read_in m)
+    else if n == 9 then paid_for 9 h.charge m (write_in m)
     else if n == 10 then lock_in m
-    else if n == 11 then ioctl_in m
+    else if n == 11 then paid_for 11 h.charge m (ioctl_in m)
     else if n == 13 then Aside (echo_status t.fault (bare_fault m))
-    else if n == 14 then list_in m
-    else if n == 16 then query_in m
-    else if n == 17 then set_in m
+    else if n == 14 then paid_for 14 h.charge m (list_in m)
+    else if n == 16 then paid_for 16 h.charge m (query_in m)
+    else if n == 17 then paid_for 17 h.charge m (set_in m)
     else other_of n
 
 -- the command of the message m of this header; CANCEL (12) has none

@@ -2,6 +2,8 @@ pub mod Ids
 pub mod Text
 pub mod Items
 pub mod Tables
+pub mod Charges
+pub mod Clashes
 pub mod CommandOf
 pub mod BodyOf
 pub mod Infos

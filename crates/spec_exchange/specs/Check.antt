@@ -6,7 +6,7 @@ use Rattle.spec_exchange.specs.Commands.{Command, Unreadable, Aside, Setup, Logo
 use Rattle.spec_exchange.specs.Commands.{Close, Flush, Read, Write, Lock, Ioctl, ListDirectory, QueryFile, QueryVolume}
 use Rattle.spec_exchange.specs.Commands.{SetInfo, form, is_setup, no_file}
 use Rattle.spec_exchange.specs.State.{Server, Message}
-use Rattle.spec_exchange.specs.Opens.{is_of_session}
+use Rattle.spec_exchange.specs.Opens.{is_of_tree}
 use Rattle.spec_exchange.specs.Verdict.{Verdict, Refuse, EndSession, DropTree}
 use Rattle.spec_exchange.specs.CheckCreate.{create_check}
 use Rattle.spec_exchange.specs.CheckOpen.{close_check, flush_check, read_check, write_check, lock_check, ioctl_check}
@@ -17,9 +17,9 @@ use Rattle.spec_exchange.specs.CheckSetup.{setup_check, tree_check, tree_in}
 abbrev pub has_session : Server → Message → Bool
 has_session s m = is_at m.session_id (s.session_on m.connection)
 
--- check 5 and then those of the request itself
+-- check 5, that the open is one of this session and this tree, and then those of the request itself
 abbrev pub on_open : Server → Message → ℕ → Verdict → Verdict
-on_open s m o v = if is_of_session s o m.session_id then v else Refuse file_closed
+on_open s m o v = if is_of_tree s o m.session_id m.tree_id then v else Refuse file_closed
 
 -- behind check 4, with whether the tree is that of the pipes
 abbrev pub tree_command : Server → Message → Bool → Command → Verdict

@@ -5,12 +5,13 @@ use Rattle.spec_exchange.specs.Table.{is_at}
 use Rattle.spec_exchange.specs.Status.{invalid_parameter, access_denied, object_path_not_found, delete_pending}
 use Rattle.spec_exchange.specs.Status.{object_name_not_found, object_name_collision, not_a_directory}
 use Rattle.spec_exchange.specs.Status.{file_is_a_directory, sharing_violation, insufficient_resources}
-use Rattle.spec_exchange.specs.Status.{duplicate_objectid}
+use Rattle.spec_exchange.specs.Status.{duplicate_objectid, cannot_delete}
 use Rattle.spec_exchange.specs.Texts.{same_name}
-use Rattle.spec_exchange.specs.Commands.{CreateRequest, Durable, Reconnect, asks_directory, asks_file, deletes_on_close}
+use Rattle.spec_exchange.specs.Commands.{CreateRequest, Durable, Reconnect, has_bit, asks_directory, asks_file}
+use Rattle.spec_exchange.specs.Commands.{deletes_on_close}
 use Rattle.spec_exchange.specs.State.{Server, Message}
-use Rattle.spec_exchange.specs.Files.{root, find, has_parent, is_directory}
-use Rattle.spec_exchange.specs.Opens.{mapped, deletes, opens_of, admits, max_ids}
+use Rattle.spec_exchange.specs.Files.{root, find, has_parent, is_directory, is_read_only}
+use Rattle.spec_exchange.specs.Opens.{mapped, granted, writes, deletes, opens_of, admits, max_ids}
 use Rattle.spec_exchange.specs.Verdict.{Verdict, Refuse, KeepRefusal, Repeat, Attach, Make}
 
 abbrev pub max_opens : ℕ
@@ -60,21 +61,44 @@ found_names s r f =
 unfoldable pub missing_names : CreateRequest → Option ℕ
 missing_names r = if makes_missing r.disposition then None else Some object_name_not_found
 
+-- ---- attributes (MS-FSA 2.1.5.1.1, 2.1.5.1.2, 2.1.5.1.2.1), behind names and kinds
+
+-- HIDDEN or SYSTEM, which the file has, is to be among the attributes of a request that empties it
+abbrev pub drops_bit : Server → CreateRequest → ℕ → ℕ → Bool
+drops_bit s r f bit = has_bit (s.basic f).attributes bit && not (has_bit r.attributes bit)
+
+unfoldable pub found_attributes : Server → CreateRequest → ℕ → Option ℕ
+found_attributes s r f =
+    if empties r.disposition && (drops_bit s r f 0x2 || drops_bit s r f 0x4) then Some access_denied
+    else if is_read_only s f && (empties r.disposition || writes (granted s f r.access)) then Some access_denied
+    else if is_read_only s f && deletes_on_close r.options then Some cannot_delete
+    else None
+
+-- a read-only file that would go with its first open
+unfoldable pub missing_attributes : CreateRequest → Option ℕ
+missing_attributes r = if deletes_on_close r.options && (not (asks_directory r) && has_bit r.attributes 0x1) then Some
+    cannot_delete else None
+
+-- the first refusal, or the second
+abbrev pub first_refusal : Option ℕ → Option ℕ → Option ℕ
+first_refusal None second = second
+first_refusal (Some status) second = Some status
+
 unfoldable pub names_of_found : Server → CreateRequest → Option ℕ → Option ℕ
-names_of_found s r None = missing_names r
-names_of_found s r (Some f) = found_names s r f
+names_of_found s r None = first_refusal (missing_names r) (missing_attributes r)
+names_of_found s r (Some f) = first_refusal (found_names s r f) (found_attributes s r f)
 
 unfoldable pub names : Server → CreateRequest → Option ℕ → Option ℕ
 names s r found = if is_some found || has_parent s r.path then names_of_found s r found else Some object_path_not_found
 
 -- ---- sharing: a create that empties a file asks for write access too
 
-abbrev pub shared_access : CreateRequest → ℕ
-shared_access r = if empties r.disposition then bit_or (mapped r.access) 0x2 else mapped r.access
+abbrev pub shared_access : Server → CreateRequest → ℕ → ℕ
+shared_access s r f = if empties r.disposition then bit_or (granted s f r.access) 0x2 else granted s f r.access
 
 abbrev pub shares : Server → CreateRequest → Option ℕ → Bool
 shares s r None = true
-shares s r (Some f) = admits s.opened (opens_of s f) (shared_access r) r.share
+shares s r (Some f) = admits s.opened (opens_of s f) (shared_access s r f) r.share
 
 -- ---- counts
 

@@ -5,13 +5,15 @@ use Rattle.spec_exchange.specs.Status.{success, file_not_available, access_denie
 use Rattle.spec_exchange.specs.Status.{invalid_parameter, info_length_mismatch, end_of_file, file_lock_conflict}
 use Rattle.spec_exchange.specs.Status.{disk_full, no_such_file, no_more_files, directory_not_empty}
 use Rattle.spec_exchange.specs.Status.{object_path_not_found, object_name_collision, fs_driver_required}
+use Rattle.spec_exchange.specs.Status.{cannot_delete}
 use Rattle.spec_exchange.specs.Texts.{is_below}
 use Rattle.spec_exchange.specs.Content.{written, ended, same_bytes, is_empty}
-use Rattle.spec_exchange.specs.Commands.{has_bit, Setting, SetBasic, Rename, SetDelete, SetAllocation, SetEnd, Element}
+use Rattle.spec_exchange.specs.Commands.{Basic, has_bit, Setting, SetBasic, Rename, SetDelete, SetAllocation, SetEnd, Element}
 use Rattle.spec_exchange.specs.State.{Server, Message, Kept, Entry, Empty, Content, Count, Closed, Listing, FileInfo}
 use Rattle.spec_exchange.specs.State.{VolumeInfo, Interfaces, Named}
 use Rattle.spec_exchange.specs.Files.{root, find, path_of, has_parent, is_directory, is_full_directory, info_of, used}
-use Rattle.spec_exchange.specs.Files.{passes_room, allocated, set_basic, same_basic}
+use Rattle.spec_exchange.specs.Files.{passes_room, allocated, set_basic, same_basic, is_read_only, may_set_attributes}
+use Rattle.spec_exchange.specs.Files.{may_set_times}
 use Rattle.spec_exchange.specs.Ranges.{RangeAnswer, Stands, Denied, change_ranges, may_read, may_write}
 use Rattle.spec_exchange.specs.Opens.{file_has_open}
 use Rattle.spec_exchange.specs.Listing.{all_named, wanted, fitting, one_or_all, last_name, file_info_size, volume_info_size}
@@ -138,8 +140,16 @@ rename_names s f replace path =
     else None
 
 unfoldable pub delete_names : Server → ℕ → Bool → Option ℕ
-delete_names s f flag = if not flag then None else if f == root then Some access_denied else if is_full_directory s f
-    then Some directory_not_empty else None
+delete_names s f flag =
+    if not flag then None
+    else if f == root then Some access_denied
+    else if is_full_directory s f then Some directory_not_empty
+    else if is_read_only s f then Some cannot_delete
+    else None
+
+-- what no file of this kind can be told (MS-FSA 2.1.5.15.2)
+unfoldable pub basic_names : Server → ℕ → Basic → Option ℕ
+basic_names s f b = if may_set_attributes (is_directory s f) b.attributes && may_set_times b then None else Some invalid_parameter
 
 abbrev pub named_change : ℕ → Change → Option ℕ → Verdict
 named_change o change (Some status) = TurnDown o status
@@ -165,7 +175,7 @@ path_change s o path = PutPath (target_of (file_of s o) (find s path)) path
 abbrev pub setting_check : Server → Message → ℕ → Setting → Verdict
 setting_check s m o (SetBasic basic) =
     if has_access s o 0x100 then unless_repeated s m o (PutBasic (set_basic (s.basic (file_of s o)) basic))
-    (Alter o (PutBasic (set_basic (s.basic (file_of s o)) basic)) Empty)
+    (named_change o (PutBasic (set_basic (s.basic (file_of s o)) basic)) (basic_names s (file_of s o) basic))
     else TurnDown o access_denied
 setting_check s m o (Rename replace path) =
     if has_access s o 0x1_0000 then unless_repeated s m o (path_change s o path)

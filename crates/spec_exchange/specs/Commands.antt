@@ -1,10 +1,10 @@
 -- Requests as values (MS-SMB2 2.2): what a command asks, whoever sent it.
-use Rattle.std.specs.Prelude.{ℕ, ◌+◌, ◌/◌, ◌%◌, ◌==◌, nat_lt, Bool, true, false, not, ◌&&◌, ◌||◌, if◌then◌else◌, List}
-use Rattle.std.specs.Prelude.{[], ◌∷◌, length, Option, Some, None}
+use Rattle.std.specs.Prelude.{ℕ, ◌+◌, ◌/◌, ◌%◌, ◌==◌, nat_lt, nat_le, Bool, true, false, not, ◌&&◌, ◌||◌, if◌then◌else◌, List}
+use Rattle.std.specs.Prelude.{[], ◌∷◌, length, Option, Some, None, is_some}
 use Rattle.spec_exchange.specs.Status.{invalid_parameter, object_name_invalid}
 use Rattle.spec_exchange.specs.declared.values.Basic as basic_value
 use Rattle.spec_exchange.specs.declared.values.Element as element_value
-use Rattle.spec_exchange.specs.Texts.{is_path, begins_with_backslash}
+use Rattle.spec_exchange.specs.Texts.{is_path, begins_with_backslash, utf16_length}
 
 -- whether the number has this bit, a power of two
 unfoldable pub has_bit : ℕ → ℕ → Bool
@@ -129,9 +129,19 @@ no_file = 0xffff_ffff_ffff_ffff
 unfoldable pub path_form : List ℕ → Option ℕ
 path_form path = if begins_with_backslash path then Some invalid_parameter else if is_path path then None else Some object_name_invalid
 
+-- no directory is TEMPORARY (MS-FSA 2.1.5.1.1)
+abbrev pub made_form : CreateRequest → Option ℕ
+made_form r =
+    if nat_lt 5 r.disposition then Some invalid_parameter
+    else if asks_directory r && asks_file r then Some invalid_parameter
+    else if asks_directory r && has_bit r.attributes 0x100 then Some invalid_parameter
+    else path_form r.path
+
+-- What asks to attach asks for nothing else, and no more of it is looked at (3.3.5.9.12).
 abbrev pub create_form : CreateRequest → Option ℕ
-create_form r = if nat_lt 5 r.disposition then Some invalid_parameter else if asks_directory r
-    && asks_file r then Some invalid_parameter else path_form r.path
+create_form r =
+    if is_some r.reconnect then (if is_some r.durable then Some invalid_parameter else None)
+    else made_form r
 
 -- at most 1,048,576 bytes, no RDMA channel, an end below 2 ^ 63 (3.3.5.12, 3.3.5.13)
 abbrev pub transfer_form : ℕ → ℕ → ℕ → Option ℕ
@@ -145,6 +155,14 @@ lock_form (e ∷ es) = if all_lock (e ∷ es) || all_unlock (e ∷ es) then None
 abbrev pub room_form : ℕ → Option ℕ
 room_form room = if nat_lt 1048576 room then Some invalid_parameter else None
 
+-- a pattern has at most 1,024 units, as a path does (this project's); no text has more units than bytes
+abbrev pub is_short_pattern : List ℕ → Bool
+is_short_pattern pattern = nat_le (length pattern) 1024 || nat_le (utf16_length pattern) 1024
+
+abbrev pub list_form : List ℕ → ℕ → Option ℕ
+list_form pattern room = if nat_lt 1048576 room then Some invalid_parameter
+    else if is_short_pattern pattern then None else Some object_name_invalid
+
 abbrev pub setting_form : Setting → Option ℕ
 setting_form (Rename replace path) = path_form path
 setting_form _ = None
@@ -157,7 +175,7 @@ form (Read file at size minimum channel) = transfer_form at size channel
 form (Write file at bytes channel) = transfer_form at (length bytes) channel
 form (Lock file index number elements) = lock_form elements
 form (Ioctl file code room) = room_form room
-form (ListDirectory file class restart single pattern room) = room_form room
+form (ListDirectory file class restart single pattern room) = list_form pattern room
 form (QueryFile file class room) = room_form room
 form (QueryVolume file class room) = room_form room
 form (SetInfo file setting) = setting_form setting

@@ -10,8 +10,8 @@ use Rattle.spec_exchange.specs.State.{no_later, Server, Message, Open, Range, Tr
 use Rattle.spec_exchange.specs.State.{Created, SetUp, Connected, Record, NewOpen, Origin, CreateRecord, WriteRecord}
 use Rattle.spec_exchange.specs.State.{EndRecord, BasicRecord, DeleteRecord, RenameRecord, LockRecord, Answer}
 use Rattle.spec_exchange.specs.Files.{make_file, empty_file, set_content, store_basic, set_delete_pending, rename_file}
-use Rattle.spec_exchange.specs.Files.{info_of, same_basic, path_of}
-use Rattle.spec_exchange.specs.Opens.{id_of, mapped, add_open, leave_open, leave_records}
+use Rattle.spec_exchange.specs.Files.{info_of, same_basic, path_of, file_attributes, directory_attributes}
+use Rattle.spec_exchange.specs.Opens.{id_of, is_of_tree, granted, add_open, leave_open, leave_records}
 use Rattle.spec_exchange.specs.CheckCreate.{empties}
 use Rattle.spec_exchange.specs.CheckOpen.{is_late, is_slot, file_of}
 use Rattle.spec_exchange.specs.Records.{origin_of}
@@ -63,11 +63,12 @@ keep_refusal s session guid status = record s {
   guids = put s.guids session (s.guids session + 1);
 }
 
--- an open without a session becomes this session's, with the request's sequence
+-- an open without a session becomes this session's, with the request's tree and sequence
 abbrev pub attach : Server → Message → ℕ → Server
 attach s m o =
     record s {
       session_of_open = put s.session_of_open o (Some m.session_id);
+      tree_of_open = put s.tree_of_open o m.tree_id;
       sequence = put s.sequence o m.channel_sequence;
       deadline = put s.deadline o None;
       guids = put s.guids m.session_id (s.guids m.session_id + 1);
@@ -112,15 +113,23 @@ abbrev pub new_file : Server → Option ℕ → ℕ
 new_file s None = s.next_file
 new_file s (Some f) = f
 
+abbrev pub made_attributes : CreateRequest → ℕ
+made_attributes r = if asks_directory r then directory_attributes r.attributes else file_attributes r.attributes
+
+-- those that the file has behind the CREATE
+abbrev pub final_attributes : Server → CreateRequest → Option ℕ → ℕ
+final_attributes s r None = made_attributes r
+final_attributes s r (Some f) = if empties r.disposition then file_attributes r.attributes else (s.basic f).attributes
+
 abbrev pub file_made : Server → CreateRequest → Option ℕ → ℕ → Server
-file_made s r None now = make_file s r.path (asks_directory r) r.attributes now
-file_made s r (Some f) now = if empties r.disposition then empty_file s f r.attributes now else s
+file_made s r None now = make_file s r.path (asks_directory r) (made_attributes r) now
+file_made s r (Some f) now = if empties r.disposition then empty_file s f (file_attributes r.attributes) now else s
 
 abbrev pub open_row : Server → Message → CreateRequest → ℕ → ℕ → Open
 open_row s m r f action =
     record {
       file = f;
-      access = mapped r.access;
+      access = granted s f r.access;
       share = r.share;
       options = r.options;
       action = action;
@@ -143,19 +152,20 @@ make_open s m r found action now =
     record (add_open (file_made s r found now) (next_open s) (open_row s m r (new_file s found) action)
     (Some m.session_id) m.channel_sequence) {
       open_ids_given = s.open_ids_given + 1;
+      tree_of_open = put s.tree_of_open (next_open s) m.tree_id;
       guids = guids_after s m.session_id r.durable;
     }
 
-unfoldable pub new_open : Server → Message → CreateRequest → Option Durable → Option NewOpen
-new_open s m r None = None
-new_open s m r (Some d) =
+unfoldable pub new_open : Server → Message → CreateRequest → ℕ → Option Durable → Option NewOpen
+new_open s m r access None = None
+new_open s m r access (Some d) =
     if d.persistent
     then Some (record {
       id = next_open s;
       client_guid = m.client_guid;
       create_guid = d.guid;
       user = s.user m.session_id;
-      access = mapped r.access;
+      access = access;
       share = r.share;
       options = r.options;
       timeout = timeout_of d.timeout;
@@ -166,7 +176,8 @@ new_open s m r (Some d) =
 unfoldable pub create_records : Server → Message → CreateRequest → Option ℕ → ℕ → ℕ → List Record
 create_records s m r found action now =
     if (action == 1) && not (is_persistent r.durable) then []
-    else CreateRecord (origin_of m) action (new_file s found) r.path r.attributes (asks_directory r) now (new_open s m r r.durable) ∷ []
+    else CreateRecord (origin_of m) action (new_file s found) r.path (final_attributes s r found) (asks_directory r) now
+    (new_open s m r (granted s (new_file s found) r.access) r.durable) ∷ []
 
 abbrev pub made : Server → Message → CreateRequest → Option ℕ → ℕ → ℕ → Answer
 made s m r found action now =
@@ -363,6 +374,29 @@ unfoldable pub without_tree : ℕ → List Tree → List Tree
 without_tree id [] = []
 without_tree id (t ∷ ts) = if t.id == id then without_tree id ts else t ∷ without_tree id ts
 
+-- the opens of a tree, in the order of their ids
+unfoldable pub tree_opens_in : Server → ℕ → ℕ → List ℕ → List ℕ
+tree_opens_in s session tree [] = []
+tree_opens_in s session tree (o ∷ os) = if is_of_tree s o session tree then o ∷ tree_opens_in s session tree os else tree_opens_in s session tree os
+
+abbrev pub opens_of_tree : Server → ℕ → ℕ → List ℕ
+opens_of_tree s session tree = tree_opens_in s session tree s.opens
+
+-- the session keeps the guid of each of them as that of a closed open
+unfoldable pub keep_all_closed : Server → ℕ → List ℕ → Server
+keep_all_closed s session [] = s
+keep_all_closed s session (o ∷ os) = keep_all_closed (keep_closed s session (s.opened o).create_guid) session os
+
+-- as many CLOSEs would do it: each open leaves, and its file with it where it goes
+abbrev pub close_all : Server → ℕ → List ℕ → Server
+close_all s session os = keep_all_closed (leave_all s os) session os
+
+-- the tree goes, and each open of it is closed
+abbrev pub drop_tree : Server → ℕ → ℕ → Server
+drop_tree s session tree = record (close_all s session (opens_of_tree s session tree)) {
+  trees = put s.trees session (without_tree tree (s.trees session));
+}
+
 -- ---- by verdict
 
 abbrev pub apply : Server → Message → ℕ → Verdict → Answer
@@ -424,6 +458,7 @@ apply s m now (AddTree pipes) =
       reached = None;
       altered = None;
     }
-apply s m now DropTree = quiet (record s {
-  trees = put s.trees m.session_id (without_tree m.tree_id (s.trees m.session_id));
-}) m success Empty
+apply s m now DropTree =
+    answer_with (drop_tree s m.session_id m.tree_id) m success Empty
+    (leave_all_records s (origin_of m) (opens_of_tree s m.session_id m.tree_id))
+    (is_filled (opens_of_tree s m.session_id m.tree_id)) None

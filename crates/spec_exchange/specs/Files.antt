@@ -1,9 +1,9 @@
 -- The files of the share: paths, times, delete pending and bytes (MS-FSA 2.1.1.3 to 2.1.1.5).
 use Rattle.std.specs.Prelude.{ℕ, ◌+◌, ◌-◌, ◌==◌, nat_lt, min, Bool, true, false, ◌&&◌, ◌||◌, if◌then◌else◌, List, []}
-use Rattle.std.specs.Prelude.{◌∷◌, ◌++◌, length, Option, Some, None}
+use Rattle.std.specs.Prelude.{◌∷◌, ◌++◌, length, Option, Some, None, not, nat_le, bit_and, bit_or}
 use Rattle.spec_exchange.specs.Table.{put}
 use Rattle.spec_exchange.specs.Texts.{same_name, is_below, parent_of, after_name}
-use Rattle.spec_exchange.specs.Commands.{Basic}
+use Rattle.spec_exchange.specs.Commands.{Basic, has_bit}
 use Rattle.spec_exchange.specs.State.{Server, Entry, Info}
 
 abbrev pub root : ℕ
@@ -54,6 +54,10 @@ has_below (e ∷ es) path = if is_below path e.path then true else has_below es 
 unfoldable pub is_full_directory : Server → ℕ → Bool
 is_full_directory s f = is_directory s f && has_below s.entries (path_of s f)
 
+-- FILE_ATTRIBUTE_READONLY (MS-FSCC 2.6) forbids nothing of a directory
+unfoldable pub is_read_only : Server → ℕ → Bool
+is_read_only s f = exists s f && (not (is_directory s f) && has_bit (s.basic f).attributes 0x1)
+
 unfoldable pub info_of : Server → ℕ → Info
 info_of s f = record {
   file = f;
@@ -85,9 +89,36 @@ times_at now attributes = record { created = now; accessed = now; written = now;
 unfoldable pub touched : Basic → ℕ → Basic
 touched b now = record b { written = now; changed = now }
 
--- a time of 0 or of -1 stays (MS-FSCC 2.4.7)
+-- ---- attributes (MS-FSCC 2.6)
+
+-- of a file that a CREATE makes or empties: READONLY, HIDDEN, SYSTEM, ARCHIVE, TEMPORARY, OFFLINE and NOT_CONTENT_INDEXED, as
+-- asked, and ARCHIVE always (MS-FSA 2.1.5.1.1, 2.1.5.1.2.1)
+unfoldable pub file_attributes : ℕ → ℕ
+file_attributes asked = bit_or (bit_and asked 0x3127) 0x20
+
+-- of a directory: as asked, without ARCHIVE and NORMAL
+unfoldable pub directory_attributes : ℕ → ℕ
+directory_attributes asked = bit_and asked 0xffff_ff5f
+
+-- 0 stays; NORMAL, alone, takes all of them away
+unfoldable pub set_attributes : ℕ → ℕ → ℕ
+set_attributes old asked = if asked == 0 then old else if asked == 0x80 then 0 else asked
+
+-- no directory can be made TEMPORARY, and no file a DIRECTORY
+unfoldable pub may_set_attributes : Bool → ℕ → Bool
+may_set_attributes is_dir asked = not (has_bit asked (if is_dir then 0x100 else 0x10))
+
+-- ---- times: 0, -1 and -2, of 64 bits with a sign, stay (MS-FSCC 2.4.7), and none is below -2
+
 unfoldable pub set_time : ℕ → ℕ → ℕ
-set_time old time = if time == 0 then old else if time == 0xffff_ffff_ffff_ffff then old else time
+set_time old time = if time == 0 then old else if nat_le 0xffff_ffff_ffff_fffe time then old else time
+
+unfoldable pub may_set_time : ℕ → Bool
+may_set_time time = nat_lt time 0x8000_0000_0000_0000 || nat_le 0xffff_ffff_ffff_fffe time
+
+unfoldable pub may_set_times : Basic → Bool
+may_set_times b = may_set_time b.created
+    && (may_set_time b.accessed && (may_set_time b.written && may_set_time b.changed))
 
 unfoldable pub set_basic : Basic → Basic → Basic
 set_basic old b =
@@ -96,7 +127,7 @@ set_basic old b =
       accessed = set_time old.accessed b.accessed;
       written = set_time old.written b.written;
       changed = set_time old.changed b.changed;
-      attributes = if b.attributes == 0 then old.attributes else b.attributes;
+      attributes = set_attributes old.attributes b.attributes;
     }
 
 -- a new file or directory of the next number
@@ -115,7 +146,7 @@ make_file s path is_dir attributes now =
 abbrev pub set_content : Server → ℕ → List ℕ → ℕ → Server
 set_content s f bytes now = record s { content = put s.content f bytes; basic = put s.basic f (touched (s.basic f) now) }
 
--- a create that empties a file gives it the request's attributes (MS-FSA 2.1.5.1.2.1)
+-- a create that empties a file gives it these attributes (MS-FSA 2.1.5.1.2.1)
 unfoldable pub emptied_basic : Basic → ℕ → ℕ → Basic
 emptied_basic b attributes now = record b { written = now; changed = now; attributes = attributes }
 

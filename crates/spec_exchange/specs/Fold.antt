@@ -66,6 +66,7 @@ nothing_yet =
       open_ids_given = 0;
       opened = λ o. no_open;
       session_of_open = λ o. None;
+      tree_of_open = λ o. 0;
       sequence = λ o. 0;
       deadline = λ o. None;
       enumeration_location = λ o. None;
@@ -151,6 +152,7 @@ restore s f action (Some n) = record (add_open s n.id (restored_row n f action) 
   open_ids_given = max s.open_ids_given (n.id % 0x1_0000_0000);
 }
 
+-- with the attributes that the record tells: the file's own, or, in a journal of before, those that the request asked for
 abbrev pub created_file : Server → ℕ → ℕ → List ℕ → ℕ → Bool → ℕ → Server
 created_file s action f path attributes is_dir time = if action == 2 then make_file s path is_dir attributes time else
     if action == 1 then s else empty_file s f attributes time

@@ -1,11 +1,11 @@
 -- Opens: access, sharing, ids, and what leaves the table with one (MS-SMB2 3.3.1.10, MS-FSA 2.1.5.1.2.2 and 2.1.5.5).
 use Rattle.std.specs.Prelude.{ℕ, ◌+◌, ◌*◌, ◌%◌, ◌==◌, Bool, true, false, not, ◌&&◌, ◌||◌, if◌then◌else◌, List, [], ◌∷◌}
-use Rattle.std.specs.Prelude.{◌++◌, Option, Some, None, bit_or}
+use Rattle.std.specs.Prelude.{◌++◌, Option, Some, None, bit_and, bit_or}
 use Rattle.spec_exchange.specs.Table.{put, put2, without, placed_in, is_at, is_filled}
 use Rattle.spec_exchange.specs.Commands.{has_bit, deletes_on_close}
 use Rattle.spec_exchange.specs.State.{Server, Open, Record, Origin, DeleteRecord, RemoveRecord, CloseRecord}
 use Rattle.spec_exchange.specs.Ranges.{without_owner}
-use Rattle.spec_exchange.specs.Files.{root, exists, is_full_directory, set_delete_pending, remove_file}
+use Rattle.spec_exchange.specs.Files.{root, exists, is_read_only, is_full_directory, set_delete_pending, remove_file}
 
 -- ids of one epoch are the epoch times 2 ^ 32 and a counter from 1
 abbrev pub id_of : ℕ → ℕ → ℕ
@@ -27,6 +27,15 @@ mapped a =
     (bit_or (bits_if (has_bit a 0x8000_0000) 0x12_0089) (bit_or (bits_if (has_bit a 0x4000_0000) 0x12_0116)
     (bit_or (bits_if (has_bit a 0x2000_0000) 0x12_00a0) (bits_if (has_bit a 0x1000_0000 || has_bit a 0x200_0000)
     0x1f_01ff))))
+
+-- the same of a read-only file, whose maximal access has neither FILE_WRITE_DATA nor FILE_APPEND_DATA: MAXIMUM_ALLOWED,
+-- 0x200_0000, leaves them out (MS-FSA 2.1.5.1.2.1)
+unfoldable pub mapped_read_only : ℕ → ℕ
+mapped_read_only a = if has_bit a 0x200_0000 then bit_or (mapped (bit_and a 0xfdff_ffff)) 0x1f_01f9 else mapped a
+
+-- the access that a CREATE asks of this file, as of one that it makes
+unfoldable pub granted : Server → ℕ → ℕ → ℕ
+granted s f access = if is_read_only s f then mapped_read_only access else mapped access
 
 unfoldable pub reads : ℕ → Bool
 reads access = has_bit access 0x1 || has_bit access 0x20
@@ -70,6 +79,10 @@ file_has_open s f = is_filled (opens_of s f)
 -- the open stands in this session
 abbrev pub is_of_session : Server → ℕ → ℕ → Bool
 is_of_session s o session = s.standing o && is_at session (s.session_of_open o)
+
+-- and was made or attached there under this tree
+abbrev pub is_of_tree : Server → ℕ → ℕ → ℕ → Bool
+is_of_tree s o session tree = is_of_session s o session && (s.tree_of_open o == tree)
 
 abbrev pub with_guid : (ℕ → ℕ → Option ℕ) → ℕ → Option ℕ → Option ℕ → ℕ → ℕ → Option ℕ
 with_guid by client None o = by

@@ -82,6 +82,7 @@ pub record Server : Type 0 where
   pub open_ids_given : ℕ  -- how many ids were given in this epoch
   pub opened : ℕ → Open
   pub session_of_open : ℕ → Option ℕ  -- Open.Session: the one to which it is attached
+  pub tree_of_open : ℕ → ℕ  -- Open.TreeConnect: the tree under which it was made, or attached last
   pub sequence : ℕ → ℕ  -- Open.ChannelSequence
   pub deadline : ℕ → Option ℕ  -- the moment at which Open.DurableOpenScavengerTimeout has passed
   pub enumeration_location : ℕ → Option (List ℕ)  -- Open.EnumerationLocation: the last name that its listing gave

@@ -94,6 +94,9 @@ directory_not_empty = 0xc000_0101
 abbrev pub not_a_directory : ℕ
 not_a_directory = 0xc000_0103
 
+abbrev pub cannot_delete : ℕ
+cannot_delete = 0xc000_0121
+
 abbrev pub file_closed : ℕ
 file_closed = 0xc000_0128
 

@@ -59,7 +59,7 @@ without_room (Begin session user previous r is_quiet) = Begin session user previ
 without_room (Join session) = Join session
 without_room (EndSession session is_quiet) = EndSession session true
 without_room (AddTree pipes) = AddTree pipes
-without_room DropTree = DropTree
+without_room DropTree = Refuse disk_full
 
 abbrev pub ruling_without_room : Ruling → Ruling
 ruling_without_room (Says m v) = Says m (without_room v)

@@ -37,4 +37,4 @@ pub data Verdict : Type 0 where
   Join : (session : ℕ) → Verdict  -- the channel is bound
   EndSession : (session : ℕ) (quiet : Bool) → Verdict  -- quiet: no record of it fits, so files stay as they are
   AddTree : (pipes : Bool) → Verdict  -- TREE_CONNECT succeeds
-  DropTree : Verdict  -- TREE_DISCONNECT does
+  DropTree : Verdict  -- TREE_DISCONNECT does, and the opens of the tree are closed

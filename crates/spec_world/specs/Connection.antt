@@ -13,7 +13,7 @@ use Rattle.spec_crypto.specs.declared.sessions.material.Keys.{Keys}
 use Rattle.spec_crypto.specs.sessions.Signing.{verifies}
 use Rattle.spec_world.specs.Settings.{ServerSettings}
 use Rattle.spec_world.specs.Ends.{ServerEnd, Logons, no_keys, chosen_on, client_on, signer_on, ConnEnd, Spent, Full}
-use Rattle.spec_world.specs.Hearing.{Checked, Frame, check_frame, is_negotiate, is_cancel, is_misplaced}
+use Rattle.spec_world.specs.Hearing.{Checked, Frame, check_frame, is_negotiate, is_misplaced}
 use Rattle.spec_world.specs.Negotiate.{negotiate_status, client_told}
 use Rattle.spec_world.specs.Related.{Carry, Turn, Goes, Fails, turn_of, failed_as, carried_behind, carried_past}
 use Rattle.spec_world.specs.Logon.{Progress, Stays, Final, progress, token_in, token_shows, exported, answer_token_by}
@@ -107,7 +107,7 @@ said_to z k now fresh f L w c command A =
       keys = keys_said z L k f c p;
     }
 
--- a related message that fails with a CREATE before it
+-- a related message that fails with a CREATE before it, never a CANCEL, which names no open
 abbrev pub said_failed : ServerEnd → HeldIds → Checked → ℕ → SaidReply
 said_failed f w c status = record {
   header = reply_header c status c.header.session c.header.tree (granted c.header.credits w);
@@ -138,8 +138,7 @@ abbrev pub went_turn : ServerSettings → ℕ → ℕ → List ℕ → ServerEnd
 went_turn z k now fresh f g old (Goes c) = went_heard z k now fresh f g c (heard_message z g.logons k f c)
 went_turn z k now fresh f g old (Fails status) =
     let c = failed_as g.carried old in
-    if is_cancel old.header then g
-    else record g {
+    record g {
       window = after_grant c.header.credits g.window;
       replies = g.replies ++ said_failed f g.window c status ∷ [];
     }

@@ -1,13 +1,12 @@
 -- SESSION_SETUP at the server (MS-SMB2 3.3.5.5, 3.3.5.5.2, 3.3.5.5.3): what its token shows, the tokens that answer it, and the keys
 -- that a logon comes to.
-use Rattle.std.specs.Prelude.{ℕ, ◌==◌, Bool, false, not, ◌&&◌, ◌||◌, if◌then◌else◌, List, [], ◌∷◌, ◌++◌, take, Option, Some, None}
+use Rattle.std.specs.Prelude.{ℕ, ◌==◌, Bool, false, not, ◌||◌, if◌then◌else◌, List, [], ◌∷◌, ◌++◌, take, Option, Some, None}
 use Rattle.spec_wire.specs.messages.SessionSetup.{session_setup_request_in}
 use Rattle.spec_crypto.specs.declared.sessions.material.Keys.{Keys}
 use Rattle.spec_crypto.specs.declared.sessions.material.Signer.{Signer}
 use Rattle.spec_crypto.specs.sessions.Chain.{chain}
 use Rattle.spec_crypto.specs.sessions.Derivation.{keys_of, bound_keys}
-use Rattle.spec_crypto.specs.tokens.Acceptor.{User}
-use Rattle.spec_crypto.specs.tokens.Tokens.{Begun, Pending, Shown, Begins as TokenBegins, Bad as TokenBad}
+use Rattle.spec_crypto.specs.tokens.Tokens.{Users, Begun, Pending, Shown, Begins as TokenBegins, Bad as TokenBad}
 use Rattle.spec_crypto.specs.tokens.Tokens.{Refused as TokenRefused, LoggedOn}
 use Rattle.spec_crypto.specs.tokens.Tokens.{begun_by, second_of, challenge_token, shown, final_token}
 use Rattle.spec_exchange.specs.Table.{put}
@@ -31,7 +30,7 @@ shows_of TokenRefused = Refused
 shows_of (LoggedOn logon signs) = Logon logon.user
 
 -- what a token shows to the model of values
-abbrev pub token_shows : List User → Option Pending → List ℕ → Shows
+abbrev pub token_shows : Users → Option Pending → List ℕ → Shows
 token_shows users pending token = shows_of (shown users pending token)
 
 -- the exported key of the logon that it shows
@@ -39,7 +38,7 @@ abbrev pub exported_by : Shown → List ℕ
 exported_by (LoggedOn logon signs) = logon.key
 exported_by _ = []
 
-unfoldable pub exported : List User → Option Pending → List ℕ → List ℕ
+unfoldable pub exported : Users → Option Pending → List ℕ → List ℕ
 exported users pending token = exported_by (shown users pending token)
 
 -- ---- what a SESSION_SETUP comes to
@@ -74,27 +73,27 @@ pending_with (Some b) fresh now = Some (record {
   second = second_of b (take 8 fresh) now;
 })
 
-unfoldable pub pending_by : List ℕ → List ℕ → ℕ → Option Pending
-pending_by token fresh now = pending_with (begun_by token) fresh now
+unfoldable pub pending_by : Bool → List ℕ → List ℕ → ℕ → Option Pending
+pending_by bare token fresh now = pending_with (begun_by bare token) fresh now
 
 -- ---- the tokens that answer
 
 abbrev pub challenge_of : Option Pending → List ℕ
 challenge_of None = []
-challenge_of (Some p) = challenge_token p.second
+challenge_of (Some p) = challenge_token p.list p.second
 
 abbrev pub final_by : List ℕ → Shown → List ℕ
 final_by list (LoggedOn logon signs) = final_token list logon signs
 final_by list _ = []
 
-abbrev pub final_of : List User → Option Pending → List ℕ → List ℕ
+abbrev pub final_of : Users → Option Pending → List ℕ → List ℕ
 final_of users None token = []
 final_of users (Some p) token = final_by p.list (shown users (Some p) token)
 
 -- the token of the response: the challenge of a first one, the end of a second
-unfoldable pub answer_token_by : List User → Option Pending → List ℕ → List ℕ → ℕ → Progress → List ℕ
+unfoldable pub answer_token_by : Users → Option Pending → List ℕ → List ℕ → ℕ → Progress → List ℕ
 answer_token_by users pending token fresh now Stays = []
-answer_token_by users pending token fresh now (Interim binding) = challenge_of (pending_by token fresh now)
+answer_token_by users pending token fresh now (Interim binding) = challenge_of (pending_by users.bare token fresh now)
 answer_token_by users pending token fresh now (Final binding channel encrypts) = final_of users pending token
 
 -- ---- transcripts and keys
@@ -121,22 +120,22 @@ keys_behind f request base old session binding =
     if binding then bound_keys base (chain (full_transcript f request)) old
     else keys_of base (chain (full_transcript f request)) (chosen_on f.greeting).cipher (chosen_on f.greeting).signing session
 
-abbrev pub final_keys : List User → Logons → ℕ → ServerEnd → Checked → Bool → Keys
+abbrev pub final_keys : Users → Logons → ℕ → ServerEnd → Checked → Bool → Keys
 final_keys users L k f c binding =
     keys_behind f c.raw (exported users (L.pending k) (token_in c.bytes)) (L.keys c.header.session) c.header.session binding
 
 -- ---- the server's logons behind it
 
-abbrev pub logons_behind : List User → Logons → ℕ → ServerEnd → Checked → List ℕ → ℕ → Progress → Logons
+abbrev pub logons_behind : Users → Logons → ℕ → ServerEnd → Checked → List ℕ → ℕ → Progress → Logons
 logons_behind users L k f c fresh now Stays = L
-logons_behind users L k f c fresh now (Interim binding) = record L { pending = put L.pending k (pending_by (token_in c.bytes) fresh now) }
+logons_behind users L k f c fresh now (Interim binding) = record L { pending = put L.pending k (pending_by users.bare (token_in c.bytes) fresh now) }
 logons_behind users L k f c fresh now (Final binding channel encrypts) =
     if binding then L else record L { keys = put L.keys c.header.session (final_keys users L k f c false) }
 
 -- ---- who signs the response: in a binding the session for the interim one and the new channel for the final one, which the new
 -- session's own key signs else; a first interim response has no key yet; any other one goes by the connection's keys
 
-abbrev pub signer_of : List User → Logons → ℕ → ServerEnd → Checked → Progress → Option Signer
+abbrev pub signer_of : Users → Logons → ℕ → ServerEnd → Checked → Progress → Option Signer
 signer_of users L k f c Stays = signer_on f.keys
 signer_of users L k f c (Interim binding) = if binding then Some (L.keys c.header.session).signing else None
 signer_of users L k f c (Final binding channel encrypts) = Some (final_keys users L k f c binding).signing
@@ -167,7 +166,7 @@ staying_signer s L f c (Setup q) status =
     else signer_on f.keys
 staying_signer s L f c _ status = plain_signer f c
 
-abbrev pub signer_by : Server → List User → Logons → ℕ → ServerEnd → Checked → Command → ℕ → Progress → Option Signer
+abbrev pub signer_by : Server → Users → Logons → ℕ → ServerEnd → Checked → Command → ℕ → Progress → Option Signer
 signer_by s users L k f c command status Stays = staying_signer s L f c command status
 signer_by s users L k f c command status (Interim binding) = signer_of users L k f c (Interim binding)
 signer_by s users L k f c command status (Final binding channel encrypts) = signer_of users L k f c (Final binding channel encrypts)

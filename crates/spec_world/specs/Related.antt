@@ -38,13 +38,9 @@ no_file_id = replicate 16 0
 abbrev pub handed_on : List ℕ → List ℕ
 handed_on file = if bytes_eq file (replicate 16 0xff) then no_file_id else file
 
-abbrev pub file_at : Option ℕ → List ℕ → List ℕ
-file_at None m = no_file_id
-file_at (Some place) m = if nat_le (place + 16) (length m) then bytes_at 16 m place else no_file_id
-
--- the FileId that a request names
-unfoldable pub file_named : ℕ → List ℕ → List ℕ
-file_named n m = file_at (file_place n) m
+-- the FileId at its place in a request
+abbrev pub file_at : ℕ → List ℕ → List ℕ
+file_at place m = if nat_le (place + 16) (length m) then bytes_at 16 m place else no_file_id
 
 abbrev pub with_file_at : Option ℕ → List ℕ → List ℕ → List ℕ
 with_file_at None file m = m
@@ -54,11 +50,23 @@ with_file_at (Some place) file m = if nat_le (place + 16) (length m) then take p
 unfoldable pub with_file : ℕ → List ℕ → List ℕ → List ℕ
 with_file n file m = with_file_at (file_place n) file m
 
--- ---- what is handed on: a create's open, or the one that the message names itself
+-- ---- what is handed on: a create's open, else the one that the message names itself; where it can name none, as an ECHO, the one that
+-- was handed to it in its chain
 
-abbrev pub file_behind : Checked → Body → List ℕ
-file_behind c (Created reply) = file_id reply.id
-file_behind c _ = handed_on (file_named c.header.command c.bytes)
+abbrev pub file_before : Option Carry → Checked → List ℕ
+file_before None c = no_file_id
+file_before (Some y) c = if c.related then y.file else no_file_id
+
+abbrev pub file_from : Option ℕ → Option Carry → Checked → List ℕ
+file_from None before c = file_before before c
+file_from (Some place) before c = handed_on (file_at place c.bytes)
+
+unfoldable pub file_past : Option Carry → Checked → List ℕ
+file_past before c = file_from (file_place c.header.command) before c
+
+abbrev pub file_behind : Option Carry → Checked → Body → List ℕ
+file_behind before c (Created reply) = file_id reply.id
+file_behind before c _ = file_past before c
 
 -- the status of the last CREATE in front of a message in its chain
 abbrev pub create_before : Option Carry → Checked → ℕ
@@ -75,7 +83,7 @@ carried_behind before c r = record {
   status = create_behind before c r.status;
   session = r.session_id;
   tree = r.tree_id;
-  file = file_behind c r.body;
+  file = file_behind before c r.body;
 }
 
 -- behind one that has no answer of its own, of this status
@@ -84,7 +92,7 @@ carried_past before c status = record {
   status = create_behind before c status;
   session = c.header.session;
   tree = c.header.tree;
-  file = handed_on (file_named c.header.command c.bytes);
+  file = file_past before c;
 }
 
 -- ---- what becomes of a message: it goes its way, or fails with the status of its chain's last CREATE; what was handed on then stays

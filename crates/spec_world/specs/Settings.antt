@@ -7,6 +7,7 @@ use Rattle.spec_crypto.specs.declared.sessions.choice.Chosen.{Chosen}
 use Rattle.spec_crypto.specs.sessions.Choice.{chosen_with, cipher_of, signing_of}
 use Rattle.spec_crypto.specs.tokens.Formulas.{utf16}
 use Rattle.spec_crypto.specs.tokens.Acceptor.{User, user_named}
+use Rattle.spec_crypto.specs.tokens.Tokens.{Users}
 use Rattle.spec_exchange.specs.Commands.{Shows, Refused, Logon}
 use Rattle.spec_exchange.specs.State.{Address}
 use Rattle.spec_exchange.specs.Client.{Identity}
@@ -14,7 +15,7 @@ use Rattle.spec_exchange.specs.Network.{Settings}
 
 -- the server's users, and its ServerGuid of 16 bytes
 pub record ServerSettings : Type 0 where
-  pub users : List User
+  pub users : Users
   pub guid : List ℕ
 
 -- the client's user, its ClientGuid of 16 bytes, and the ciphers and signing algorithms that it offers, in its order
@@ -50,7 +51,7 @@ logon_with password (Some u) = if bytes_eq u.password password then Logon u.name
 
 -- what its second token shows: a logon, where a user of the server has its name and its password
 unfoldable pub logon_of : WorldSettings → Shows
-logon_of z = logon_with z.client.password (user_named (utf16 z.client.user) z.server.users)
+logon_of z = logon_with z.client.password (user_named (utf16 z.client.user) z.server.users.list)
 
 -- the first draw is the random half of its CreateGuids
 abbrev pub identity_of : WorldSettings → Identity

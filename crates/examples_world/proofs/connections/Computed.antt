@@ -128,8 +128,8 @@ negotiate_first = refl
 pub negotiate_once : turn_end making_end (record (setup_header 0) { command = 0 }) ≡ Some SecondNegotiate
 negotiate_once = refl
 
-pub refused_behind_setup : fault_of making_end true true an_echo_heard ≡ Some access_denied
-refused_behind_setup = refl
+pub refused_barred : fault_of making_end true true an_echo_heard ≡ Some access_denied
+refused_barred = refl
 
 pub no_guest : flags_fit no_client_end (SaidSecond false) (told_flags 1) ≡ false
 unfolding setup_flags has_bit header_in message_spelling number_of le bytes_at

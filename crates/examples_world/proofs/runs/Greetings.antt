@@ -25,7 +25,7 @@ use Rattle.spec_crypto.specs.tokens.Der.{length_in, element, ends, spelled}
 use Rattle.spec_crypto.specs.tokens.Messages.{start_fault, type2_spelling}
 use Rattle.spec_crypto.specs.tokens.Spnego.{byte_is, spnego_named, octets, passed, names_ntlm, begins_with_ntlm, names_in, mech_types}
 use Rattle.spec_crypto.specs.tokens.Spnego.{hints, init_fields, init_choice, init_in, init_spelling, resp_spelling}
-use Rattle.spec_crypto.specs.tokens.Tokens.{hint_token, first_token, begun_by, second_of, challenge_token, shown}
+use Rattle.spec_crypto.specs.tokens.Tokens.{hint_token, first_token, first_in, begun_by, is_unlisted, second_of, challenge_token, shown}
 use Rattle.spec_world.specs.Answering.{said_body, gathered, texts_of, all_texts, concatenated, each_joined, told_each}
 use Rattle.spec_world.specs.Connection.{went_all, last_status}
 use Rattle.spec_world.specs.Hearing.{begins_sealed, checked_behind}
@@ -33,7 +33,7 @@ use Rattle.spec_world.specs.Logon.{token_in, exported, pending_by, answer_token_
 use Rattle.spec_world.specs.Messages.{has_header, header_in, messages_from, messages_in, message_spelling}
 use Rattle.spec_world.specs.Negotiate.{has_dialect, negotiate_status, negotiated, client_told, negotiate_response_body}
 use Rattle.spec_world.specs.Negotiate.{negotiate_request_body}
-use Rattle.spec_world.specs.Related.{file_place, file_named, with_file}
+use Rattle.spec_world.specs.Related.{file_place, file_past, with_file}
 use Rattle.spec_world.specs.Sending.{greeting_text, setup_text}
 use Rattle.examples_world.specs.runs.Meeting.{client_of_logon, first_id, dialog_sent, greeting_heard, first_setup_heard, last_told}
 use Rattle.examples_world.specs.runs.Worked as worked
@@ -46,7 +46,7 @@ pub greeting_told : greeting_heard.frames ≡ worked.greeting_reply ∷ []
 unfolding has_bit text_size opened_size record_size records_size entry_bytes fits due_in is_filled command_of message_of
     reply_body bit_if number_of le bytes_at part_fault count_fault said_body gathered texts_of all_texts concatenated
     each_joined told_each went_all last_status begins_sealed checked_behind token_in exported pending_by answer_token_by
-    has_header header_in messages_from messages_in message_spelling file_place file_named with_file contexts_end
+    has_header header_in messages_from messages_in message_spelling file_place file_past with_file contexts_end
     contexts_fault contexts_in with_contexts all_fit doubled first_of has_id ids_at cipher_of signing_of has_dialect
     negotiate_status negotiated client_told negotiate_response_body hint_token init_spelling spelled
 greeting_told = refl
@@ -59,10 +59,10 @@ pub interim_told : first_setup_heard.frames ≡ worked.interim ∷ []
 unfolding has_bit text_size opened_size record_size records_size entry_bytes fits due_in is_filled command_of message_of
     reply_body bit_if number_of le bytes_at part_fault count_fault said_body gathered texts_of all_texts concatenated
     each_joined told_each went_all last_status begins_sealed checked_behind token_in exported pending_by answer_token_by
-    has_header header_in messages_from messages_in message_spelling file_place file_named with_file setup_in challenge
+    has_header header_in messages_from messages_in message_spelling file_place file_past with_file setup_in challenge
     length_in element ends spelled start_fault type2_spelling byte_is spnego_named octets passed names_ntlm
-    begins_with_ntlm names_in mech_types hints init_fields init_choice init_in init_spelling resp_spelling begun_by
-    second_of challenge_token shown
+    begins_with_ntlm names_in mech_types hints init_fields init_choice init_in init_spelling resp_spelling first_in begun_by
+    is_unlisted second_of challenge_token shown
 interim_told = refl
 
 pub second_setup_asked : setup_text false 0 worked.second_token (dialog_sent 2 first_id) ≡ worked.second_setup

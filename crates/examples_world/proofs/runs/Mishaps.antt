@@ -15,7 +15,7 @@ use Rattle.spec_world.specs.Connection.{went_all, last_status}
 use Rattle.spec_world.specs.Hearing.{begins_sealed, checked_behind}
 use Rattle.spec_world.specs.Logon.{token_in, exported, pending_by, answer_token_by}
 use Rattle.spec_world.specs.Messages.{has_header, header_in, messages_from, messages_in, message_spelling}
-use Rattle.spec_world.specs.Related.{file_place, file_named, with_file}
+use Rattle.spec_world.specs.Related.{file_place, file_past, with_file}
 use Rattle.spec_world.specs.Given.{dealt_all}
 use Rattle.spec_world.specs.Mishaps.{owned_all}
 use Rattle.spec_crypto.specs.sessions.Signing.{signed, verifies, signature}
@@ -30,7 +30,7 @@ unfolding has_bit text_size opened_size record_size records_size entry_bytes fit
     command_of message_of tree_disconnect_in setup_in reply_body bit_if number_of le bytes_at part_fault count_fault
     said_body gathered texts_of all_texts concatenated each_joined told_each went_all last_status begins_sealed
     checked_behind token_in exported pending_by answer_token_by has_header header_in messages_from messages_in
-    message_spelling file_place file_named with_file dealt_all owned_all signed verifies signature
+    message_spelling file_place file_past with_file dealt_all owned_all signed verifies signature
 no_mishap = (refl, refl, refl)
 
 pub no_memory :
@@ -41,7 +41,7 @@ unfolding has_bit text_size opened_size record_size records_size entry_bytes fit
     command_of message_of tree_disconnect_in setup_in reply_body bit_if number_of le bytes_at part_fault count_fault
     said_body gathered texts_of all_texts concatenated each_joined told_each went_all last_status begins_sealed
     checked_behind token_in exported pending_by answer_token_by has_header header_in messages_from messages_in
-    message_spelling file_place file_named with_file dealt_all owned_all signed verifies signature
+    message_spelling file_place file_past with_file dealt_all owned_all signed verifies signature
 no_memory = (refl, refl, refl)
 
 pub stopped :
@@ -51,7 +51,7 @@ unfolding has_bit text_size opened_size record_size records_size entry_bytes fit
     command_of message_of tree_disconnect_in setup_in reply_body bit_if number_of le bytes_at part_fault count_fault
     said_body gathered texts_of all_texts concatenated each_joined told_each went_all last_status begins_sealed
     checked_behind token_in exported pending_by answer_token_by has_header header_in messages_from messages_in
-    message_spelling file_place file_named with_file dealt_all owned_all signed verifies signature
+    message_spelling file_place file_past with_file dealt_all owned_all signed verifies signature
 stopped = (refl, refl, refl)
 
 pub given :
@@ -61,7 +61,7 @@ unfolding has_bit text_size opened_size record_size records_size entry_bytes fit
     command_of message_of tree_disconnect_in setup_in reply_body bit_if number_of le bytes_at part_fault count_fault
     said_body gathered texts_of all_texts concatenated each_joined told_each went_all last_status begins_sealed
     checked_behind token_in exported pending_by answer_token_by has_header header_in messages_from messages_in
-    message_spelling file_place file_named with_file dealt_all owned_all signed verifies signature
+    message_spelling file_place file_past with_file dealt_all owned_all signed verifies signature
 given = (refl, refl, refl)
 
 pub setups :
@@ -71,5 +71,5 @@ unfolding has_bit text_size opened_size record_size records_size entry_bytes fit
     command_of message_of tree_disconnect_in setup_in reply_body bit_if number_of le bytes_at part_fault count_fault
     said_body gathered texts_of all_texts concatenated each_joined told_each went_all last_status begins_sealed
     checked_behind token_in exported pending_by answer_token_by has_header header_in messages_from messages_in
-    message_spelling file_place file_named with_file dealt_all owned_all signed verifies signature
+    message_spelling file_place file_past with_file dealt_all owned_all signed verifies signature
 setups = (refl, refl, refl, refl)

@@ -14,7 +14,7 @@ use Rattle.spec_world.specs.Connection.{went_all, last_status}
 use Rattle.spec_world.specs.Hearing.{begins_sealed, checked_behind}
 use Rattle.spec_world.specs.Logon.{token_in, exported, pending_by, answer_token_by}
 use Rattle.spec_world.specs.Messages.{has_header, header_in, messages_from, messages_in, message_spelling}
-use Rattle.spec_world.specs.Related.{file_place, file_named, with_file}
+use Rattle.spec_world.specs.Related.{file_place, file_past, with_file}
 use Rattle.spec_crypto.specs.sessions.Signing.{signed, verifies, signature}
 use Rattle.spec_crypto.specs.ciphers.Field.{sbox}
 use Rattle.spec_crypto.specs.ciphers.Aes.{replaced, mixed_columns, block_sum, round_key, rounds, after}
@@ -29,7 +29,7 @@ pub sealing_owed :
 unfolding has_bit text_size opened_size record_size records_size entry_bytes fits due_in is_filled command_of message_of
     reply_body bit_if number_of le bytes_at part_fault count_fault said_body gathered texts_of all_texts concatenated
     each_joined told_each went_all last_status begins_sealed checked_behind token_in exported pending_by answer_token_by
-    has_header header_in messages_from messages_in message_spelling file_place file_named with_file signed verifies
+    has_header header_in messages_from messages_in message_spelling file_place file_past with_file signed verifies
     signature sbox replaced mixed_columns block_sum round_key rounds after cipher constant word_change next_word
     expanded block_at chained cmac doubled_block first_subkey second_subkey last_block padded
 sealing_owed = (refl, refl)
@@ -38,7 +38,7 @@ pub signed_replies : (frame_step (keyed_end false) signed_echo).frames ≡ signe
 unfolding has_bit text_size opened_size record_size records_size entry_bytes fits due_in is_filled command_of message_of
     reply_body bit_if number_of le bytes_at part_fault count_fault said_body gathered texts_of all_texts concatenated
     each_joined told_each went_all last_status begins_sealed checked_behind token_in exported pending_by answer_token_by
-    has_header header_in messages_from messages_in message_spelling file_place file_named with_file signed verifies
+    has_header header_in messages_from messages_in message_spelling file_place file_past with_file signed verifies
     signature sbox replaced mixed_columns block_sum round_key rounds after cipher constant word_change next_word
     expanded block_at chained cmac doubled_block first_subkey second_subkey last_block padded
 signed_replies = refl
@@ -49,7 +49,7 @@ pub unsigned_refusals :
 unfolding has_bit text_size opened_size record_size records_size entry_bytes fits due_in is_filled command_of message_of
     reply_body bit_if number_of le bytes_at part_fault count_fault said_body gathered texts_of all_texts concatenated
     each_joined told_each went_all last_status begins_sealed checked_behind token_in exported pending_by answer_token_by
-    has_header header_in messages_from messages_in message_spelling file_place file_named with_file signed verifies
+    has_header header_in messages_from messages_in message_spelling file_place file_past with_file signed verifies
     signature sbox replaced mixed_columns block_sum round_key rounds after cipher constant word_change next_word
     expanded block_at chained cmac doubled_block first_subkey second_subkey last_block padded
 unsigned_refusals = (refl, refl)

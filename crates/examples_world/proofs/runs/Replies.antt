@@ -27,7 +27,7 @@ use Rattle.spec_world.specs.Answering.{said_body, gathered, texts_of, all_texts,
 use Rattle.spec_world.specs.Answering.{each_joined, told_each, sealed_each, seals_of}
 use Rattle.spec_world.specs.Connection.{ConnectionStep, step_of, went_all, last_status}
 use Rattle.spec_world.specs.Logon.{token_in, exported, pending_by, answer_token_by}
-use Rattle.spec_world.specs.Related.{file_place, file_named, with_file}
+use Rattle.spec_world.specs.Related.{file_place, file_past, with_file}
 use Rattle.examples_world.specs.runs.Ends.{nobody, frame_step, echo}
 use Rattle.examples_world.specs.runs.Keyed.{keyed_end, sealed_echo, sealed_reply}
 use Rattle.examples_world.specs.connections.Parts.{some_keys}
@@ -122,7 +122,7 @@ answered :
 unfolding has_bit text_size opened_size record_size records_size entry_bytes fits due_in is_filled command_of message_of
     reply_body bit_if number_of le bytes_at part_fault count_fault said_body gathered texts_of all_texts concatenated
     each_joined told_each sealed_each seals_of went_all last_status begins_sealed checked_behind token_in exported
-    pending_by answer_token_by has_header header_in messages_from messages_in message_spelling file_place file_named
+    pending_by answer_token_by has_header header_in messages_from messages_in message_spelling file_place file_past
     with_file
 answered = (refl, refl)
 

@@ -31,7 +31,7 @@ use Rattle.spec_world.specs.Connection.{went_all, last_status}
 use Rattle.spec_world.specs.Hearing.{begins_sealed, checked_behind}
 use Rattle.spec_world.specs.Logon.{token_in, exported, pending_by, answer_token_by}
 use Rattle.spec_world.specs.Messages.{has_header, header_in, messages_from, messages_in, message_spelling}
-use Rattle.spec_world.specs.Related.{file_place, file_named, with_file}
+use Rattle.spec_world.specs.Related.{file_place, file_past, with_file}
 use Rattle.spec_world.specs.Sending.{request_text}
 use Rattle.examples_world.specs.runs.Meeting.{first_id, sent, create_asked, tree_told, create_told, signed_tree_heard}
 use Rattle.examples_world.specs.runs.Worked as worked
@@ -59,7 +59,7 @@ unfolding has_bit text_size opened_size record_size records_size entry_bytes fit
     upper same_name command_of message_of tree_connect_in reply_body bit_if units_in all_there characters_in text_in
     body_of number_of le bytes_at part_fault count_fault is_badly_linked piece utf16 said_body gathered texts_of
     all_texts concatenated each_joined told_each went_all last_status begins_sealed checked_behind token_in exported
-    pending_by answer_token_by has_header header_in messages_from messages_in message_spelling file_place file_named
+    pending_by answer_token_by has_header header_in messages_from messages_in message_spelling file_place file_past
     with_file signed verifies signature sbox replaced mixed_columns block_sum round_key rounds after cipher constant
     word_change next_word expanded block_at chained cmac doubled_block first_subkey second_subkey last_block padded
     chars utf16_chars encode

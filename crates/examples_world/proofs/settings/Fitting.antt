@@ -64,7 +64,7 @@ client_fits = record {
 }
 
 -- the server finds the user by its name
-known : HasPassword (user_named (logon_utf16 user_name) logon_server.users) password
+known : HasPassword (user_named (logon_utf16 user_name) logon_server.users.list) password
 unfolding user_named is_named upper utf16_characters chars le
 known = refl
 

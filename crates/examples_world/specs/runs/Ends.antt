@@ -1,13 +1,14 @@
 -- A connection's end that takes frames of several messages, without ciphers.
-use Rattle.std.specs.Prelude.{ℕ, Bool, true, false, List, [], ◌∷◌, ◌++◌, replicate, Option, Some, None}
+use Rattle.std.specs.Prelude.{ℕ, Bool, true, false, List, [], ◌∷◌, ◌++◌, map, replicate, Option, Some, None, Result, Ok, Err}
 use Rattle.spec_wire.specs.messages.Bare.{bare_spelling}
+use Rattle.spec_wire.specs.messages.SessionSetup.{session_setup_request_spelling}
 use Rattle.spec_wire.specs.declared.messages.header.Header.{Header}
 use Rattle.spec_exchange.specs.Fold.{nothing_yet}
 use Rattle.spec_wire.specs.credits.Ids.{ids_from}
 use Rattle.spec_world.specs.Settings.{ServerSettings}
 use Rattle.spec_world.specs.Messages.{message_spelling, unsigned_field}
-use Rattle.spec_world.specs.Ends.{ServerEnd, no_logons, no_choice, first_server_end}
-use Rattle.spec_world.specs.Hearing.{Checked}
+use Rattle.spec_world.specs.Ends.{ServerEnd, ConnEnd, no_logons, no_choice, first_server_end}
+use Rattle.spec_world.specs.Hearing.{Checked, Frame}
 use Rattle.spec_world.specs.Answering.{SaidReply}
 use Rattle.spec_world.specs.Connection.{ConnectionStep, connection_step, Going, went_all, beginning}
 
@@ -21,7 +22,7 @@ greeted_end = record (first_server_end []) {
 }
 
 abbrev pub nobody : ServerSettings
-nobody = record { users = []; guid = [] }
+nobody = record { users = record { list = []; bare = false }; guid = [] }
 
 abbrev pub frame_step : ServerEnd → List ℕ → ConnectionStep
 frame_step f frame = connection_step nobody 0 5 [] nothing_yet no_logons f frame
@@ -67,6 +68,16 @@ related_probe = probe 1 72 ++ (replicate 4 0 ++ message_spelling (echo_header 2 
 abbrev pub echo_and_probe : List ℕ
 echo_and_probe = echo 1 72 ++ (replicate 4 0 ++ probe 2 0)
 
+-- ---- what the connection finds in the messages of a frame
+
+abbrev pub faults_of : Result Frame ConnEnd → List (Option ℕ)
+faults_of (Err e) = []
+faults_of (Ok x) = map (λ (c : Checked). c.fault) x.messages
+
+-- a bare message of this header, padded to 72 bytes, and one behind it
+abbrev pub in_front_of : Header → List ℕ → List ℕ
+in_front_of h second = message_spelling (record h { next = 72 }) bare_spelling ++ (replicate 4 0 ++ second)
+
 -- ---- related messages
 
 abbrev pub checked : Header → List ℕ → Bool → Checked
@@ -93,3 +104,15 @@ statuses_of (r ∷ rs) = r.header.status ∷ statuses_of rs
 
 abbrev pub go_through : List Checked → Going
 go_through cs = went_all nobody 0 5 [] greeted_end (beginning nothing_yet no_logons greeted_end) cs
+
+-- a SESSION_SETUP of a session that isn't there, which is a frame's first message, of these flags
+abbrev pub lone_setup : ℕ → List Checked
+lone_setup flags =
+    checked (record (header_of 1 1 flags 0) { session = 9 }) (session_setup_request_spelling (record {
+      flags = 0;
+      security_mode = 1;
+      capabilities = 0;
+      channel = 0;
+      previous_session_id = 0;
+      security = 1 ∷ [];
+    })) false ∷ []

@@ -78,9 +78,18 @@ sealed_reply = sealed some_keys false (nonce_at 1 0) (message_spelling (echo_hea
 abbrev pub probe_reply : List ℕ
 probe_reply = message_spelling (header_of 13 1 1 0) bare_spelling
 
--- a transform header of these Flags, and nothing sealed behind it
-abbrev pub flagged_transform : ℕ → List ℕ
-flagged_transform flags = protocol ++ (replicate 38 0 ++ (flags ∷ replicate 9 0))
+-- a transform header of session 9 and of these Flags, and nothing sealed behind it; its tag: AES-128-GCM, by OpenSSL
+abbrev pub flagged_transform : ℕ → List ℕ → List ℕ
+flagged_transform flags tag = protocol ++ (tag ++ (replicate 22 0 ++ (flags ∷ 0 ∷ 9 ∷ replicate 7 0)))
+
+abbrev pub tag_of_0 : List ℕ
+tag_of_0 = 31 ∷ 20 ∷ 61 ∷ 221 ∷ 46 ∷ 231 ∷ 106 ∷ 19 ∷ 101 ∷ 20 ∷ 79 ∷ 176 ∷ 114 ∷ 146 ∷ 163 ∷ 10 ∷ []
+
+abbrev pub tag_of_1 : List ℕ
+tag_of_1 = 111 ∷ 56 ∷ 211 ∷ 18 ∷ 88 ∷ 211 ∷ 102 ∷ 163 ∷ 220 ∷ 77 ∷ 160 ∷ 75 ∷ 209 ∷ 126 ∷ 174 ∷ 126 ∷ []
+
+abbrev pub tag_of_2 : List ℕ
+tag_of_2 = 255 ∷ 77 ∷ 224 ∷ 67 ∷ 194 ∷ 143 ∷ 115 ∷ 114 ∷ 23 ∷ 167 ∷ 144 ∷ 71 ∷ 53 ∷ 74 ∷ 185 ∷ 226 ∷ []
 
 -- ---- a binding to session 9
 
@@ -103,10 +112,17 @@ bound_request signed verified = record {
   shows = Bad;
 }
 
--- who signs its refusal of this status, where session 9 is live
+-- a connection whose session has another key
+abbrev pub other_signer : Signer
+other_signer = record { key = replicate 16 4; algorithm = 1 }
+
+abbrev pub other_end : ServerEnd
+other_end = record greeted_end { keys = Some (record some_keys { signing = other_signer }); channel = 1 }
+
+-- who signs its refusal of this status there, where session 9 is live
 abbrev pub refused_by : Bool → Bool → ℕ → Option Signer
 refused_by signed verified status =
-    staying_signer one_session keyed_logons (keyed_end false) binding (Setup (bound_request signed verified)) status
+    staying_signer one_session keyed_logons other_end binding (Setup (bound_request signed verified)) status
 
 -- the client's end behind the binding of a second channel
 abbrev pub bound_second : ClientEnd

@@ -7,6 +7,9 @@ use Rattle.spec_exchange.specs.State.{Server, Message, Reply, Body, Created, Set
 use Rattle.spec_exchange.specs.Operations.{OpCreate, request_of}
 use Rattle.spec_exchange.specs.Fold.{nothing_yet}
 use Rattle.spec_commands.specs.ReplyBody.{reply_body}
+use Rattle.spec_crypto.specs.tokens.Acceptor.{LogonValue}
+use Rattle.spec_crypto.specs.tokens.Tokens.{Shown, shown}
+use Rattle.spec_world.specs.Logon.{pending_by}
 use Rattle.spec_world.specs.Settings.{ServerSettings, ClientSettings}
 use Rattle.spec_world.specs.Ends.{ServerEnd, first_server_end, no_logons, no_keys}
 use Rattle.spec_world.specs.Hearing.{Checked}
@@ -28,7 +31,7 @@ abbrev pub client_of_logon : ClientSettings
 client_of_logon = record { user = user_name; password = password; guid = guid_from 16; ciphers = 1 ∷ []; signings = [] }
 
 abbrev pub server_of_logon : ServerSettings
-server_of_logon = record { users = record { name = user_name; password = password } ∷ []; guid = guid_from 32 }
+server_of_logon = record { users = record { list = record { name = user_name; password = password } ∷ []; bare = false }; guid = guid_from 32 }
 
 abbrev pub file_path : List ℕ
 file_path = 100 ∷ 105 ∷ 115 ∷ 107 ∷ 46 ∷ 105 ∷ 109 ∷ 103 ∷ []
@@ -122,6 +125,15 @@ tree_told =
     with_signature None (reply_header (heard_as 3 3) 0 first_id 1 1)
     (reply_body [] (TreeConnect share_name) (success_of 1 (Connected 0x1 0x10 0x1f_01ff)))
 
+-- what a token shows behind a type 1 alone, and a logon whose type 3 brings no key
+abbrev pub shown_alone : List ℕ → Shown
+shown_alone token =
+    shown (record { list = server_of_logon.users.list; bare = true })
+    (pending_by true worked.type_1 worked.server_challenge (first_moment + 3)) token
+
+abbrev pub alone_logon : LogonValue
+alone_logon = record { user = user_name; key = worked.alone_key; exchanged = false }
+
 -- a new file, empty, at the moment of its CREATE
 abbrev pub new_file : Body
 new_file = Created (record {
@@ -137,7 +149,7 @@ new_file = Created (record {
       accessed = first_moment + 11;
       written = first_moment + 11;
       changed = first_moment + 11;
-      attributes = 0;
+      attributes = 0x20;
     };
   };
   timeout = Some 60000;

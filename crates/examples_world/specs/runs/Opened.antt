@@ -1,14 +1,17 @@
 -- Frames that open a file, ask something of it and close it, as usual clients send them.
-use Rattle.std.specs.Prelude.{ℕ, true, false, List, [], ◌∷◌, Option, Some, None}
+use Rattle.std.specs.Prelude.{ℕ, true, false, List, [], ◌∷◌, map, Option, Some, None}
 use Rattle.spec_wire.specs.messages.Bare.{bare_spelling}
 use Rattle.spec_exchange.specs.Commands.{Command, Create, Close, QueryFile}
+use Rattle.spec_exchange.specs.Fold.{nothing_yet}
 use Rattle.spec_exchange.specs.State.{Server}
 use Rattle.spec_commands.specs.BodyOf.{body_of, number_of_command}
 use Rattle.spec_world.specs.Ends.{no_logons}
+use Rattle.spec_crypto.specs.declared.sessions.material.Signer.{Signer}
 use Rattle.spec_world.specs.Hearing.{Checked}
+use Rattle.spec_world.specs.Answering.{SaidReply}
 use Rattle.spec_world.specs.Connection.{Going, went_all, beginning}
 use Rattle.examples_world.specs.runs.Ends.{greeted_end, nobody, header_of, checked}
-use Rattle.examples_world.specs.runs.Keyed.{one_session}
+use Rattle.examples_world.specs.runs.Keyed.{one_session, keyed_end}
 
 -- session 9 has tree 1
 abbrev pub one_tree : Server
@@ -51,6 +54,23 @@ close = Close 0xffff_ffff_ffff_ffff false
 -- a file is made, asked for a class that isn't known, and closed
 abbrev pub made_and_closed : List Checked
 made_and_closed = first_of (make (97 ∷ [])) None ∷ behind 2 no_class ∷ behind 3 close ∷ []
+
+-- between them stands a bare request of this number, which names no open: an ECHO, a CANCEL, a CHANGE_NOTIFY
+abbrev pub with_between : ℕ → List Checked
+with_between number = first_of (make (97 ∷ [])) None ∷ checked (header_of number 2 4 0) bare_spelling true ∷ behind 3 close ∷ []
+
+-- a CREATE that has the related flag as its frame's first message
+abbrev pub misplaced_create : List Checked
+misplaced_create = checked (record (header_of 5 1 4 0) { session = 9; tree = 1 }) (body_of (make (97 ∷ []))) false ∷ []
+
+-- a CREATE and a CLOSE in which the connection found this fault, or none, where it has keys and the server no session
+abbrev pub on_no_session : Option ℕ → Going
+on_no_session fault =
+    went_all nobody 0 5 [] (keyed_end false) (beginning nothing_yet no_logons (keyed_end false))
+    (first_of (make (97 ∷ [])) fault ∷ record (behind 3 close) { fault = fault } ∷ [])
+
+abbrev pub signers_of : List SaidReply → List (Option Signer)
+signers_of rs = map (λ (r : SaidReply). r.signer) rs
 
 -- a CREATE in which the connection found a fault, an ECHO and a CLOSE
 abbrev pub refused_and_closed : List Checked

@@ -1,5 +1,5 @@
 -- The settings of a worked logon.
-use Rattle.std.specs.Prelude.{ℕ, true, List, [], ◌∷◌}
+use Rattle.std.specs.Prelude.{ℕ, true, false, List, [], ◌∷◌}
 use Rattle.spec_world.specs.Settings.{ServerSettings, ClientSettings, WorldSettings}
 
 -- `User` and `Password`
@@ -29,7 +29,7 @@ logon_client = record {
 }
 
 abbrev pub logon_server : ServerSettings
-logon_server = record { users = record { name = user_name; password = password } ∷ []; guid = server_guid }
+logon_server = record { users = record { list = record { name = user_name; password = password } ∷ []; bare = false }; guid = server_guid }
 
 abbrev pub logon_settings : WorldSettings
 logon_settings = record {

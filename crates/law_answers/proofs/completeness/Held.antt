@@ -1,4 +1,6 @@
 -- Which sessions the server holds on its connections, behind a message, a connection that is made and one that ends.
+use Rattle.spec_exchange.specs.Effects.{opens_of_tree}
+use Rattle.law_server.proofs.tables.Closing.{closed_beside}
 use Rattle.std.proofs.lemmas.Bool.Decides.{nat_tests}
 use Rattle.std.proofs.Common.{eqb-true, ◌≡◌, ◌≢◌, ℕ, ◌+◌, ◌≤◌, ◌==◌, nat_le, Bool, true, false, not, ◌||◌}
 use Rattle.std.proofs.Common.{if◌then◌else◌, List, [], ◌∷◌, inl, inr, length, refl, arith, sym, subst, ◌∙◌, ap, Option}
@@ -109,7 +111,8 @@ by_effect s m now (Join session) q x f p e = other_key s.session_on m.connection
     (elsewhere m q x f.binding.request f.binding.command p) e
 by_effect s m now (EndSession session is_quiet) q x f p e = absurd (p.stays f.command)
 by_effect s m now (AddTree pipes) q x f p e = e
-by_effect s m now DropTree q x f p e = e
+by_effect s m now DropTree q x f p e =
+    ap (λ (g : ℕ → Option ℕ). g q) (closed_beside s m.session_id (opens_of_tree s m.session_id m.tree_id)).session_on ∙ e
 
 step_keeps : (s : Server) (now : ℕ) (m : Message) (q x : ℕ) → Spares m q x → s.session_on q ≡ Some x
     → (step s now (Heard m)).server.session_on q ≡ Some x

@@ -1,4 +1,6 @@
 -- No step makes the server keep USER_SESSION_DELETED, in its columns or in the journal; and behind check 1 none answers it.
+use Rattle.spec_exchange.specs.Effects.{opens_of_tree, close_all, drop_tree}
+use Rattle.law_server.proofs.tables.Closing.{closed_beside}
 use Rattle.std.proofs.Common.{◌≡◌, ℕ, ◌+◌, ◌==◌, nat_le, nat_lt, Bool, true, false, not, ◌&&◌, ◌||◌, List, [], ◌∷◌}
 use Rattle.std.proofs.Common.{◌++◌, inl, inr, length, refl, arith, sym, subst, ◌∙◌, ap, Option, Some, None, is_some}
 use Rattle.spec_exchange.specs.Table.{put, put2, is_at}
@@ -105,6 +107,12 @@ ended_if : (s : Server) (now : ℕ) (o : Option ℕ) (q : Bool) → FairServer s
 ended_if s now None q h = h
 ended_if s now (Some session) q h = ends s session now q h
 
+tree_gone : (s : Server) (session tree : ℕ) → FairServer s → FairServer (drop_tree s session tree)
+tree_gone s session tree h =
+    let os = opens_of_tree s session tree in let t = close_all s session os in let b = closed_beside s session os in
+    subst (λ (l : ℕ → ℕ → Option Kept). Fair t.refused l) (sym b.lock_sequences)
+    (subst (λ (f : ℕ → ℕ → Option ℕ). Fair f s.lock_sequences) (sym b.refused) h)
+
 by_effect : (s : Server) (m : Message) (now : ℕ) (v : Verdict) → keeps_fair v ≡ true → FairServer s → FairServer (apply s m now v).server
 by_effect s m now (Refuse status) e h = h
 by_effect s m now (Give body) e h = h
@@ -127,7 +135,7 @@ by_effect s m now (Begin session user previous r is_quiet) e h = ended_if s now 
 by_effect s m now (Join session) e h = h
 by_effect s m now (EndSession session is_quiet) e h = ends s session now is_quiet h
 by_effect s m now (AddTree pipes) e h = h
-by_effect s m now DropTree e h = h
+by_effect s m now DropTree e h = tree_gone s m.session_id m.tree_id h
 
 -- ---- records
 
@@ -245,7 +253,7 @@ records_by s m now (Begin session user previous r is_quiet) e = fair_named s (or
 records_by s m now (Join session) e = refl
 records_by s m now (EndSession session is_quiet) e = fair_ended s (origin_of m) session is_quiet
 records_by s m now (AddTree pipes) e = refl
-records_by s m now DropTree e = refl
+records_by s m now DropTree e = fair_all_left s (origin_of m) (opens_of_tree s m.session_id m.tree_id)
 
 -- ---- a step
 

@@ -1,4 +1,6 @@
 -- The server's connections are those whose ends it holds, so that it takes in each other one.
+use Rattle.spec_exchange.specs.Effects.{opens_of_tree}
+use Rattle.law_server.proofs.tables.Closing.{closed_beside}
 use Rattle.std.proofs.lemmas.Bool.Decides.{nat_tests}
 use Rattle.std.proofs.Common.{◌≡◌, ℕ, ◌<◌, nat_le, Bool, true, false, if◌then◌else◌, List, [], ◌∷◌, ◌++◌, inl, inr}
 use Rattle.std.proofs.Common.{length, refl, arith, sym, subst, ◌∙◌, ap, Option, Some, None, is_some}
@@ -117,7 +119,7 @@ by_effect s m now (Begin session user previous r is_quiet) = same_so s (end_if_n
 by_effect s m now (Join session) = record { connections = refl }
 by_effect s m now (EndSession session is_quiet) = record { connections = refl }
 by_effect s m now (AddTree pipes) = record { connections = refl }
-by_effect s m now DropTree = record { connections = refl }
+by_effect s m now DropTree = record { connections = (closed_beside s m.session_id (opens_of_tree s m.session_id m.tree_id)).connections }
 
 before : (s : Server) (now : ℕ) (t : Server) → Before s now t → t.connections ≡ s.connections
 before s now t (inl e) = ap (λ (u : Server). u.connections) e

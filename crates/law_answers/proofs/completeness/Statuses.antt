@@ -9,14 +9,15 @@ use Rattle.spec_exchange.specs.Commands.{Close, Flush, Read, Write, Lock, Ioctl,
 use Rattle.spec_exchange.specs.Commands.{SetInfo, Setting, SetBasic, Rename, SetDelete, SetAllocation, SetEnd}
 use Rattle.spec_exchange.specs.Commands.{CreateRequest, Durable, Reconnect, SetupRequest, Shows, Begins, Bad, Refused}
 use Rattle.spec_exchange.specs.Commands.{Logon, Element, deletes_on_close, form, path_form, is_setup, no_file, all_lock}
-use Rattle.spec_exchange.specs.State.{Server, Message, Kept, Named, Range, Empty}
+use Rattle.spec_exchange.specs.Commands.{Basic}
+use Rattle.spec_exchange.specs.State.{Server, Message, Kept, Named, Range}
 use Rattle.spec_exchange.specs.Files.{find, is_directory, set_basic, allocated}
 use Rattle.spec_exchange.specs.Ranges.{RangeAnswer, Stands, Denied, change_ranges, lock_ranges, unlock_ranges}
 use Rattle.spec_exchange.specs.Ranges.{stands_or, ranges_of, any_wraps, add_ranges, take_ranges, count_owned}
 use Rattle.spec_exchange.specs.Ranges.{max_ranges}
 use Rattle.spec_exchange.specs.Opens.{deletes, mapped, max_ids}
-use Rattle.spec_exchange.specs.CheckCreate.{keeps_guid, max_guids, is_counted_out, action_of, names, names_of_found}
-use Rattle.spec_exchange.specs.CheckCreate.{found_names, missing_names, shares, refused_by, refused_create, after_names}
+use Rattle.spec_exchange.specs.CheckCreate.{keeps_guid, max_guids, is_counted_out, action_of, names}
+use Rattle.spec_exchange.specs.CheckCreate.{shares, refused_by, refused_create, after_names}
 use Rattle.spec_exchange.specs.CheckCreate.{new_check, live_check, refusal_check, guid_check, reconnect_check}
 use Rattle.spec_exchange.specs.CheckCreate.{durable_check, reconnect_or_create, create_check}
 use Rattle.spec_exchange.specs.CheckOpen.{file_of, has_access, is_slot, kept_status, kept_lock, is_repeated}
@@ -25,6 +26,7 @@ use Rattle.spec_exchange.specs.CheckOpen.{read_check, turn_down_lock, range_chec
 use Rattle.spec_exchange.specs.CheckOpen.{lock_check, named_change, unless_repeated, size_change, setting_check}
 use Rattle.spec_exchange.specs.CheckOpen.{set_check, flush_check, close_check, file_query_check, volume_query_check}
 use Rattle.spec_exchange.specs.CheckOpen.{listing_of, list_check, ioctl_check, free_ioctl_check, is_late}
+use Rattle.spec_exchange.specs.CheckOpen.{basic_names}
 use Rattle.spec_exchange.specs.CheckSetup.{tree_in, setup_check, tree_check, binding_check, session_check}
 use Rattle.spec_exchange.specs.CheckSetup.{granted_session, second_token, first_token, is_new}
 use Rattle.spec_exchange.specs.Check.{check, owed, formed, command_check, with_tree, in_tree, tree_command, on_open, has_session}
@@ -33,6 +35,7 @@ use Rattle.spec_exchange.specs.Verdict.{KeepSlot, PutRanges, Alter, CloseOpen, C
 use Rattle.spec_exchange.specs.Verdict.{EndSession, AddTree, DropTree, Change, PutDeletePending, PutBasic, PutEnd}
 use Rattle.spec_exchange.specs.Step.{without_room}
 use Rattle.law_server.proofs.tables.Logic.{either}
+use Rattle.law_server.proofs.tables.Refusals.{names_say}
 
 -- it isn't USER_SESSION_DELETED
 abbrev pub is_other : ℕ → Bool
@@ -98,9 +101,17 @@ fair_refused None status e = e
 fair_refused (Some d) status e = e
 
 fair_names : (s : Server) (r : CreateRequest) (found : Option ℕ) (status : ℕ) → names s r found ≡ Some status → is_other status ≡ true
-unfolding names names_of_found found_names missing_names
-fair_names s r None status e = grind arith
-fair_names s r (Some f) status e = grind arith
+fair_names = names_say (λ n. is_other n ≡ true) (record {
+  pending = refl;
+  collision = refl;
+  no_directory = refl;
+  directory = refl;
+  parameter = refl;
+  denied = refl;
+  undeletable = refl;
+  no_name = refl;
+  no_path = refl;
+})
 
 fair_after : (s : Server) (r : CreateRequest) (found u : Option ℕ) → names s r found ≡ u → is_fair (after_names s r found u) ≡ true
 fair_after s r found (Some status) e = fair_refused r.durable status (fair_names s r found status e)
@@ -259,6 +270,10 @@ fair_delete_names : (s : Server) (f : ℕ) (flag : Bool) (status : ℕ) → dele
 unfolding delete_names
 fair_delete_names s f flag status e = grind arith
 
+fair_basic_names : (s : Server) (f : ℕ) (b : Basic) (status : ℕ) → basic_names s f b ≡ Some status → is_other status ≡ true
+unfolding basic_names
+fair_basic_names s f b status e = grind arith
+
 fair_named : (o : ℕ) (change : Change) (u : Option ℕ) → ((status : ℕ) → u ≡ Some status → is_other status ≡ true)
     → is_fair (named_change o change u) ≡ true
 fair_named o change (Some status) f = f status refl
@@ -274,8 +289,11 @@ fair_size s m o size change = grind arith
 fair_setting : (s : Server) (m : Message) (o : ℕ) (setting : Setting) → is_fair (setting_check s m o setting) ≡ true
 fair_setting s m o (SetBasic basic) =
     let change : Change = PutBasic (set_basic (s.basic (file_of s o)) basic) in
-    either (λ v. is_fair v ≡ true) (has_access s o 0x100) (unless_repeated s m o change (Alter o change Empty))
-    (TurnDown o access_denied) (λ _. fair_unless s m o change (Alter o change Empty) refl) (λ _. refl)
+    let u = basic_names s (file_of s o) basic in
+    either (λ v. is_fair v ≡ true) (has_access s o 0x100) (unless_repeated s m o change (named_change o change u))
+    (TurnDown o access_denied)
+    (λ _. fair_unless s m o change (named_change o change u)
+    (fair_named o change u (fair_basic_names s (file_of s o) basic))) (λ _. refl)
 fair_setting s m o (Rename replace path) =
     let change = path_change s o path in let u = rename_names s (file_of s o) replace path in
     either (λ v. is_fair v ≡ true) (has_access s o 0x1_0000) (unless_repeated s m o change (named_change o change u))

@@ -1,4 +1,6 @@
 -- What an event does to the server's sessions as far as their ciphers go.
+use Rattle.spec_exchange.specs.Effects.{opens_of_tree}
+use Rattle.law_server.proofs.tables.Closing.{closed_beside}
 use Rattle.std.proofs.Common.{◌≡◌, ℕ, ◌==◌, Bool, true, false, if◌then◌else◌, List, inl, inr, refl, sym, ap, ◌∙◌, subst, arith}
 use Rattle.std.proofs.Common.{nat_le, length, Option, Some, None, is_some}
 use Rattle.spec_exchange.specs.Table.{put}
@@ -174,7 +176,13 @@ by_effect s m now (Begin session user previous r is_quiet) f h =
 by_effect s m now (Join session) f h = h
 by_effect s m now (EndSession session is_quiet) f h = keeps s (end_session s session now is_quiet) (ended s session now is_quiet) h
 by_effect s m now (AddTree pipes) f h = h
-by_effect s m now DropTree f h = h
+by_effect s m now DropTree f h =
+    let b = closed_beside s m.session_id (opens_of_tree s m.session_id m.tree_id) in
+    keeps s (apply s m now DropTree).server (record {
+      encrypts = b.encrypts;
+      cipher = b.cipher;
+      present = λ x e. ap (λ (f : ℕ → Bool). f x) (sym b.present) ∙ e;
+    }) h
 
 -- ---- a message
 

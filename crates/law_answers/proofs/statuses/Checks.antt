@@ -12,18 +12,22 @@ use Rattle.spec_exchange.specs.Commands.{Close, Flush, Read, Write, Lock, Ioctl,
 use Rattle.spec_exchange.specs.Commands.{SetInfo, Setting, SetBasic, Rename, SetDelete, SetAllocation, SetEnd}
 use Rattle.spec_exchange.specs.Commands.{CreateRequest, Durable, Reconnect, SetupRequest, Shows, Begins, Bad, Refused, Logon, Element}
 use Rattle.spec_exchange.specs.Commands.{deletes_on_close, asks_directory, asks_file, form}
-use Rattle.spec_exchange.specs.Commands.{path_form, create_form, transfer_form, lock_form}
-use Rattle.spec_exchange.specs.Commands.{room_form, is_setup, no_file, all_lock, all_unlock}
+use Rattle.spec_exchange.specs.Commands.{path_form, made_form, create_form, transfer_form, lock_form}
+use Rattle.spec_exchange.specs.Commands.{room_form, list_form, is_short_pattern, is_setup, no_file, all_lock, all_unlock}
+use Rattle.spec_exchange.specs.Commands.{has_bit, Basic}
 use Rattle.spec_exchange.specs.State.{Server, Message, Kept, Named, Range, Empty}
 use Rattle.spec_exchange.specs.Files.{root, find, has_parent, is_directory}
 use Rattle.spec_exchange.specs.Files.{is_full_directory, path_of, set_basic, allocated, passes_room}
+use Rattle.spec_exchange.specs.Files.{is_read_only, may_set_attributes, may_set_times}
 use Rattle.spec_exchange.specs.Ranges.{RangeAnswer, Stands, Denied, change_ranges, lock_ranges, unlock_ranges, stands_or, ranges_of}
 use Rattle.spec_exchange.specs.Ranges.{any_wraps, add_ranges, take_ranges, count_owned, max_ranges, may_read, may_write}
-use Rattle.spec_exchange.specs.Opens.{deletes, mapped, max_ids, is_of_session}
+use Rattle.spec_exchange.specs.Opens.{deletes, mapped, max_ids, is_of_tree}
+use Rattle.spec_exchange.specs.Opens.{granted, writes}
 use Rattle.spec_exchange.specs.CheckCreate.{keeps_guid, max_guids, is_counted_out, action_of, names, names_of_found, found_names}
 use Rattle.spec_exchange.specs.CheckCreate.{missing_names, makes_missing, empties, shares, refused_by, refused_create, after_names}
 use Rattle.spec_exchange.specs.CheckCreate.{new_check, live_check, refusal_check, guid_check, reconnect_check, has_guid, durable_check}
 use Rattle.spec_exchange.specs.CheckCreate.{reconnect_or_create, create_check}
+use Rattle.spec_exchange.specs.CheckCreate.{found_attributes, missing_attributes, drops_bit, first_refusal}
 use Rattle.spec_exchange.specs.CheckOpen.{file_of, has_access, is_slot, kept_status, kept_lock, is_repeated, is_late, bytes_change}
 use Rattle.spec_exchange.specs.CheckOpen.{path_change, allocation_change, rename_names}
 use Rattle.spec_exchange.specs.CheckOpen.{delete_names, target_of, target_refused, open_below}
@@ -31,6 +35,7 @@ use Rattle.spec_exchange.specs.CheckOpen.{timely_write, write_check, read_check,
 use Rattle.spec_exchange.specs.CheckOpen.{slot_check, lock_check, named_change, unless_repeated, size_change, setting_check, set_check}
 use Rattle.spec_exchange.specs.CheckOpen.{flush_check, close_check, needs_attributes, file_query_check, volume_query_check, listing_of}
 use Rattle.spec_exchange.specs.CheckOpen.{list_check, ioctl_status, ioctl_check, free_ioctl_check, query_interfaces, get_referrals}
+use Rattle.spec_exchange.specs.CheckOpen.{basic_names}
 use Rattle.spec_exchange.specs.Listing.{file_info_size, volume_info_size}
 use Rattle.spec_exchange.specs.CheckSetup.{tree_in, setup_check, tree_check}
 use Rattle.spec_exchange.specs.CheckSetup.{binding_check, live_binding, session_check, granted_session}
@@ -135,10 +140,30 @@ low_found s r f =
     (λ _. either KeptIn (empties r.disposition && is_directory s f) _ _ (λ _. (refl, refl))
     (λ _. either KeptIn (deletes_on_close r.options && (f == root)) _ _ (λ _. (refl, refl)) (λ _. tt))))))
 
+low_attributes : (s : Server) (r : CreateRequest) (f : ℕ) → KeptIn (found_attributes s r f)
+unfolding found_attributes
+low_attributes s r f =
+    either KeptIn (empties r.disposition && (drops_bit s r f 0x2 || drops_bit s r f 0x4)) _ _ (λ _. (refl, refl))
+    (λ _. either KeptIn (is_read_only s f && (empties r.disposition || writes (granted s f r.access))) _ _ (λ _. (refl, refl))
+    (λ _. either KeptIn (is_read_only s f && deletes_on_close r.options) _ _ (λ _. (refl, refl)) (λ _. tt)))
+
+low_missing : (r : CreateRequest) → KeptIn (missing_names r)
+unfolding missing_names
+low_missing r = either KeptIn (makes_missing r.disposition) _ _ (λ _. tt) (λ _. (refl, refl))
+
+low_made : (r : CreateRequest) → KeptIn (missing_attributes r)
+unfolding missing_attributes
+low_made r = either KeptIn (deletes_on_close r.options && (not (asks_directory r) && has_bit r.attributes 0x1)) _ _
+    (λ _. (refl, refl)) (λ _. tt)
+
+low_of_two : (a b : Option ℕ) → KeptIn a → KeptIn b → KeptIn (first_refusal a b)
+low_of_two None b g h = h
+low_of_two (Some status) b g h = g
+
 low_by : (s : Server) (r : CreateRequest) (found : Option ℕ) → KeptIn (names_of_found s r found)
-unfolding names_of_found missing_names
-low_by s r None = either KeptIn (makes_missing r.disposition) _ _ (λ _. tt) (λ _. (refl, refl))
-low_by s r (Some f) = low_found s r f
+unfolding names_of_found
+low_by s r None = low_of_two (missing_names r) (missing_attributes r) (low_missing r) (low_made r)
+low_by s r (Some f) = low_of_two (found_names s r f) (found_attributes s r f) (low_found s r f) (low_attributes s r f)
 
 pub low_names : (s : Server) (r : CreateRequest) (found : Option ℕ) → KeptIn (names s r found)
 unfolding names
@@ -324,7 +349,11 @@ low_delete : (s : Server) (f : ℕ) (flag : Bool) → LowIn (delete_names s f fl
 unfolding delete_names
 low_delete s f flag =
     either LowIn (not flag) _ _ (λ _. tt) (λ _. either LowIn (f == root) _ _ (λ _. refl)
-    (λ _. either LowIn (is_full_directory s f) _ _ (λ _. refl) (λ _. tt)))
+    (λ _. either LowIn (is_full_directory s f) _ _ (λ _. refl) (λ _. either LowIn (is_read_only s f) _ _ (λ _. refl) (λ _. tt))))
+
+low_basic : (s : Server) (f : ℕ) (b : Basic) → LowIn (basic_names s f b)
+unfolding basic_names
+low_basic s f b = either LowIn (may_set_attributes (is_directory s f) b.attributes && may_set_times b) _ _ (λ _. tt) (λ _. refl)
 
 low_named : (o : ℕ) (change : Change) (u : Option ℕ) → LowIn u → Tells (named_change o change u)
 low_named o change (Some status) e = e
@@ -341,9 +370,9 @@ low_size s m o size change =
 
 low_setting : (s : Server) (m : Message) (o : ℕ) (setting : Setting) → Tells (setting_check s m o setting)
 low_setting s m o (SetBasic basic) =
-    let change : Change = PutBasic (set_basic (s.basic (file_of s o)) basic) in
-    either Tells (has_access s o 0x100) (unless_repeated s m o change (Alter o change Empty)) (TurnDown o access_denied)
-    (λ _. low_unless s m o change (Alter o change Empty) tt) (λ _. refl)
+    let change : Change = PutBasic (set_basic (s.basic (file_of s o)) basic) in let u = basic_names s (file_of s o) basic in
+    either Tells (has_access s o 0x100) (unless_repeated s m o change (named_change o change u)) (TurnDown o access_denied)
+    (λ _. low_unless s m o change (named_change o change u) (low_named o change u (low_basic s (file_of s o) basic))) (λ _. refl)
 low_setting s m o (Rename replace path) =
     let change = path_change s o path in let u = rename_names s (file_of s o) replace path in
     either Tells (has_access s o 0x1_0000) (unless_repeated s m o change (named_change o change u)) (TurnDown o access_denied)
@@ -367,7 +396,7 @@ low_set s m o setting =
 -- ---- behind check 4
 
 low_open : (s : Server) (m : Message) (o : ℕ) (v : Verdict) → Tells v → Tells (on_open s m o v)
-low_open s m o v e = either Tells (is_of_session s o m.session_id) v _ (λ _. e) (λ _. refl)
+low_open s m o v e = either Tells (is_of_tree s o m.session_id m.tree_id) v _ (λ _. e) (λ _. refl)
 
 low_tree : (s : Server) (m : Message) (pipes : Bool) (c : Command) → LowServer s → Carries c → Tells (tree_command s m pipes c)
 low_tree s m pipes (Unreadable status) f p = p
@@ -494,10 +523,15 @@ unfolding path_form
 low_path path =
     either LowIn (begins_with_backslash path) _ _ (λ _. refl) (λ _. either LowIn (is_path path) _ _ (λ _. tt) (λ _. refl))
 
+low_made_form : (r : CreateRequest) → LowIn (made_form r)
+low_made_form r =
+    either LowIn (nat_lt 5 r.disposition) _ _ (λ _. refl)
+    (λ _. either LowIn (asks_directory r && asks_file r) _ _ (λ _. refl)
+    (λ _. either LowIn (asks_directory r && has_bit r.attributes 0x100) _ _ (λ _. refl) (λ _. low_path r.path)))
+
 low_create_form : (r : CreateRequest) → LowIn (create_form r)
 low_create_form r =
-    either LowIn (nat_lt 5 r.disposition) _ _ (λ _. refl)
-    (λ _. either LowIn (asks_directory r && asks_file r) _ _ (λ _. refl) (λ _. low_path r.path))
+    either LowIn (is_some r.reconnect) _ _ (λ _. either LowIn (is_some r.durable) _ _ (λ _. refl) (λ _. tt)) (λ _. low_made_form r)
 
 low_transfer : (at size channel : ℕ) → LowIn (transfer_form at size channel)
 low_transfer at size channel =
@@ -511,6 +545,10 @@ low_elements (e ∷ es) = either LowIn (all_lock (e ∷ es) || all_unlock (e ∷
 low_room : (room : ℕ) → LowIn (room_form room)
 low_room room = either LowIn (nat_lt 1048576 room) _ _ (λ _. refl) (λ _. tt)
 
+low_list_form : (pattern : List ℕ) (room : ℕ) → LowIn (list_form pattern room)
+low_list_form pattern room =
+    either LowIn (nat_lt 1048576 room) _ _ (λ _. refl) (λ _. either LowIn (is_short_pattern pattern) _ _ (λ _. tt) (λ _. refl))
+
 low_form : (c : Command) → Carries c → LowIn (form c)
 low_form (Unreadable status) p = p
 low_form (Setup request) p = either LowIn request.readable _ _ (λ _. tt) (λ _. refl)
@@ -519,7 +557,7 @@ low_form (Read o at size minimum channel) p = low_transfer at size channel
 low_form (Write o at bytes channel) p = low_transfer at (length bytes) channel
 low_form (Lock o index number elements) p = low_elements elements
 low_form (Ioctl o code room) p = low_room room
-low_form (ListDirectory o class restart single pattern room) p = low_room room
+low_form (ListDirectory o class restart single pattern room) p = low_list_form pattern room
 low_form (QueryFile o class room) p = low_room room
 low_form (QueryVolume o class room) p = low_room room
 low_form (SetInfo o (Rename replace path)) p = low_path path
@@ -607,7 +645,7 @@ low_full (Begin session user previous r is_quiet) e = tt
 low_full (Join session) e = tt
 low_full (EndSession session is_quiet) e = tt
 low_full (AddTree pipes) e = tt
-low_full DropTree e = tt
+low_full DropTree e = refl
 
 pub keeps_full : (v : Verdict) → Keeps v → Keeps (without_room v)
 keeps_full (Refuse status) e = tt

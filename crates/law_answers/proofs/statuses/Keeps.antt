@@ -1,4 +1,6 @@
 -- What each step makes the server keep, in its columns and in the journal, fits 4 bytes; and so does what it answers.
+use Rattle.spec_exchange.specs.Effects.{opens_of_tree, close_all, drop_tree}
+use Rattle.law_server.proofs.tables.Closing.{closed_beside}
 use Rattle.std.proofs.Common.{◌≡◌, ℕ, ◌+◌, ◌==◌, nat_le, nat_lt, Bool, true, false, not, ◌&&◌, ◌||◌, if◌then◌else◌, List, [], ◌∷◌}
 use Rattle.std.proofs.Common.{◌++◌, inl, inr, length, refl, sym, subst, ◌∙◌, ap, Option, Some, None, is_some}
 use Rattle.spec_exchange.specs.Table.{put, put2}
@@ -125,6 +127,12 @@ ended_if : (s : Server) (now : ℕ) (o : Option ℕ) (q : Bool) → LowServer s 
 ended_if s now None q h = h
 ended_if s now (Some session) q h = ends s session now q h
 
+tree_gone : (s : Server) (session tree : ℕ) → LowServer s → LowServer (drop_tree s session tree)
+tree_gone s session tree h =
+    let os = opens_of_tree s session tree in let t = close_all s session os in let b = closed_beside s session os in
+    subst (λ (l : ℕ → ℕ → Option Kept). Low t.refused l) (sym b.lock_sequences)
+    (subst (λ (f : ℕ → ℕ → Option ℕ). Low f s.lock_sequences) (sym b.refused) h)
+
 by_effect : (s : Server) (m : Message) (now : ℕ) (v : Verdict) → Keeps v → LowServer s → LowServer (apply s m now v).server
 by_effect s m now (Refuse status) e h = h
 by_effect s m now (Give body) e h = h
@@ -147,7 +155,7 @@ by_effect s m now (Begin session user previous r is_quiet) e h = ended_if s now 
 by_effect s m now (Join session) e h = h
 by_effect s m now (EndSession session is_quiet) e h = ends s session now is_quiet h
 by_effect s m now (AddTree pipes) e h = h
-by_effect s m now DropTree e h = h
+by_effect s m now DropTree e h = tree_gone s m.session_id m.tree_id h
 
 -- ---- records
 
@@ -265,7 +273,7 @@ records_by s m now (Begin session user previous r is_quiet) e = low_named s (ori
 records_by s m now (Join session) e = refl
 records_by s m now (EndSession session is_quiet) e = low_ended s (origin_of m) session is_quiet
 records_by s m now (AddTree pipes) e = refl
-records_by s m now DropTree e = refl
+records_by s m now DropTree e = low_all_left s (origin_of m) (opens_of_tree s m.session_id m.tree_id)
 
 -- ---- a step
 

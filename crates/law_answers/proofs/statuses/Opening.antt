@@ -6,7 +6,8 @@ use Rattle.spec_exchange.specs.Status.{success, user_session_deleted, sharing_vi
 use Rattle.spec_exchange.specs.Texts.{same_name, begins_with_backslash, is_path}
 use Rattle.spec_exchange.specs.Commands.{Command, Create, CreateRequest, Durable, Reconnect}
 use Rattle.spec_exchange.specs.Commands.{deletes_on_close, asks_directory, asks_file, form, path_form}
-use Rattle.spec_exchange.specs.Commands.{create_form, is_setup}
+use Rattle.spec_exchange.specs.Commands.{made_form, create_form, is_setup}
+use Rattle.spec_exchange.specs.Commands.{has_bit}
 use Rattle.spec_exchange.specs.State.{Server, Message}
 use Rattle.spec_exchange.specs.Files.{find}
 use Rattle.spec_exchange.specs.Opens.{deletes, mapped}
@@ -108,10 +109,16 @@ unfolding path_form
 other_path path =
     either OtherIn (begins_with_backslash path) _ _ (λ _. refl) (λ _. either OtherIn (is_path path) _ _ (λ _. tt) (λ _. refl))
 
+other_made_form : (r : CreateRequest) → OtherIn (made_form r)
+other_made_form r =
+    either OtherIn (nat_lt 5 r.disposition) _ _ (λ _. refl)
+    (λ _. either OtherIn (asks_directory r && asks_file r) _ _ (λ _. refl)
+    (λ _. either OtherIn (asks_directory r && has_bit r.attributes 0x100) _ _ (λ _. refl) (λ _. other_path r.path)))
+
 other_form : (r : CreateRequest) → OtherIn (create_form r)
 other_form r =
-    either OtherIn (nat_lt 5 r.disposition) _ _ (λ _. refl)
-    (λ _. either OtherIn (asks_directory r && asks_file r) _ _ (λ _. refl) (λ _. other_path r.path))
+    either OtherIn (is_some r.reconnect) _ _ (λ _. either OtherIn (is_some r.durable) _ _ (λ _. refl) (λ _. tt))
+    (λ _. other_made_form r)
 
 open_formed : (s : Server) (m : Message) (r : CreateRequest) (u : Option ℕ) → OtherIn u → m.command ≡ Create r → LowServer s
     → Opens (formed s m u)

@@ -12,6 +12,7 @@ use Rattle.spec_wire.specs.declared.messages.context.CreateContexts.{CreateConte
 use Rattle.law_wire.proofs.info.OneContext.{same_context, whole_context, given_context, whole_first}
 use Rattle.spec_commands.specs.Items.{first_items, items_in}
 use Rattle.spec_commands.specs.CommandOf.{contexts_in}
+use Rattle.spec_commands.specs.Clashes.{clash, all_clash, clash_in}
 
 is_last : (n : ℕ) → n ≡ 0 → (n == 0) ≡ true
 is_last n e = grind (arith, common_steps)
@@ -89,9 +90,15 @@ one_given m v is = same_context request_due m (context_in m) v (given_context re
 some_bytes : (m : List ℕ) (v : CreateContext) → IsContext request_due m v → 1 ≤ length m
 some_bytes m v is = grind (arith, common_steps)
 
+pub listed_again : (m : List ℕ) (vs : List CreateContext) → IsChainOf (IsContext request_due) m vs
+    → items_in context_in (λ m. is_some (first_fault request_due m)) m ≡ Some vs
+listed_again m vs s =
+    items_again (IsContext request_due) context_in (λ m. is_some (first_fault request_due m)) first_whole one_given some_bytes m vs s
+
 pub contexts_again : (m : List ℕ) (c : CreateContexts) → SpellsCreateContexts m c → contexts_in m ≡ Some c
 unfolding contexts_in
-contexts_again m c s =
-    ap (option_map request_contexts) (items_again (IsContext request_due) context_in (λ m. is_some (first_fault
-    request_due m)) first_whole one_given some_bytes m s.contexts s.chain)
-    ∙ ap Some (sym s.says)
+contexts_again m c s = ap (option_map request_contexts) (listed_again m s.contexts s.chain) ∙ ap Some (sym s.says)
+
+pub clash_again : (m : List ℕ) (vs : List CreateContext) → IsChainOf (IsContext request_due) m vs → clash_in m ≡ clash vs
+unfolding clash_in
+clash_again m vs s = ap all_clash (listed_again m vs s)

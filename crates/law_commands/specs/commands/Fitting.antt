@@ -1,10 +1,11 @@
 -- What can be written: numbers within their fields, and texts.
 use Rattle.std.specs.Prelude.{◌≡◌, ℕ, ◌+◌, ◌^◌, ◌<◌, ◌==◌, List, [], ◌∷◌, length, false, Option, Some, None, IsUtf8}
 use Rattle.spec_wire.specs.messages.Utf16.{utf16}
-use Rattle.spec_exchange.specs.Commands.{Element, Basic, Setting, SetBasic, Rename, SetDelete, SetAllocation, SetEnd}
+use Rattle.spec_exchange.specs.Commands.{Command, Element, Basic, Setting, SetBasic, Rename, SetDelete, SetAllocation, SetEnd}
 use Rattle.spec_exchange.specs.Commands.{Durable, Reconnect, CreateRequest}
 use Rattle.spec_exchange.specs.State.{Info, CreateReply, Named, Body, Empty, Created, Content, Count, Listing, FileInfo}
 use Rattle.spec_exchange.specs.Operations.{Op, OpCreate, OpWrite, OpRead, OpStat, OpList, value_in, id_in}
+use Rattle.spec_commands.specs.Charges.{paid_for}
 use Rattle.spec_commands.specs.Infos.{listing_bytes}
 use Rattle.spec_commands.specs.ReplyOf.{of_length, named_of}
 
@@ -117,3 +118,7 @@ pub record IsHeardAlike (op : Op) (a b : Body) : Type 0 where
 abbrev pub HasNoBackslash : List ℕ → Type 0
 HasNoBackslash [] = Unit {0}
 HasNoBackslash (c ∷ cs) = ((c == 92) ≡ false) × HasNoBackslash cs
+
+-- a request of this number that pays for what it moves is heard as this command
+abbrev pub HeardPaid : ℕ → ℕ → List ℕ → (List ℕ → Command) → Command → Type 0
+HeardPaid number paid m reads c = paid_for number paid m (reads m) ≡ c

@@ -1,9 +1,10 @@
 ghost use Rattle.std.specs.Prelude.{◌≡◌, ◌^◌, ◌*◌, ◌≤◌, ◌<◌, ◌++◌, ◌==◌, ◌||◌, ℕ, Bool, true, false, List, length};
 ghost use Rattle.spec_wire.specs.messages.Classes.{is_directory_class, is_query_class};
 ghost use Rattle.spec_exchange.specs.Commands.{Element, Write, Lock, ListDirectory, QueryFile};
+ghost use Rattle.spec_exchange.specs.Operations.{charge};
 ghost use Rattle.spec_commands.specs.CommandOf.{write_in, lock_in, list_in, query_in};
 ghost use Rattle.spec_commands.specs.BodyOf.{body_of};
-ghost use Rattle.law_commands.specs.commands.Fitting.{IsFittingName, AreElements};
+ghost use Rattle.law_commands.specs.commands.Fitting.{IsFittingName, AreElements, HeardPaid};
 
 use law_wire::{
     lock_request_law, query_directory_request_law, query_info_request_law, write_request_law,
@@ -11,9 +12,9 @@ use law_wire::{
 
 // WRITE
 pub fn write_again()
-    ensures { (header rest : List ℕ) (file at : ℕ) (bytes : List ℕ) (channel : ℕ) → length header ≡ 64 → file < 256 ^ 8
-        → at < 256 ^ 8 → length bytes < 256 ^ 4 → channel < 256 ^ 4
-        → write_in (header ++ (body_of (Write file at bytes channel) ++ rest)) ≡ Write file at bytes channel }
+    ensures { (paid : ℕ) (header rest : List ℕ) (file at : ℕ) (bytes : List ℕ) (channel : ℕ) → length header ≡ 64
+        → file < 256 ^ 8 → at < 256 ^ 8 → length bytes < 256 ^ 4 → channel < 256 ^ 4 → charge (length bytes) ≤ paid
+        → HeardPaid 9 paid (header ++ (body_of (Write file at bytes channel) ++ rest)) write_in (Write file at bytes channel) }
 {
     write_request_law();
 }
@@ -30,19 +31,20 @@ pub fn lock_again()
 
 // QUERY_DIRECTORY
 pub fn list_again()
-    ensures { (header rest : List ℕ) (file class : ℕ) (restart single : Bool) (pattern : List ℕ) (room : ℕ)
+    ensures { (paid : ℕ) (header rest : List ℕ) (file class : ℕ) (restart single : Bool) (pattern : List ℕ) (room : ℕ)
         → length header ≡ 64 → file < 256 ^ 8 → class < 256 ^ 1 → is_directory_class class ≡ true → IsFittingName pattern
-        → room < 256 ^ 4 → list_in (header ++ (body_of (ListDirectory file class restart single pattern room) ++ rest))
-        ≡ ListDirectory file class restart single pattern room }
+        → room < 256 ^ 4 → charge room ≤ paid
+        → HeardPaid 14 paid (header ++ (body_of (ListDirectory file class restart single pattern room) ++ rest)) list_in
+        (ListDirectory file class restart single pattern room) }
 {
     query_directory_request_law();
 }
 
 // QUERY_INFO of a file
 pub fn query_again()
-    ensures { (header rest : List ℕ) (file class room : ℕ) → length header ≡ 64 → file < 256 ^ 8 → class < 256 ^ 1
-        → is_query_class 1 class ≡ true → ((class == 7) || (class == 15)) ≡ false → room < 256 ^ 4
-        → query_in (header ++ (body_of (QueryFile file class room) ++ rest)) ≡ QueryFile file class room }
+    ensures { (paid : ℕ) (header rest : List ℕ) (file class room : ℕ) → length header ≡ 64 → file < 256 ^ 8 → class < 256 ^ 1
+        → is_query_class 1 class ≡ true → ((class == 7) || (class == 15)) ≡ false → room < 256 ^ 4 → charge room ≤ paid
+        → HeardPaid 16 paid (header ++ (body_of (QueryFile file class room) ++ rest)) query_in (QueryFile file class room) }
 {
     query_info_request_law();
 }

@@ -1,7 +1,9 @@
-ghost use Rattle.std.specs.Prelude.{◌≡◌, ◌^◌, ◌<◌, ◌++◌, ℕ, Bool, List, length};
+ghost use Rattle.std.specs.Prelude.{◌≡◌, ◌^◌, ◌<◌, ◌≤◌, ◌++◌, ℕ, Bool, List, length};
 ghost use Rattle.spec_exchange.specs.Commands.{Close, Flush, Read};
+ghost use Rattle.spec_exchange.specs.Operations.{charge};
 ghost use Rattle.spec_commands.specs.CommandOf.{close_in, flush_in, read_in};
 ghost use Rattle.spec_commands.specs.BodyOf.{body_of};
+ghost use Rattle.law_commands.specs.commands.Fitting.{HeardPaid};
 
 use law_wire::{close_request_law, flush_request_law, read_request_law};
 
@@ -23,10 +25,10 @@ pub fn flush_again()
 
 // READ
 pub fn read_again()
-    ensures { (header rest : List ℕ) (file at size minimum channel : ℕ) → length header ≡ 64 → file < 256 ^ 8
-        → at < 256 ^ 8 → size < 256 ^ 4 → minimum < 256 ^ 4 → channel < 256 ^ 4
-        → read_in (header ++ (body_of (Read file at size minimum channel) ++ rest))
-        ≡ Read file at size minimum channel }
+    ensures { (paid : ℕ) (header rest : List ℕ) (file at size minimum channel : ℕ) → length header ≡ 64 → file < 256 ^ 8
+        → at < 256 ^ 8 → size < 256 ^ 4 → minimum < 256 ^ 4 → channel < 256 ^ 4 → charge size ≤ paid
+        → HeardPaid 8 paid (header ++ (body_of (Read file at size minimum channel) ++ rest)) read_in
+        (Read file at size minimum channel) }
 {
     read_request_law();
 }

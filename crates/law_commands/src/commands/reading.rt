@@ -1,11 +1,12 @@
 ghost use Rattle.std.specs.Prelude.{◌≡◌, ℕ, List, Some, None, IsUtf8};
-ghost use Rattle.spec_wire.specs.messages.Chain.{BreaksChain};
-ghost use Rattle.spec_wire.specs.messages.CreateContexts.{SpellsCreateContexts, first_fault, request_due};
+ghost use Rattle.spec_wire.specs.messages.Chain.{BreaksChain, IsChainOf};
+ghost use Rattle.spec_wire.specs.messages.CreateContexts.{SpellsCreateContexts, first_fault, request_due, CreateContext, IsContext};
 ghost use Rattle.spec_wire.specs.messages.Utf16.{utf16, BreaksUtf16};
 ghost use Rattle.spec_wire.specs.declared.messages.chain_error.ChainError.{ChainError};
 ghost use Rattle.spec_wire.specs.declared.messages.context.CreateContexts.{CreateContexts};
 ghost use Rattle.spec_wire.specs.declared.messages.refusal.TextError.{TextError};
 ghost use Rattle.spec_wire.specs.declared.messages.refusal.TextError.TheVariants as errors;
+ghost use Rattle.spec_commands.specs.Clashes.{clash, clash_in};
 ghost use Rattle.spec_commands.specs.CommandOf.{contexts_in};
 ghost use Rattle.spec_commands.specs.Text.{text_in};
 ghost use Rattle.spec_commands.specs.Items.{items_in};
@@ -18,10 +19,11 @@ ghost use Rattle.spec_wire.specs.declared.messages.error.MessageError.{MessageEr
 use law_wire::directory_entry_law;
 
 /// Contexts and texts read as the wire's own grammar says: what is spelled gives its value, and what has a
-/// break gives none.
+/// break gives none. Contexts clash as those that are spelled.
 pub fn same_reading_law()
     ensures contexts { (m : List ℕ) (c : CreateContexts) → SpellsCreateContexts m c → contexts_in m ≡ Some c }
     ensures no_contexts { (m : List ℕ) (e : ChainError) → BreaksChain (first_fault request_due) m e → contexts_in m ≡ None }
+    ensures clash { (m : List ℕ) (vs : List CreateContext) → IsChainOf (IsContext request_due) m vs → clash_in m ≡ clash vs }
     ensures text { (t : List ℕ) → IsUtf8 t → text_in (utf16 t) ≡ Some t }
     ensures no_text { (bytes : List ℕ) (e : TextError) → BreaksUtf16 bytes e → (e ≡ errors.Memory → ⊥) → text_in bytes ≡ None }
 {}

@@ -1,8 +1,9 @@
-ghost use Rattle.std.specs.Prelude.{◌≡◌, ◌^◌, ◌<◌, ◌++◌, ℕ, List, length};
+ghost use Rattle.std.specs.Prelude.{◌≡◌, ◌^◌, ◌<◌, ◌≤◌, ◌++◌, ℕ, List, length};
 ghost use Rattle.spec_exchange.specs.Commands.{Setting, SetInfo};
+ghost use Rattle.spec_exchange.specs.Operations.{charge};
 ghost use Rattle.spec_commands.specs.CommandOf.{set_in};
-ghost use Rattle.spec_commands.specs.BodyOf.{body_of};
-ghost use Rattle.law_commands.specs.commands.Fitting.{IsSetting};
+ghost use Rattle.spec_commands.specs.BodyOf.{body_of, setting_bytes};
+ghost use Rattle.law_commands.specs.commands.Fitting.{IsSetting, HeardPaid};
 
 use law_wire::{
     file_allocation_information_law, file_basic_information_law, file_disposition_information_law,
@@ -11,8 +12,9 @@ use law_wire::{
 
 // SET_INFO
 pub fn set_again()
-    ensures { (header rest : List ℕ) (file : ℕ) (setting : Setting) → length header ≡ 64 → file < 256 ^ 8
-        → IsSetting setting → set_in (header ++ (body_of (SetInfo file setting) ++ rest)) ≡ SetInfo file setting }
+    ensures { (paid : ℕ) (header rest : List ℕ) (file : ℕ) (setting : Setting) → length header ≡ 64 → file < 256 ^ 8
+        → IsSetting setting → charge (length (setting_bytes setting)) ≤ paid
+        → HeardPaid 17 paid (header ++ (body_of (SetInfo file setting) ++ rest)) set_in (SetInfo file setting) }
 {
     set_info_request_law();
     file_basic_information_law();

@@ -68,7 +68,7 @@ tree_message z law c k n who pending low paid short =
       sets_up_not = refl;
       cancels_not = refl;
       short = subst (λ v. 64 + length (body_of v) ≤ 1114060) (sym is) short;
-      reads = λ t h b fit message named. subst (λ v. command_of t (header_as h b) b ≡ Some v) (sym is)
+      reads = λ t h b fit message pays named. subst (λ v. command_of t (header_as h b) b ≡ Some v) (sym is)
           (trees.tree t h b fit (subst (λ v. IsMessage h (body_of v) b) is message) (named ∙ ap number_of_command is));
     }
 

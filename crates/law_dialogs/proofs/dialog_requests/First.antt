@@ -10,13 +10,13 @@ use Rattle.spec_exchange.specs.Network.{Sent, answer}
 use Rattle.spec_wire.specs.credits.Window.{granted}
 use Rattle.spec_commands.specs.ReplyBody.{reply_body}
 use Rattle.spec_crypto.specs.declared.sessions.material.Keys.{Keys}
-use Rattle.spec_crypto.specs.tokens.Acceptor.{User}
-use Rattle.spec_crypto.specs.tokens.Tokens.{Pending, first_token}
+use Rattle.spec_crypto.specs.tokens.Tokens.{Users}
+use Rattle.spec_crypto.specs.tokens.Tokens.{Begun, Pending, first_token}
 use Rattle.spec_world.specs.Settings.{WorldSettings, draw}
 use Rattle.spec_world.specs.Messages.{HeardMessage}
 use Rattle.spec_world.specs.Hearing.{behind_turn, window_behind}
 use Rattle.spec_world.specs.Logon.{Progress, Interim, progress, token_in, pending_by, challenge_of, answer_token_by, greeting_transcript}
-use Rattle.spec_world.specs.Logon.{made_or_greeted}
+use Rattle.spec_world.specs.Logon.{made_or_greeted, pending_with}
 use Rattle.spec_world.specs.Answering.{server_end_moved}
 use Rattle.spec_world.specs.Sending.{answer_of}
 use Rattle.spec_world.specs.Dialog.{body_reads, has_form, has_token, is_signed, setup_token, pays_next}
@@ -51,10 +51,21 @@ same_greeting z w k x h e = no_greeting (w.wires k).server_end (said_by z w k h 
 
 -- ---- the challenge, and the logon in the making
 
-interim_token : (users : List User) (pending : Option Pending) (token fresh : List ℕ) (now : ℕ) (bound : Bool) (p : Progress)
-    → p ≡ Interim bound → answer_token_by users pending token fresh now p ≡ challenge_of (pending_by token fresh now)
+interim_token : (users : Users) (pending : Option Pending) (token fresh : List ℕ) (now : ℕ) (bound : Bool) (p : Progress)
+    → p ≡ Interim bound → answer_token_by users pending token fresh now p
+    ≡ challenge_of (pending_by users.bare token fresh now)
 unfolding answer_token_by
 interim_token users pending token fresh now bound p e = ap (answer_token_by users pending token fresh now) e
+
+-- the client's first token is SPNEGO's, whatever else the server takes
+same_pending : (z : WorldSettings) → IsLawful z → (bare : Bool) (fresh : List ℕ) (now : ℕ)
+    → pending_by bare first_token fresh now ≡ pending_by false first_token fresh now
+unfolding pending_by
+same_pending z law bare fresh now =
+    let tokens = law.tokens in
+    let first = tokens.first in
+    ap (λ (o : Option Begun). pending_with o fresh now) (first.1 bare)
+    ∙ sym (ap (λ (o : Option Begun). pending_with o fresh now) (first.1 false))
 
 -- what the reply's text is, and what is heard in it
 pub record IsSetUp (token text : List ℕ) (bound : Bool) : Type 0 where
@@ -71,7 +82,7 @@ interim z w k b x h bound F ok =
 
 set_up : (z : WorldSettings) → IsLawful z → (w : World) (k : ℕ) (b : List ℕ) (x : Sent) (h : HeardMessage) (bound : Bool)
     → Front z w k b x h (SaidFirst bound) → ((answer w.values x).reply.status == more_processing_required) ≡ true
-    → IsSetUp (challenge_of (pending_by first_token (fresh_of z w) w.values.moment)) (text_by z w k h x) bound
+    → IsSetUp (challenge_of (pending_by false first_token (fresh_of z w) w.values.moment)) (text_by z w k h x) bound
 set_up z law w k b x h bound F ok =
     let stage = SaidFirst bound in
     let f = (w.wires k).server_end in
@@ -83,10 +94,11 @@ set_up z law w k b x h bound F ok =
     let t = told_at z w k b x h stage F in
     let c = F.command in
     let carries = F.carries in
-    let token = challenge_of (pending_by first_token fresh now) in
+    let token = challenge_of (pending_by false first_token fresh now) in
     let is_token : token_of z w k h x ≡ token =
     interim_token z.server.users (w.logons.pending k) (token_in h.bytes) fresh now bound (progress_by w x) (interim z w k b x h bound F ok)
-    ∙ ap (λ v. challenge_of (pending_by v fresh now)) carries.0 in
+    ∙ (ap (λ v. challenge_of (pending_by z.server.users.bare v fresh now)) carries.0
+    ∙ ap challenge_of (same_pending z law z.server.users.bare fresh now)) in
     let body : (said_by z w k h x).body ≡ reply_body token command reply =
     body_is z.server.guid f.salt now (checked_of w k false h) (token_of z w k h x) command reply (one_is h.header.command F.header)
     ∙ ap (λ v. reply_body v command reply) is_token in
@@ -123,16 +135,17 @@ signed_now z law w k b x h true F ok =
 
 -- ---- what stands behind it
 
-begun_now : (z : WorldSettings) (w : World) (k : ℕ) (b : List ℕ) (x : Sent) (h : HeardMessage) (bound : Bool)
+begun_now : (z : WorldSettings) → IsLawful z → (w : World) (k : ℕ) (b : List ℕ) (x : Sent) (h : HeardMessage) (bound : Bool)
     → Front z w k b x h (SaidFirst bound)
     → ((answer w.values x).reply.status == more_processing_required) ≡ true
-    → (logons_by z w k h x).pending k ≡ pending_by first_token (fresh_of z w) w.values.moment
-begun_now z w k b x h bound F ok =
+    → (logons_by z w k h x).pending k ≡ pending_by false first_token (fresh_of z w) w.values.moment
+begun_now z law w k b x h bound F ok =
     let now = w.values.moment in
     let fresh = fresh_of z w in
     let carries = F.carries in
     ap (λ p. (logons_to z w k h p).pending k) (interim z w k b x h bound F ok)
-    ∙ (put_same w.logons.pending k (pending_by (token_in h.bytes) fresh now) ∙ ap (λ v. pending_by v fresh now) carries.0)
+    ∙ (put_same w.logons.pending k (pending_by z.server.users.bare (token_in h.bytes) fresh now)
+    ∙ (ap (λ v. pending_by z.server.users.bare v fresh now) carries.0 ∙ same_pending z law z.server.users.bare fresh now))
 
 making_now : (z : WorldSettings) (w : World) (k : ℕ) (b : List ℕ) (x : Sent) (h : HeardMessage) (bound : Bool)
     → Front z w k b x h (SaidFirst bound)
@@ -171,6 +184,6 @@ first_comes z law w k b x h bound place F =
       ap (λ p. (server_end_moved (counted_by w k h) (said_by z w k h x) text p).keys) (interim z w k b x h bound F ok) ∙ F.no_keys,
       subst (GreetedAs z) (sym (same_greeting z w k x h F.header)) F.behind.0,
       making_now z w k b x h bound F ok,
-      g.token_is ∙ ap challenge_of (sym (begun_now z w k b x h bound F ok)),
+      g.token_is ∙ ap challenge_of (sym (begun_now z law w k b x h bound F ok)),
     )))
-    (λ ok. ((fresh, now, fresh_length z w, F.moment, begun_now z w k b x h bound F ok), F.behind.3))
+    (λ ok. ((fresh, now, fresh_length z w, F.moment, begun_now z law w k b x h bound F ok), F.behind.3))

@@ -14,7 +14,7 @@ use Rattle.spec_commands.specs.Tables.{bit_if}
 use Rattle.spec_crypto.specs.declared.sessions.material.Keys.{Keys}
 use Rattle.spec_crypto.specs.sessions.Chain.{chain}
 use Rattle.spec_crypto.specs.sessions.Derivation.{keys_of, bound_keys, known}
-use Rattle.spec_crypto.specs.tokens.Acceptor.{User}
+use Rattle.spec_crypto.specs.tokens.Tokens.{Users}
 use Rattle.spec_crypto.specs.tokens.Tokens.{Pending, is_final}
 use Rattle.spec_world.specs.Settings.{WorldSettings, chosen_of}
 use Rattle.spec_world.specs.Messages.{HeardMessage}
@@ -43,7 +43,7 @@ use Rattle.law_dialogs.proofs.dialog_requests.First.{one_is, same_greeting}
 
 -- ---- the token that was answered
 
-final_token : (users : List User) (pending : Option Pending) (token fresh : List ℕ) (now : ℕ)
+final_token : (users : Users) (pending : Option Pending) (token fresh : List ℕ) (now : ℕ)
     (bound encrypts : Bool) (channel : ℕ) (p : Progress)
     → p ≡ Final bound channel encrypts → answer_token_by users pending token fresh now p ≡ final_of users pending token
 unfolding answer_token_by
@@ -68,7 +68,7 @@ answered_now z law w k b x h bound F =
 
 -- ---- the keys
 
-final_same : (users : List User) (L : Logons) (k : ℕ) (f : ServerEnd) (raw base : List ℕ) (n : ClientEnd) (old session : ℕ)
+final_same : (users : Users) (L : Logons) (k : ℕ) (f : ServerEnd) (raw base : List ℕ) (n : ClientEnd) (old session : ℕ)
     (bound : Bool) → base ≡ n.base → n.transcript ≡ full_transcript f raw → (bound ≡ true → L.keys session ≡ n.keys)
     → (chosen_on f.greeting).cipher ≡ n.chosen.cipher → (chosen_on f.greeting).signing ≡ n.chosen.signing
     → keys_behind f raw base (L.keys session) session bound ≡ own_final n bound session

@@ -107,7 +107,7 @@ pending_spared : (z : WorldSettings) (w : World) (k : ℕ) (h : HeardMessage) (p
     → (logons_to z w k h p).pending j ≡ w.logons.pending j
 pending_spared z w k h Stays j e = refl
 pending_spared z w k h (Interim binding) j e =
-    put_else w.logons.pending k (pending_by (token_in h.bytes) (fresh_of z w) w.values.moment) j e
+    put_else w.logons.pending k (pending_by z.server.users.bare (token_in h.bytes) (fresh_of z w) w.values.moment) j e
 pending_spared z w k h (Final true channel encrypts) j e = refl
 pending_spared z w k h (Final false channel encrypts) j e = refl
 

@@ -12,6 +12,7 @@ use Rattle.spec_exchange.specs.State.{Message}
 use Rattle.spec_exchange.specs.Operations.{Op}
 use Rattle.spec_exchange.specs.Client.{Stage, Apart, SaidNegotiate, SaidFirst, SaidSecond, AskedTree}
 use Rattle.spec_exchange.specs.Network.{Sent, Received}
+use Rattle.spec_commands.specs.Charges.{paid_for}
 use Rattle.spec_commands.specs.CommandOf.{Told, heard_as, no_setup, setup_if, setup_in, logoff_in, tree_connect_in, tree_disconnect_in}
 use Rattle.spec_commands.specs.CommandOf.{create_in, close_in, flush_in, read_in, write_in, lock_in, ioctl_in, list_in, query_in}
 use Rattle.spec_commands.specs.CommandOf.{set_in, other_of}
@@ -45,22 +46,22 @@ abbrev with_verified : Told → Bool → Told
 with_verified t v = record t { verified = v }
 
 -- every command behind SESSION_SETUP
-abbrev other_command : ℕ → Option ℕ → List ℕ → Command
-other_command n fault m =
+abbrev other_command : ℕ → ℕ → Option ℕ → List ℕ → Command
+other_command n paid fault m =
     if n == 2 then logoff_in m
     else if n == 3 then tree_connect_in m
     else if n == 4 then tree_disconnect_in m
     else if n == 5 then create_in m
     else if n == 6 then close_in m
     else if n == 7 then flush_in m
-    else if n == 8 then read_in m
-    else if n == 9 then write_in m
+    else if n == 8 then paid_for 8 paid m (read_in m)
+    else if n == 9 then paid_for 9 paid m (write_in m)
     else if n == 10 then lock_in m
-    else if n == 11 then ioctl_in m
+    else if n == 11 then paid_for 11 paid m (ioctl_in m)
     else if n == 13 then Aside (echo_status fault (bare_fault m))
-    else if n == 14 then list_in m
-    else if n == 16 then query_in m
-    else if n == 17 then set_in m
+    else if n == 14 then paid_for 14 paid m (list_in m)
+    else if n == 16 then paid_for 16 paid m (query_in m)
+    else if n == 17 then paid_for 17 paid m (set_in m)
     else other_of n
 
 either_setup : (a b : Bool) (A s p R : Command) → b ≡ false → (if a then A else if b then s else R) ≡ (if a then A else if b then p else R)
@@ -72,7 +73,7 @@ named_alike : (t : Told) (v : Bool) (h : Header) (m : List ℕ) (b : Bool) → (
 named_alike t v h m true e f = ap (λ q. named_command h.command (with_verified t q) h m) (f refl)
 named_alike t v h m false e f =
     either_setup (h.command == 0) (h.command == 1) (Aside t.negotiated) (setup_in t h m) (setup_in (with_verified t v) h m)
-    (other_command h.command t.fault m) e
+    (other_command h.command h.charge t.fault m) e
 
 heard_alike : (t : Told) (v : Bool) (h : Header) (m : List ℕ) → ((h.command == 1) ≡ true → t.verified ≡ v)
     → message_of t h m ≡ message_of (with_verified t v) h m

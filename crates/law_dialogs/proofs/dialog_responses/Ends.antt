@@ -11,7 +11,7 @@ use Rattle.spec_wire.specs.credits.Purse.{after_spend, after_add}
 use Rattle.spec_wire.specs.credits.Exchange.{Line, sends, hears, after_step, sent_if}
 use Rattle.spec_wire.specs.credits.Exchange.{heard as heard_grants}
 use Rattle.spec_crypto.specs.tokens.Tokens.{Begun, Pending, Begins as TokenBegins, first_token, begun_by, shown, shown_if, shown_by}
-use Rattle.spec_crypto.specs.tokens.Acceptor.{User}
+use Rattle.spec_crypto.specs.tokens.Tokens.{Users}
 use Rattle.spec_world.specs.Settings.{WorldSettings}
 use Rattle.spec_world.specs.Messages.{HeardMessage}
 use Rattle.spec_world.specs.Ends.{ClientEnd, ServerEnd, Logons}
@@ -115,17 +115,17 @@ linked_on z op s t k was co so n m f frame down ys x g i off same e paid purse a
 
 -- ---- a first token begins
 
-first_by : (users : List User) (pending : Option Pending) (o : Option Begun) (b : Begun) (token : List ℕ) → o ≡ Some b
+first_by : (users : Users) (pending : Option Pending) (o : Option Begun) (b : Begun) (token : List ℕ) → o ≡ Some b
     → shown_if o (shown_by users pending token) ≡ TokenBegins
 first_by users pending o b token e = ap (λ q. shown_if q (shown_by users pending token)) e
 
-pub first_shows : (z : WorldSettings) → IsLawful z → (users : List User) (pending : Option Pending)
+pub first_shows : (z : WorldSettings) → IsLawful z → (users : Users) (pending : Option Pending)
     → token_shows users pending first_token ≡ Begins
 unfolding shown
 first_shows z law users pending =
     let tokens = law.tokens in
     let first = tokens.first in
-    ap shows_of (first_by users pending (begun_by first_token) first.0 first_token first.1)
+    ap shows_of (first_by users pending (begun_by users.bare first_token) first.0 first_token (first.1 users.bare))
 
 -- ---- both ends
 

@@ -13,7 +13,7 @@ use Rattle.law_server.proofs.tables.Logic.{either}
 use Rattle.spec_world.specs.Settings.{ServerSettings}
 use Rattle.spec_world.specs.Ends.{ServerEnd, Greeting, Logons}
 use Rattle.spec_wire.specs.credits.Window.{after_grant}
-use Rattle.spec_world.specs.Hearing.{Checked, is_negotiate, is_cancel, is_misplaced}
+use Rattle.spec_world.specs.Hearing.{Checked, is_negotiate, is_misplaced}
 use Rattle.spec_world.specs.Related.{Carry, Turn, Goes, Fails, turn_of, failed_as, can_follow, related_turn}
 use Rattle.spec_world.specs.Logon.{Progress, Stays, Interim, Final, progress, setup_progress}
 use Rattle.spec_world.specs.Connection.{told_of, heard_message, LastTaken, taken_with, Going, went_by, went_heard}
@@ -169,12 +169,11 @@ said_keeps old s k f g c status i =
       taken = i.taken;
     }
 
--- a CANCEL that fails leaves all as it was
 failed_keeps : (old : ℕ → Option Making) (s : Server) (z : ServerSettings) (k now : ℕ) (fresh : List ℕ) (f : ServerEnd)
     (g : Going) (c : Checked) (status : ℕ)
     → GoesOn old s k f g → GoesOn old s k f (went_turn z k now fresh f g c (Fails status))
 failed_keeps old s z k now fresh f g c status i =
-    either (GoesOn old s k f) (is_cancel c.header) _ _ (λ _. i) (λ _. said_keeps old s k f g (failed_as g.carried c) status i)
+    said_keeps old s k f g (failed_as g.carried c) status i
 
 -- a message with the ids of another one is the same in command and fault
 abbrev pub TurnFine : Option Greeting → Turn → Type 0

@@ -1,5 +1,7 @@
 -- What the server's step does to what is in the making: an interim response puts something there, a final one takes it away, and
 -- no other reply adds anything.
+use Rattle.spec_exchange.specs.Effects.{opens_of_tree}
+use Rattle.law_server.proofs.tables.Closing.{closed_beside}
 use Rattle.std.proofs.Common.{◌≡◌, ℕ, ◌==◌, nat_le, Bool, true, false, not, ◌&&◌, ◌||◌, if◌then◌else◌, List}
 use Rattle.std.proofs.Common.{inl, inr, refl, sym, ◌∙◌, ap, subst, Option, Some, None, is_some, arith}
 use Rattle.spec_exchange.specs.Table.{put}
@@ -298,7 +300,8 @@ verdict_moves s m now records (Join session) f k =
     ended_moves s.making m _ b.request refl b.command refl (binding_some m.session_id (s.making m.connection) f.making)
 verdict_moves s m now records (EndSession session is_quiet) f k = quiet_moves s.making m _ refl (λ q e. absurd (k q e))
 verdict_moves s m now records (AddTree pipes) f k = quiet_moves s.making m _ refl (λ q e. absurd (k q e))
-verdict_moves s m now records DropTree f k = quiet_moves s.making m _ refl (λ q e. absurd (k q e))
+verdict_moves s m now records DropTree f k = quiet_moves s.making m _
+    (closed_beside s m.session_id (opens_of_tree s m.session_id m.tree_id)).making (λ q e. absurd (k q e))
 
 -- ---- the step
 

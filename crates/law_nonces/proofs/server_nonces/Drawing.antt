@@ -1,4 +1,7 @@
 -- What the server's step does to the numbers of sessions: a final response draws the next one of its session, and nothing else does.
+use Rattle.spec_exchange.specs.Effects.{opens_of_tree, close_all}
+use Rattle.law_server.proofs.tables.Closing.{closed_beside}
+use Rattle.law_sessions.proofs.sessions.Columns.{stays_all_closed}
 use Rattle.std.proofs.Common.{◌≡◌, ℕ, ◌+◌, ◌==◌, ◌≤◌, ◌<◌, ◌^◌, nat_le, Bool, true, false, if◌then◌else◌}
 use Rattle.std.proofs.Common.{List, length, inl, inr, refl, sym, ◌∙◌, ap, subst, Option, Some, None}
 use Rattle.std.proofs.Common.{arith, eqb-true}
@@ -370,8 +373,11 @@ verdict_drew s m now records (AddTree pipes) drawn names f k b fit i n =
     (record { present = λ x p. p; drawn = refl; making = λ j x e. e; last = omega arith }) i n
     (λ q e. absurd (k q e))
 verdict_drew s m now records DropTree drawn names f k b fit i n =
+    let os = opens_of_tree s m.session_id m.tree_id in
+    let h = from_stays s (close_all s m.session_id os) (stays_all_closed s m.session_id os)
+    (closed_beside s m.session_id os).channel_numbers_drawn in
     quiet_recorded s m (apply s m now DropTree) records drawn names
-    (record { present = λ x p. p; drawn = refl; making = λ j x e. e; last = omega arith }) i n
+    (record { present = h.present; drawn = h.drawn; making = h.making; last = h.last }) i n
     (λ q e. absurd (k q e))
 
 -- ---- the step

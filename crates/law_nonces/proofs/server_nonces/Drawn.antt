@@ -4,6 +4,7 @@ use Rattle.std.proofs.Common.{refl, ◌∙◌, Option, Some, None, is_some}
 use Rattle.spec_exchange.specs.Commands.{CreateRequest, deletes_on_close}
 use Rattle.spec_exchange.specs.State.{Server, Message}
 use Rattle.spec_exchange.specs.Files.{set_delete_pending, remove_file, empty_file}
+use Rattle.spec_exchange.specs.Files.{file_attributes}
 use Rattle.spec_exchange.specs.Opens.{drop_open, leave_open, pending_behind, without_gone, goes}
 use Rattle.spec_exchange.specs.CheckCreate.{empties}
 use Rattle.spec_exchange.specs.CheckOpen.{is_late, is_slot}
@@ -51,7 +52,7 @@ changed_drawn s f now PutNothing = refl
 pub made_drawn : (s : Server) (r : CreateRequest) (found : Option ℕ) (now : ℕ) → SameDrawn s (file_made s r found now)
 made_drawn s r None now = refl
 made_drawn s r (Some f) now = either (λ t. t.channel_numbers_drawn ≡ s.channel_numbers_drawn) (empties r.disposition)
-    (empty_file s f r.attributes now) s (λ _. refl) (λ _. refl)
+    (empty_file s f (file_attributes r.attributes) now) s (λ _. refl) (λ _. refl)
 
 noted_drawn : (s : Server) (client : ℕ) (guid : Option ℕ) → SameDrawn s (add_expired_guid s client guid)
 noted_drawn s client None = refl

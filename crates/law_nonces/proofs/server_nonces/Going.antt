@@ -11,8 +11,7 @@ use Rattle.spec_exchange.specs.Network.{answer_to}
 use Rattle.spec_commands.specs.CommandOf.{Told, command_of, message_of, heard_as}
 use Rattle.spec_wire.specs.credits.Window.{after_grant}
 use Rattle.spec_crypto.specs.declared.sessions.material.Keys.{Keys}
-use Rattle.spec_crypto.specs.tokens.Acceptor.{User}
-use Rattle.law_server.proofs.tables.Logic.{either}
+use Rattle.spec_crypto.specs.tokens.Tokens.{Users}
 use Rattle.law_server.proofs.tables.Folded.{sound_more, sound_none}
 use Rattle.law_server.proofs.tables.Stepped.{stepped}
 use Rattle.law_records.specs.recovery.Recovers.{Mirrors}
@@ -22,7 +21,7 @@ use Rattle.law_records.proofs.recovery.Steps.{Runs}
 use Rattle.law_records.proofs.recovery.Worlds.{stepped as still_recovers}
 use Rattle.spec_world.specs.Settings.{ServerSettings}
 use Rattle.spec_world.specs.Ends.{ServerEnd, Logons}
-use Rattle.spec_world.specs.Hearing.{Checked, is_cancel, is_misplaced}
+use Rattle.spec_world.specs.Hearing.{Checked, is_misplaced}
 use Rattle.spec_world.specs.Related.{Turn, Goes, Fails, turn_of, failed_as}
 use Rattle.spec_world.specs.Logon.{Progress, Stays, Interim, Final, progress, logons_behind, final_keys}
 use Rattle.spec_world.specs.Answering.{SaidReply}
@@ -106,7 +105,7 @@ draws_at drawn Stays x y e d = tt
 draws_at drawn (Interim binding) x y e d = tt
 draws_at drawn (Final binding channel encrypts) x y e d = subst (λ z. (drawn z < channel) × (channel < 2 ^ 16)) (sym e) d
 
-final_session : (users : List User) (L : Logons) (k : ℕ) (f : ServerEnd) (c : Checked) (binding : Bool)
+final_session : (users : Users) (L : Logons) (k : ℕ) (f : ServerEnd) (c : Checked) (binding : Bool)
     → (final_keys users L k f c binding).session ≡ (if binding then key_sessions L c.header.session else c.header.session)
 final_session users L k f c true = refl
 final_session users L k f c false = refl
@@ -126,7 +125,7 @@ put_named keys x new y is = elim (y == x) as (λ b. (if b then x else (keys y).s
   | false ↦ λ e. e
 ]
 
-begun_named : (s : Server) (users : List User) (L : Logons) (k : ℕ) (f : ServerEnd) (c : Checked) (fresh : List ℕ)
+begun_named : (s : Server) (users : Users) (L : Logons) (k : ℕ) (f : ServerEnd) (c : Checked) (fresh : List ℕ)
     (now channel : ℕ) (encrypts binding : Bool)
     → AreNamed s (next_names (key_sessions L) c.header.session (Final binding channel encrypts))
     → AreNamed s (key_sessions (logons_behind users L k f c fresh now (Final binding channel encrypts)))
@@ -134,7 +133,7 @@ begun_named s users L k f c fresh now channel encrypts true n = n
 begun_named s users L k f c fresh now channel encrypts false n =
     λ y p. put_named L.keys c.header.session (final_keys users L k f c false) y refl (n y p)
 
-behind_named : (s : Server) (users : List User) (L : Logons) (k : ℕ) (f : ServerEnd) (c : Checked) (fresh : List ℕ) (now : ℕ) (p : Progress)
+behind_named : (s : Server) (users : Users) (L : Logons) (k : ℕ) (f : ServerEnd) (c : Checked) (fresh : List ℕ) (now : ℕ) (p : Progress)
     → AreNamed s (next_names (key_sessions L) c.header.session p) → AreNamed s (key_sessions (logons_behind users L k f c fresh now p))
 behind_named s users L k f c fresh now Stays n = n
 behind_named s users L k f c fresh now (Interim binding) n = n
@@ -226,12 +225,11 @@ said_keeps rs s drawn f g c status i =
       taken = i.taken;
     }
 
--- a CANCEL that fails leaves all as it was
 failed_keeps : (rs : List Record) (s : Server) (drawn : ℕ → ℕ) (z : ServerSettings) (k now : ℕ) (fresh : List ℕ) (f : ServerEnd)
     (g : Going) (c : Checked) (status : ℕ) → GoesOn rs s drawn g
     → GoesOn rs s drawn (went_turn z k now fresh f g c (Fails status))
 failed_keeps rs s drawn z k now fresh f g c status i =
-    either (GoesOn rs s drawn) (is_cancel c.header) _ _ (λ _. i) (λ _. said_keeps rs s drawn f g (failed_as g.carried c) status i)
+    said_keeps rs s drawn f g (failed_as g.carried c) status i
 
 turn_keeps : (rs : List Record) (s : Server) (drawn : ℕ → ℕ) (z : ServerSettings) (k now : ℕ) (fresh : List ℕ) (f : ServerEnd)
     (g : Going) (c : Checked) (t : Turn) → TurnFine f.greeting t → GoesOn rs s drawn g

@@ -1,4 +1,5 @@
 -- What an answer to a message does to the pairs that reached the opens, for whichever check answered.
+use Rattle.law_order.proofs.order.Pairs.{tree_moves, still_drop_tree}
 use Rattle.std.proofs.lemmas.Bool.{eqb-false}
 use Rattle.std.proofs.Common.{eqb-true, ◌⊎◌, ◌==◌, ◌≢◌, ◌≡◌, ℕ, Bool, ◌+◌, ◌≤◌, true, false, List, refl, arith, sym}
 use Rattle.std.proofs.Common.{subst, ◌∙◌, ap, Option, Some, None, is_some, inl, inr}
@@ -438,17 +439,8 @@ verdict_facts s m now g (AddTree pipes) h = alike_facts s m _ g (record {
   by_guid = refl;
   opened = refl;
 }) refl refl
-verdict_facts s m now g DropTree h = alike_facts s m _ g (record {
-  standing = refl;
-  present = refl;
-  session_of_open = refl;
-  sequence = refl;
-  epoch = refl;
-  open_ids_given = refl;
-  making = refl;
-  by_guid = refl;
-  opened = refl;
-}) refl refl
+verdict_facts s m now g DropTree h = quiet_facts s m _ g (tree_moves s m.session_id m.tree_id)
+    (still_drop_tree s m.session_id m.tree_id) refl refl
 
 -- ---- the event: an expiry in front, and what stands in its place where the records don't fit
 

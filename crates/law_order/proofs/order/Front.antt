@@ -1,4 +1,5 @@
 -- What the layers below say of the front of a connection, where the server takes it.
+use Rattle.law_sessions.proofs.sessions.Trees.{own_tree}
 use Rattle.std.proofs.Common.{◌⊎◌, ◌≡◌, ℕ, ◌+◌, ◌≤◌, ◌<◌, ◌==◌, Bool, true, false, not, ◌&&◌, ◌||◌, if◌then◌else◌, List}
 use Rattle.std.proofs.Common.{[], ◌∷◌, refl, arith, sym, subst, ◌∙◌, ap, Option, Some, None, is_some, slice_get}
 use Rattle.spec_exchange.specs.Status.{success, user_session_deleted, file_closed, file_not_available, end_of_file}
@@ -150,7 +151,8 @@ taking w a k x0 rest is l most i =
         let b = l.cn.bodies k 0 g x0 f0 tk in let q = asks_of (w.client.op g) (guid_for w.client g)
         (w.client.file (create_at w.client g)) (w.client.slot_of g) (w.client.number_of g) ls in
         listed_facts w.server w.moment x0.message (content_op (w.client.op g)) (file_at w.client g) q.1 (b.1 ∙ q.0) b.3
-        (λ z. l.ss.tree_up k 0 x0 f0 (ops_of x0.token g tk) (session_there z)) l.low low_front
+        (λ z. l.ss.tree_up k 0 x0 f0 (ops_of x0.token g tk) (session_there z))
+        (own_tree w.client w.conns w.server k 0 x0 (file_at w.client g) l.ss f0 (ops_of x0.token g tk)) l.low low_front
 
     writer_by : (t : Token) → x0.token ≡ t → (p : ℕ) → writes_to x0.message.command p ≡ true → (g : ℕ)
         × ((x0.token ≡ ForOp g) × (lists (w.client.op g) ≡ true) × (p ≡ file_at w.client g))

@@ -14,7 +14,7 @@ use Rattle.spec_exchange.specs.Commands.{Command, Read, Write, SetInfo, SetEnd, 
 use Rattle.spec_exchange.specs.State.{Server, Message, Body, Empty, Count}
 use Rattle.spec_exchange.specs.Files.{is_directory, passes_room}
 use Rattle.spec_exchange.specs.Ranges.{may_read, may_write}
-use Rattle.spec_exchange.specs.Opens.{is_of_session}
+use Rattle.spec_exchange.specs.Opens.{is_of_session, is_of_tree}
 use Rattle.spec_exchange.specs.Verdict.{Verdict, Refuse, Give, KeepRefusal, Repeat, Attach, Make, TurnDown, Tell, Show}
 use Rattle.spec_exchange.specs.Verdict.{KeepSlot, PutRanges, Alter, CloseOpen, Challenge, ChallengeBinding, Begin, Join}
 use Rattle.spec_exchange.specs.Verdict.{EndSession, AddTree, DropTree, Change, PutBytes, PutEnd, PutNothing}
@@ -25,7 +25,7 @@ use Rattle.spec_exchange.specs.CheckSetup.{tree_in}
 use Rattle.spec_exchange.specs.Check.{has_session, tree_command, in_tree, with_tree, command_check, formed, owed, check}
 use Rattle.spec_exchange.specs.Step.{without_room}
 use Rattle.spec_exchange.specs.Network.{content_reply}
-use Rattle.law_server.proofs.tables.Logic.{either, back_of, other_off}
+use Rattle.law_server.proofs.tables.Logic.{either, front_of, back_of, other_off}
 use Rattle.law_order.specs.order.Contents.{is_final}
 
 -- the request of a read, a write or an end
@@ -267,17 +267,33 @@ listed_read s m o at n on =
 
 -- ---- whatever comes before an open is looked at
 
-not_open : (s : Server) (m : Message) (op : ContentOp) (o : ℕ) → has_session s m ≡ true → is_of_session s o m.session_id
-    ≡ false → Listed s m op o (Refuse file_closed)
-not_open s m op o hs off = record {
-  is = record {
-    ok = refl;
-    end = refl;
-    final = λ f. refl;
-    closed = λ e. (off, hs);
-    stale = λ e. absurd (cc);
-  };
-}
+-- its open, where it is one of the message's session, is one of its tree
+abbrev pub OwnTree : Server → Message → ℕ → Type 0
+OwnTree s m o = is_of_session s o m.session_id ≡ true → s.tree_of_open o ≡ m.tree_id
+
+off_session : (a b : Bool) → (a && b) ≡ false → (a ≡ true → b ≡ true) → a ≡ false
+off_session true b e f = absurd (let h = f refl in cc)
+off_session false b e f = refl
+
+same_tree : (x y : ℕ) → x ≡ y → (x == y) ≡ true
+same_tree x y e = grind arith
+
+not_open : (s : Server) (m : Message) (op : ContentOp) (o : ℕ) → has_session s m ≡ true → OwnTree s m o
+    → is_of_tree s o m.session_id m.tree_id ≡ false → Listed s m op o (Refuse file_closed)
+not_open s m op o hs own apart =
+    record {
+      is = record {
+        ok = refl;
+        end = refl;
+        final = λ f. refl;
+        closed = λ e. (
+          off_session (is_of_session s o m.session_id) (s.tree_of_open o == m.tree_id) apart
+              (λ on. same_tree (s.tree_of_open o) m.tree_id (own on)),
+          hs,
+        );
+        stale = λ e. absurd (cc);
+      };
+    }
 
 -- one of a form that isn't kept
 bad_form : (s : Server) (m : Message) (op : ContentOp) (o status : ℕ) → form m.command ≡ Some status → form m.command
@@ -313,22 +329,26 @@ is_asked (Ends n) = true
 is_asked Still = false
 
 listed_open : (s : Server) (m : Message) (pipes : Bool) (op : ContentOp) (o : ℕ) → has_session s m ≡ true
-    → form m.command ≡ None → is_asked op ≡ true → Listed s m op o (tree_command s m pipes (asks op o))
-listed_open s m pipes (Writes at bytes) o hs fm a = either (Listed s m (Writes at bytes) o)
-    (is_of_session s o m.session_id) _ _ (λ on. listed_write s m o at bytes fm on)
-    (λ off. not_open s m (Writes at bytes) o hs off)
-listed_open s m pipes (Reads at n) o hs fm a = either (Listed s m (Reads at n) o) (is_of_session s o m.session_id) _ _
-    (λ on. listed_read s m o at n on) (λ off. not_open s m (Reads at n) o hs off)
-listed_open s m pipes (Ends n) o hs fm a = either (Listed s m (Ends n) o) (is_of_session s o m.session_id) _ _
-    (λ on. listed_end s m o n fm on) (λ off. not_open s m (Ends n) o hs off)
-listed_open s m pipes Still o hs fm a = absurd (cc)
+    → OwnTree s m o → form m.command ≡ None → is_asked op ≡ true → Listed s m op o (tree_command s m pipes (asks op o))
+listed_open s m pipes (Writes at bytes) o hs own fm a = either (Listed s m (Writes at bytes) o)
+    (is_of_tree s o m.session_id m.tree_id) _ _
+    (λ on. listed_write s m o at bytes fm (front_of (is_of_session s o m.session_id) _ on))
+    (λ off. not_open s m (Writes at bytes) o hs own off)
+listed_open s m pipes (Reads at n) o hs own fm a = either (Listed s m (Reads at n) o)
+    (is_of_tree s o m.session_id m.tree_id) _ _
+    (λ on. listed_read s m o at n (front_of (is_of_session s o m.session_id) _ on))
+    (λ off. not_open s m (Reads at n) o hs own off)
+listed_open s m pipes (Ends n) o hs own fm a = either (Listed s m (Ends n) o) (is_of_tree s o m.session_id m.tree_id) _ _
+    (λ on. listed_end s m o n fm (front_of (is_of_session s o m.session_id) _ on))
+    (λ off. not_open s m (Ends n) o hs own off)
+listed_open s m pipes Still o hs own fm a = absurd (cc)
 
-listed_tree : (s : Server) (m : Message) (op : ContentOp) (o : ℕ) → has_session s m ≡ true → form m.command ≡ None
+listed_tree : (s : Server) (m : Message) (op : ContentOp) (o : ℕ) → has_session s m ≡ true → OwnTree s m o → form m.command ≡ None
     → is_asked op ≡ true → m.command ≡ asks op o → (t : Option Bool) → is_some t ≡ true
     → Listed s m op o (in_tree s m t)
-listed_tree s m op o hs fm a e None t = absurd (cc)
-listed_tree s m op o hs fm a e (Some pipes) t = subst (λ c. Listed s m op o (tree_command s m pipes c)) (sym e)
-    (listed_open s m pipes op o hs fm a)
+listed_tree s m op o hs own fm a e None t = absurd (cc)
+listed_tree s m op o hs own fm a e (Some pipes) t = subst (λ c. Listed s m op o (tree_command s m pipes c)) (sym e)
+    (listed_open s m pipes op o hs own fm a)
 
 command_tree : (s : Server) (m : Message) (op : ContentOp) (o : ℕ) → is_asked op ≡ true → command_check s m (asks op o) ≡ with_tree s m
 command_tree s m (Writes at bytes) o a = refl
@@ -336,13 +356,13 @@ command_tree s m (Reads at n) o a = refl
 command_tree s m (Ends n) o a = refl
 command_tree s m Still o a = refl
 
-listed_command : (s : Server) (m : Message) (op : ContentOp) (o : ℕ) → has_session s m ≡ true → is_asked op ≡ true
+listed_command : (s : Server) (m : Message) (op : ContentOp) (o : ℕ) → has_session s m ≡ true → OwnTree s m o → is_asked op ≡ true
     → m.command ≡ asks op o → is_some (tree_in (s.trees m.session_id) m.tree_id) ≡ true → (f : Option ℕ)
     → form m.command ≡ f → Listed s m op o (formed s m f)
-listed_command s m op o hs a e t (Some status) f = bad_form s m op o status f (ap form e)
-listed_command s m op o hs a e t None f = subst (λ c. Listed s m op o (command_check s m c)) (sym e)
+listed_command s m op o hs own a e t (Some status) f = bad_form s m op o status f (ap form e)
+listed_command s m op o hs own a e t None f = subst (λ c. Listed s m op o (command_check s m c)) (sym e)
     (subst (Listed s m op o) (sym (command_tree s m op o a))
-    (listed_tree s m op o hs f a e (tree_in (s.trees m.session_id) m.tree_id) t))
+    (listed_tree s m op o hs own f a e (tree_in (s.trees m.session_id) m.tree_id) t))
 
 gone_session : (s : Server) (m : Message) (op : ContentOp) (o : ℕ) → Listed s m op o (Refuse user_session_deleted)
 gone_session s m op o = record {
@@ -365,12 +385,12 @@ session_of : (a b : Bool) → a ≡ false → (a || b) ≡ true → b ≡ true
 session_of a b e f = grind arith
 
 pub listed : (s : Server) (m : Message) (op : ContentOp) (o : ℕ) → is_asked op ≡ true → m.command ≡ asks op o → m.fault
-    ≡ None → (has_session s m ≡ true → is_some (tree_in (s.trees m.session_id) m.tree_id) ≡ true)
+    ≡ None → (has_session s m ≡ true → is_some (tree_in (s.trees m.session_id) m.tree_id) ≡ true) → OwnTree s m o
     → Listed s m op o (check s m)
-listed s m op o a e f t =
+listed s m op o a e f t own =
     either (Listed s m op o) (is_setup m.command || has_session s m) _ _
     (λ z. subst (λ x. Listed s m op o (owed s m x)) (sym f) (let hs = session_of (is_setup m.command) (has_session s m)
-    (ap is_setup e ∙ no_setup op o) z in listed_command s m op o hs a e (t hs) (form m.command) refl))
+    (ap is_setup e ∙ no_setup op o) z in listed_command s m op o hs own a e (t hs) (form m.command) refl))
     (λ _. gone_session s m op o)
 
 pub listed_without_room : (s : Server) (m : Message) (op : ContentOp) (o : ℕ) (v : Verdict) → Listed s m op o v

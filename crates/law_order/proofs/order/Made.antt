@@ -1,4 +1,5 @@
 -- Which opens an answer makes: a create's alone, with the guid and the share access that it asked for.
+use Rattle.law_order.proofs.order.Pairs.{tree_moves}
 use Rattle.std.proofs.lemmas.Bool.{eqb-false}
 use Rattle.std.proofs.Common.{eqb-true, ◌⊎◌, inl, inr, ◌≡◌, ◌≢◌, ℕ, ◌≤◌, ◌<◌, ◌==◌, nat_le, Bool, true, false, not}
 use Rattle.std.proofs.Common.{◌&&◌, ◌||◌, List, refl, arith, sym, subst, ◌∙◌, ap, Option, Some, None, is_some}
@@ -383,7 +384,7 @@ verdict_making s m now g above (Join session) h f = other_made s m _ (Join sessi
 verdict_making s m now g above (EndSession session is_quiet) h f = other_made s m _ (EndSession session is_quiet) refl f
     (less_of s _ (end_moves s session now is_quiet))
 verdict_making s m now g above (AddTree pipes) h f = other_made s m _ (AddTree pipes) refl f (less_same s _ refl refl)
-verdict_making s m now g above DropTree h f = other_made s m _ DropTree refl f (less_same s _ refl refl)
+verdict_making s m now g above DropTree h f = other_made s m _ DropTree refl f (less_of s _ (tree_moves s m.session_id m.tree_id))
 
 -- ---- the event
 

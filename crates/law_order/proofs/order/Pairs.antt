@@ -1,7 +1,9 @@
 -- What the server does keeps every pair that reached an open: while the open stands and the pair's session is there, the
 -- open is attached in that session, at this sequence or a newer one.
+use Rattle.spec_exchange.specs.Effects.{leave_all, keep_all_closed, close_all, opens_of_tree, drop_tree}
+use Rattle.law_server.proofs.tables.Closing.{closed_beside, closed_fewer}
 use Rattle.std.proofs.lemmas.Bool.Decides.{nat_tests}
-use Rattle.std.proofs.Common.{◌≡◌, ◌≢◌, ℕ, ◌≤◌, nat_lt, Bool, true, false, not, ◌&&◌, List, refl, arith, sym, ◌∙◌, ap}
+use Rattle.std.proofs.Common.{◌≡◌, ◌≢◌, ℕ, ◌≤◌, nat_lt, Bool, true, false, not, ◌&&◌, List, [], ◌∷◌, refl, arith, sym, ◌∙◌, ap}
 use Rattle.std.proofs.Common.{Option, Some, None, is_some}
 use Rattle.spec_exchange.specs.Table.{put}
 use Rattle.spec_exchange.specs.Commands.{CreateRequest, SetupRequest, deletes_on_close}
@@ -526,3 +528,45 @@ content_reach s m o = either (λ (t : Server). t.content ≡ s.content) (is_late
 pub content_attached : (s : Server) (m : Message) (o : ℕ) → (attached s m o).content ≡ s.content
 content_attached s m o = either (λ (t : Server). t.content ≡ s.content) (is_some (s.session_of_open o)) s (attach s m o)
     (λ _. refl) (λ _. refl)
+
+-- ---- a tree that goes
+
+all_leave_moves : (s : Server) (os : List ℕ) → Moves s (leave_all s os)
+unfolding leave_all
+all_leave_moves s [] = moves_alike s s (same s)
+all_leave_moves s (o ∷ os) = moves_on s (leave_open s o) _ (leave_moves s o) (all_leave_moves (leave_open s o) os)
+
+all_closed_moves : (s : Server) (session : ℕ) (os : List ℕ) → Moves s (keep_all_closed s session os)
+unfolding keep_all_closed
+all_closed_moves s session [] = moves_alike s s (same s)
+all_closed_moves s session (o ∷ os) =
+    let t = keep_closed s session (s.opened o).create_guid in
+    moves_on s t _ (moves_alike s t (closed_alike s session (s.opened o).create_guid)) (all_closed_moves t session os)
+
+pub tree_moves : (s : Server) (session tree : ℕ) → Moves s (drop_tree s session tree)
+tree_moves s session tree =
+    let os = opens_of_tree s session tree in let u = close_all s session os in
+    moves_on s u (drop_tree s session tree)
+    (moves_on s (leave_all s os) u (all_leave_moves s os) (all_closed_moves (leave_all s os) session os))
+    (moves_alike u (drop_tree s session tree) (record {
+      standing = refl;
+      present = refl;
+      session_of_open = refl;
+      sequence = refl;
+      epoch = refl;
+      open_ids_given = refl;
+      making = refl;
+      by_guid = refl;
+      opened = refl;
+    }))
+
+pub still_drop_tree : (s : Server) (session tree : ℕ) → Still s (drop_tree s session tree)
+still_drop_tree s session tree =
+    let os = opens_of_tree s session tree in
+    record {
+      session_of_open = λ o x e. (closed_fewer s session os).session_of_open o x e;
+      sequence = λ o. let l = ap (λ (f : ℕ → ℕ). f o) (closed_beside s session os).sequence in omega (arith, l);
+    }
+
+pub content_drop : (s : Server) (session tree : ℕ) → (drop_tree s session tree).content ≡ s.content
+content_drop s session tree = (closed_beside s session (opens_of_tree s session tree)).content

@@ -156,11 +156,7 @@ ask_reads (OpClose create) guid file e = absurd (cc)
 
 pub ask_form : (op : Op) (guid file : ℕ) → makes_open op ≡ true → keeps_form op ≡ true → form (reconnect_of op guid file) ≡ None
 unfolding makes_open keeps_form
-ask_form (OpCreate path access share disposition persist directory) guid file e k =
-    none_of (form (request_of (OpCreate path access share disposition persist directory) 0 0 0 0)) k
-  where
-    none_of : (f : Option ℕ) → not (is_some f) ≡ true → f ≡ None
-    none_of f e = grind arith
+ask_form (OpCreate path access share disposition persist directory) guid file e k = refl
 ask_form (OpWrite create at bytes) guid file e k = absurd (cc)
 ask_form (OpRead create at size) guid file e k = absurd (cc)
 ask_form (OpEnd create size) guid file e k = absurd (cc)

@@ -1,4 +1,5 @@
 -- What an answer to a read, a write or an end says and does, and one to a request to attach an open.
+use Rattle.law_sessions.proofs.sessions.Trees.{before_tied}
 use Rattle.std.proofs.lemmas.Bool.Decides.{nat_tests}
 use Rattle.std.proofs.Common.{inl, inr, ◌≡◌, ◌≢◌, ℕ, ◌≤◌, ◌<◌, ◌==◌, nat_lt, Bool, true, false, not, ◌&&◌}
 use Rattle.std.proofs.Common.{if◌then◌else◌, List, refl, arith, sym, subst, ◌∙◌, ap, Option, Some, None, is_some}
@@ -324,13 +325,15 @@ before_on s now t (inr (o, q, e)) = ap (λ (u : Server). u.session_on) e
 
 listed_step : (s : Server) (now : ℕ) (m : Message) (op : ContentOp) (o : ℕ) → is_asked op ≡ true → m.command ≡ asks op o
     → m.fault ≡ None → (has_session s m ≡ true → is_some (tree_in (s.trees m.session_id) m.tree_id) ≡ true)
+    → (s.session_of_open o ≡ Some m.session_id → s.tree_of_open o ≡ m.tree_id)
     → LowSequences s → m.channel_sequence ≤ 32767
     → ListedFacts s m op o (step s now (Heard m))
-listed_step s now m op o a e f t low l =
+listed_step s now m op o a e f t own low l =
     by_verdict (ListedFacts s m op o) s now m
     (λ u v records b h. let k = earlier s now u b in
     let lv = found_listed u m op o v (listed u m op o a e f (λ z. ap (λ g. is_some (tree_in (g m.session_id) m.tree_id))
-    (before_trees s now u b) ∙ t (ap (λ g. is_at m.session_id (g m.connection)) (sym (before_on s now u b)) ∙ z))) h
+    (before_trees s now u b) ∙ t (ap (λ g. is_at m.session_id (g m.connection)) (sym (before_on s now u b)) ∙ z))
+    (λ st. let w = before_tied s now u b o m.session_id (on_open u o m.session_id st).1 in w.1 ∙ own w.0)) h
     in
     listed_recorded s m op o _ records (listed_before s u m op o _ k (before_on s now u b)
     (λ st. ap (λ g. g o) (sym (listed_standing u m op o now v lv)) ∙ st)
@@ -345,11 +348,12 @@ asked_answer s now m Still o a = absurd (cc)
 
 pub listed_facts : (s : Server) (now : ℕ) (m : Message) (op : ContentOp) (o : ℕ) → is_asked op ≡ true → m.command
     ≡ asks op o → m.fault ≡ None → (has_session s m ≡ true → is_some (tree_in (s.trees m.session_id) m.tree_id) ≡ true)
+    → (s.session_of_open o ≡ Some m.session_id → s.tree_of_open o ≡ m.tree_id)
     → LowSequences s → m.channel_sequence ≤ 32767
     → ListedFacts s m op o (answer_to s now m m.command)
-listed_facts s now m op o a e f t low l =
+listed_facts s now m op o a e f t own low l =
     subst (λ c. ListedFacts s m op o (answer_to s now m c)) (sym e)
-    (subst (ListedFacts s m op o) (sym (asked_answer s now m op o a)) (listed_step s now m op o a e f t low l))
+    (subst (ListedFacts s m op o) (sym (asked_answer s now m op o a)) (listed_step s now m op o a e f t own low l))
 
 -- ---- a request to attach an open
 

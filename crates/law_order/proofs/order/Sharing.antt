@@ -6,7 +6,7 @@ use Rattle.std.proofs.lemmas.Bool.Decides.{nat_tests}
 use Rattle.spec_exchange.specs.Table.{has}
 use Rattle.spec_exchange.specs.Commands.{has_bit, CreateRequest}
 use Rattle.spec_exchange.specs.State.{Server, Open}
-use Rattle.spec_exchange.specs.Opens.{writes, reads, deletes, mapped, is_shared, denies_writers, admits, opens_in, opens_of}
+use Rattle.spec_exchange.specs.Opens.{writes, reads, deletes, granted, is_shared, denies_writers, admits, opens_in, opens_of}
 use Rattle.spec_exchange.specs.CheckCreate.{shares, shared_access, empties}
 
 -- a create that empties a file asks for writing
@@ -81,24 +81,26 @@ in_opens opened (p ∷ os) f o h e =
 
 -- what a create that is admitted finds of an open of its file
 pub admitted : (s : Server) (r : CreateRequest) (f o : ℕ) → shares s r (Some f) ≡ true → has o s.opens ≡ true
-    → (s.opened o).file ≡ f → is_shared (shared_access r) (s.opened o).share ≡ true × is_shared (s.opened o).access
+    → (s.opened o).file ≡ f → is_shared (shared_access s r f) (s.opened o).share ≡ true × is_shared (s.opened o).access
     r.share ≡ true
-admitted s r f o e h k = admits_each s.opened (opens_of s f) (shared_access r) r.share o e (in_opens s.opened s.opens f o h k)
+admitted s r f o e h k = admits_each s.opened (opens_of s f) (shared_access s r f) r.share o e (in_opens s.opened s.opens f o h k)
 
-pub emptying_writes : (r : CreateRequest) → empties r.disposition ≡ true → writes (shared_access r) ≡ true
-emptying_writes r e = subst (λ x. writes x ≡ true)
-    (sym (if_on (empties r.disposition) (bit_or (mapped r.access) 2) (mapped r.access) e)) (wide (mapped r.access))
+pub emptying_writes : (s : Server) (r : CreateRequest) (f : ℕ) → empties r.disposition ≡ true → writes (shared_access s r f) ≡ true
+emptying_writes s r f e = subst (λ x. writes x ≡ true)
+    (sym (if_on (empties r.disposition) (bit_or (granted s f r.access) 2) (granted s f r.access) e))
+    (wide (granted s f r.access))
   where
     if_on : (b : Bool) (x y : ℕ) → b ≡ true → (if b then x else y) ≡ x
     if_on b x y e = rw e refl
 
 -- the access of the new open is among what it asked for
-pub narrow_writes : (r : CreateRequest) → writes (mapped r.access) ≡ true → writes (shared_access r) ≡ true
-narrow_writes r w = by_test (empties r.disposition) refl
+pub narrow_writes : (s : Server) (r : CreateRequest) (f : ℕ) → writes (granted s f r.access) ≡ true
+    → writes (shared_access s r f) ≡ true
+narrow_writes s r f w = by_test (empties r.disposition) refl
   where
-    by_test : (b : Bool) → empties r.disposition ≡ b → writes (shared_access r) ≡ true
-    by_test true e = emptying_writes r e
-    by_test false e = subst (λ x. writes x ≡ true) (sym (if_off (empties r.disposition) (bit_or (mapped r.access) 2) (mapped r.access) e)) w
+    by_test : (b : Bool) → empties r.disposition ≡ b → writes (shared_access s r f) ≡ true
+    by_test true e = emptying_writes s r f e
+    by_test false e = subst (λ x. writes x ≡ true) (sym (if_off (empties r.disposition) (bit_or (granted s f r.access) 2) (granted s f r.access) e)) w
       where
         if_off : (b : Bool) (x y : ℕ) → b ≡ false → (if b then x else y) ≡ y
         if_off b x y e = rw e refl

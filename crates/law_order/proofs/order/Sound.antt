@@ -10,7 +10,7 @@ use Rattle.spec_exchange.specs.Commands.{Refused, Logon, Setting, SetBasic, Rena
 use Rattle.spec_exchange.specs.Commands.{Element, form, is_setup, no_file}
 use Rattle.spec_exchange.specs.State.{Server, Message, Body, Empty, Named}
 use Rattle.spec_exchange.specs.Ranges.{RangeAnswer, Stands, Denied}
-use Rattle.spec_exchange.specs.Opens.{is_of_session}
+use Rattle.spec_exchange.specs.Opens.{is_of_session, is_of_tree}
 use Rattle.spec_exchange.specs.Files.{find}
 use Rattle.spec_exchange.specs.Verdict.{Verdict, Refuse, Give, KeepRefusal, Repeat, Attach, Make, TurnDown, Tell, Show}
 use Rattle.spec_exchange.specs.Verdict.{KeepSlot, PutRanges, Alter, CloseOpen, Challenge, ChallengeBinding, Begin, Join}
@@ -35,6 +35,7 @@ use Rattle.spec_exchange.specs.Listing.{file_info_size, volume_info_size}
 use Rattle.spec_exchange.specs.CheckCreate.{shares, keeps_guid, max_guids, is_counted_out, has_guid}
 use Rattle.spec_exchange.specs.CheckOpen.{file_of, has_access, there, is_slot, ioctl_status, needs_attributes}
 use Rattle.spec_exchange.specs.CheckOpen.{kept_lock, rename_names, delete_names, allocation_change}
+use Rattle.spec_exchange.specs.CheckOpen.{basic_names}
 use Rattle.spec_exchange.specs.CheckSetup.{max_sessions, max_channels, max_numbers, count_channels, is_binding, pipes_name}
 use Rattle.law_server.proofs.tables.Logic.{either, front_of, not_false}
 
@@ -132,7 +133,8 @@ abbrev On : Server → Message → ℕ → Type 0
 On s m o = is_of_session s o m.session_id ≡ true
 
 open_sound : (s : Server) (m : Message) (o : ℕ) (v : Verdict) → (On s m o → Sound s m v) → Sound s m (on_open s m o v)
-open_sound s m o v f = either (Sound s m) (is_of_session s o m.session_id) _ _ f (λ _. record { is = tt })
+open_sound s m o v f = either (Sound s m) (is_of_tree s o m.session_id m.tree_id) _ _
+    (λ on. f (front_of (is_of_session s o m.session_id) _ on)) (λ _. record { is = tt })
 
 alter_sound : (s : Server) (m : Message) (o : ℕ) (change : Change) (body : Body) → On s m o → is_late s m o ≡ false
     → Sound s m (Alter o change body)
@@ -209,7 +211,7 @@ setting_sound : (s : Server) (m : Message) (o : ℕ) (setting : Setting) → On 
 setting_sound s m o (SetBasic basic) on t =
     let change = PutBasic (set_basic (s.basic (file_of s o)) basic) in
     either (Sound s m) (has_access s o 0x100) _ _
-    (λ _. unrepeated s m o change _ on (alter_sound s m o change Empty on t)) (λ _. record { is = on })
+    (λ _. unrepeated s m o change _ on (named_sound s m o change (basic_names s (file_of s o) basic) on t)) (λ _. record { is = on })
 setting_sound s m o (Rename replace path) on t =
     either (Sound s m) (has_access s o 0x1_0000) _ _
     (λ _. unrepeated s m o (path_change s o path) _ on (named_sound s m o (path_change s o path)

@@ -1,4 +1,5 @@
 -- What an answer does to the bytes of files and to the opens that stand, for whichever check answered.
+use Rattle.law_order.proofs.order.Pairs.{tree_moves, content_drop}
 use Rattle.std.proofs.lemmas.Bool.{eqb-false}
 use Rattle.std.proofs.Common.{eqb-true, ◌⊎◌, inl, inr, ◌≡◌, ◌≢◌, ℕ, ◌≤◌, ◌<◌, ◌==◌, Bool, true, false, not, ◌&&◌, ◌||◌}
 use Rattle.std.proofs.Common.{List, [], refl, arith, sym, subst, ◌∙◌, ap, Option, Some, None}
@@ -11,7 +12,8 @@ use Rattle.spec_exchange.specs.Commands.{SetInfo, CreateRequest, Setting, SetBas
 use Rattle.spec_exchange.specs.Commands.{SetEnd}
 use Rattle.spec_exchange.specs.State.{Server, Message, Heard, Record, Answer, Body, Open}
 use Rattle.spec_exchange.specs.Files.{root, exists, exists_in, empty_file}
-use Rattle.spec_exchange.specs.Opens.{id_of, denies_writers, writes, mapped}
+use Rattle.spec_exchange.specs.Files.{file_attributes}
+use Rattle.spec_exchange.specs.Opens.{id_of, denies_writers, writes, granted}
 use Rattle.spec_exchange.specs.CheckCreate.{empties, shares}
 use Rattle.spec_exchange.specs.CheckOpen.{file_of, has_access}
 use Rattle.spec_exchange.specs.Effects.{apply, reach, change_file, change_acts, file_made, make_open, next_open}
@@ -242,14 +244,14 @@ made_bytes s r None now f o k st e dn sh = put_apart s.content s.next_file _ f (
     put_apart : (h : ℕ → List ℕ) (j : ℕ) (v : List ℕ) (q : ℕ) → q ≢ j → put h j v q ≡ h q
     put_apart h j v q n = grind arith
 made_bytes s r (Some g) now f o k st e dn sh =
-    either (λ (t : Server). t.content f ≡ s.content f) (empties r.disposition) (empty_file s g r.attributes now) s
+    either (λ (t : Server). t.content f ≡ s.content f) (empties r.disposition) (empty_file s g (file_attributes r.attributes) now) s
     (λ em. put_apart s.content g _ f (λ z. absurd (clash em z))) (λ _. refl)
   where
     put_apart : (h : ℕ → List ℕ) (j : ℕ) (v : List ℕ) (q : ℕ) → q ≢ j → put h j v q ≡ h q
     put_apart h j v q n = grind arith
 
     clash : empties r.disposition ≡ true → f ≡ g → ⊥
-    clash em z = let a = admitted s r g o sh (k.listed o ∙ st) (e ∙ z) in not_shared _ _ a.0 (emptying_writes r em) dn
+    clash em z = let a = admitted s r g o sh (k.listed o ∙ st) (e ∙ z) in not_shared _ _ a.0 (emptying_writes s r g em) dn
 
 abbrev Apart : (ℕ → Bool) → (ℕ → Open) → Type 0
 Apart standing opened = (o p : ℕ) → standing o ≡ true → standing p ≡ true → o ≢ p → (opened o).file ≡ (opened p).file
@@ -310,9 +312,10 @@ made_denied s m r found action now k sh d =
     (λ p st e dn. by_bool (writes (s.opened p).access) (λ w. let a = admitted s r (s.opened p).file p
     (subst (λ f. shares s r f ≡ true) (file_of_new s found p k st e) sh) (k.listed p ∙ st) refl in
     not_shared _ _ a.1 w dn))
-    (λ o st e dn. by_bool (writes (mapped r.access)) (λ w. let a = admitted s r (s.opened o).file o
+    (λ o st e dn. by_bool (writes (granted s (new_file s found) r.access)) (λ w. let a = admitted s r (s.opened o).file o
     (subst (λ f. shares s r f ≡ true) (file_of_new s found o k st e) sh) (k.listed o ∙ st) refl in
-    not_shared _ _ a.0 (narrow_writes r w) dn))))
+    not_shared _ _ a.0 (narrow_writes s r (s.opened o).file
+    (subst (λ f. writes (granted s f r.access) ≡ true) (sym e) w)) dn))))
 
 make_changing : (s : Server) (m : Message) (r : CreateRequest) (found : Option ℕ) (action now : ℕ) → Kept s
     → MakeFacts s m r found action → Changing s m (apply s m now (Make r found action))
@@ -361,7 +364,8 @@ verdict_changing s m now k g (Begin session user previous r is_quiet) h = quiet_
 verdict_changing s m now k g (Join session) h = quiet_changing s m _ (record { opened = refl; stands = λ o h. h }) refl
 verdict_changing s m now k g (EndSession session is_quiet) h = quiet_changing s m _ (rows_of s _ (end_moves s session now is_quiet)) refl
 verdict_changing s m now k g (AddTree pipes) h = quiet_changing s m _ (record { opened = refl; stands = λ o h. h }) refl
-verdict_changing s m now k g DropTree h = quiet_changing s m _ (record { opened = refl; stands = λ o h. h }) refl
+verdict_changing s m now k g DropTree h = quiet_changing s m _ (rows_of s _ (tree_moves s m.session_id m.tree_id))
+    (content_drop s m.session_id m.tree_id)
 
 -- ---- the event
 

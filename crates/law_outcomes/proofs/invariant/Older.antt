@@ -1,4 +1,5 @@
 -- A write or an end of an older sequence than its open's, and the pairs that reached an open before.
+use Rattle.law_sessions.proofs.sessions.Trees.{before_tied, own_tree}
 use Rattle.std.proofs.lemmas.Bool.Decides.{nat_tests}
 use Rattle.std.proofs.lemmas.Bool.{eqb-false}
 use Rattle.std.proofs.Common.{eqb-true, ◌≡◌, ◌≢◌, ℕ, ◌≤◌, ◌<◌, ◌==◌, nat_lt, Bool, true, false, ◌||◌, ◌&&◌, List, inl}
@@ -8,7 +9,7 @@ use Rattle.spec_exchange.specs.Status.{user_session_deleted, file_not_available}
 use Rattle.spec_exchange.specs.Content.{ContentOp, Write as Writes, Read as Reads, SetEnd as Ends, Still, is_change, is_listed}
 use Rattle.spec_exchange.specs.Commands.{form, is_setup}
 use Rattle.spec_exchange.specs.State.{Server, Message, Heard, Record, Answer}
-use Rattle.spec_exchange.specs.Opens.{is_of_session}
+use Rattle.spec_exchange.specs.Opens.{is_of_session, is_of_tree}
 use Rattle.spec_exchange.specs.CheckOpen.{is_late}
 use Rattle.spec_exchange.specs.CheckSetup.{tree_in}
 use Rattle.spec_exchange.specs.Check.{has_session, tree_command, in_tree, command_check, formed, owed, check}
@@ -21,7 +22,7 @@ use Rattle.spec_exchange.specs.Network.{World, Sent, answer}
 use Rattle.law_sessions.specs.messages.Connections.{Connections, its_create}
 use Rattle.law_server.specs.tables.Fits.{Fits}
 use Rattle.law_server.proofs.tables.Doors.{by_verdict, recorded, Before, Finds}
-use Rattle.law_server.proofs.tables.Logic.{either, back_off}
+use Rattle.law_server.proofs.tables.Logic.{either, back_off, back_of, both, at_of}
 use Rattle.law_server.proofs.tables.SessionEffects.{deadlines_keeps}
 use Rattle.law_sessions.specs.sessions.Sessions.{Sessions}
 use Rattle.law_sessions.proofs.sessions.Heard.{before_stays}
@@ -70,22 +71,22 @@ clash : (b : Bool) → b ≡ true → b ≡ false → ⊥
 clash b e f = absurd (grind arith)
 
 late_open : (s t : Server) (x : Sent) (op : ContentOp) (o : ℕ) (pipes : Bool) → is_change op ≡ true
-    → is_of_session t o x.message.session_id ≡ true → is_late t x.message o ≡ true
+    → is_of_tree t o x.message.session_id x.message.tree_id ≡ true → is_late t x.message o ≡ true
     → Turned s x (tree_command t x.message pipes (asks op o))
 unfolding is_change
 late_open s t x (Writes at bytes) o pipes c on late =
-    either (Turned s x) (is_of_session t o x.message.session_id) _ _
+    either (Turned s x) (is_of_tree t o x.message.session_id x.message.tree_id) _ _
     (λ _. either (Turned s x) (is_late t x.message o) _ _ (λ _. By file_not_available (NotAvailable refl)) (λ e. absurd (clash _ late e)))
     (λ e. absurd (clash _ on e))
 late_open s t x (Ends size) o pipes c on late =
-    either (Turned s x) (is_of_session t o x.message.session_id) _ _
+    either (Turned s x) (is_of_tree t o x.message.session_id x.message.tree_id) _ _
     (λ _. either (Turned s x) (is_late t x.message o) _ _ (λ _. By file_not_available (NotAvailable refl)) (λ e. absurd (clash _ late e)))
     (λ e. absurd (clash _ on e))
 late_open s t x (Reads at size) o pipes c on late = absurd (cc)
 late_open s t x Still o pipes c on late = absurd (cc)
 
 late_tree : (s t : Server) (x : Sent) (op : ContentOp) (o : ℕ) → x.message.command ≡ asks op o → is_change op ≡ true
-    → is_of_session t o x.message.session_id ≡ true → is_late t x.message o ≡ true
+    → is_of_tree t o x.message.session_id x.message.tree_id ≡ true → is_late t x.message o ≡ true
     → (u : Option Bool) → is_some u ≡ true → Turned s x (in_tree t x.message u)
 late_tree s t x op o is c on late None e = absurd (cc)
 late_tree s t x op o is c on late (Some pipes) e = subst (λ z. Turned s x (tree_command t x.message pipes z)) (sym is)
@@ -109,7 +110,7 @@ late_form s t x op o is c h None e = subst (λ z. Turned s x (command_check t x.
 late_check : (s t : Server) (x : Sent) (op : ContentOp) (o : ℕ) → x.message.command ≡ asks op o → x.message.fault ≡ None
     → is_change op ≡ true → t.session_on ≡ s.session_on
     → is_some (tree_in (t.trees x.message.session_id) x.message.tree_id) ≡ true
-    → is_of_session t o x.message.session_id ≡ true → is_late t x.message o ≡ true → Turned s x (check t x.message)
+    → is_of_tree t o x.message.session_id x.message.tree_id ≡ true → is_late t x.message o ≡ true → Turned s x (check t x.message)
 late_check s t x op o is fault c same tree on late =
     either (Turned s x) (is_setup x.message.command || has_session t x.message) _ _
     (λ _. subst (λ u. Turned s x (owed t x.message u)) (sym fault)
@@ -135,17 +136,31 @@ turned_answer s t x now records _ (By status h) = (refl, h)
 
 late_step : (s : Server) (now : ℕ) (x : Sent) (op : ContentOp) (o : ℕ) → Fits s → x.message.command ≡ asks op o
     → x.message.fault ≡ None → is_change op ≡ true → is_some (tree_in (s.trees x.message.session_id) x.message.tree_id)
-    ≡ true → s.session_of_open o ≡ Some x.message.session_id
+    ≡ true → s.session_of_open o ≡ Some x.message.session_id → s.tree_of_open o ≡ x.message.tree_id
     → is_late s x.message o ≡ true → TurnedBy s x (step s now (Heard x.message))
-late_step s now x op o f is fault c tree at late =
+late_step s now x op o f is fault c tree at own late =
     by_verdict (TurnedBy s x) s now x.message
     (λ t v records b h. let k = before_stays s now t b in let sq : t.sequence o ≡ s.sequence o = ap (λ g. g o)
     (earlier s now t b).sequence in
     turned_answer s t x now records v (turned_found s t x v
     (late_check s t x op o is fault c k.session_on
     (ap (λ g. is_some (tree_in (g x.message.session_id) x.message.tree_id)) k.trees ∙ tree)
-    (still_there s now t b f o x.message.session_id at) (same_late s t x.message o sq ∙ late)) h))
+    (of_its_tree s now t b f at own) (same_late s t x.message o sq ∙ late)) h))
   where
+    same_number : (y z : ℕ) → y ≡ z → (y == z) ≡ true
+    same_number y z e = grind arith
+
+    at_session : (a : Bool) (u : Option ℕ) (y : ℕ) → (a && is_at y u) ≡ true → u ≡ Some y
+    at_session a u y e = at_of y u (back_of a (is_at y u) e)
+
+    of_its_tree : (s : Server) (now : ℕ) (t : Server) → Before s now t → Fits s → s.session_of_open o ≡ Some x.message.session_id
+        → s.tree_of_open o ≡ x.message.tree_id → is_of_tree t o x.message.session_id x.message.tree_id ≡ true
+    of_its_tree s now t b f at own =
+        let on = still_there s now t b f o x.message.session_id at in
+        let w = before_tied s now t b o x.message.session_id (at_session (t.standing o) (t.session_of_open o) x.message.session_id on) in
+        both (is_of_session t o x.message.session_id) (t.tree_of_open o == x.message.tree_id) on
+        (same_number (t.tree_of_open o) x.message.tree_id (w.1 ∙ own))
+
     same_late : (s t : Server) (m : Message) (o : ℕ) → t.sequence o ≡ s.sequence o → is_late t m o ≡ is_late s m o
     same_late s t m o e = rw e refl
 
@@ -178,6 +193,7 @@ older_refused w a cn ss f nw k n g x l ed st at less =
     (sym (answer_step w.server w.moment x.message x.message.command c))
     (late_step w.server w.moment x (content_op (w.client.op g)) (open_of w.client g) f (b.1 ∙ q.0) b.3 ed
     (ss.tree_up k n x l.waits (ops_of x.token g l.own) l.live) at
+    (own_tree w.client w.conns w.server k n x (open_of w.client g) ss l.waits (ops_of x.token g l.own) at)
     (late_of w.server x.message (open_of w.client g) (ss.sequences_up k n x l.waits).0 (nw.low_sequences (open_of w.client g)) less)) in
     record { acted = t.0; status = t.1 }
 

@@ -12,14 +12,15 @@ use Rattle.spec_exchange.specs.Ranges.{RangeAnswer, Stands, Denied, change_range
 use Rattle.spec_exchange.specs.Ranges.{stands_or, ranges_of, any_wraps, add_ranges, take_ranges, count_owned}
 use Rattle.spec_exchange.specs.Ranges.{max_ranges}
 use Rattle.spec_exchange.specs.Opens.{deletes, mapped}
-use Rattle.spec_exchange.specs.CheckCreate.{keeps_guid, max_guids, is_counted_out, action_of, names, names_of_found}
-use Rattle.spec_exchange.specs.CheckCreate.{found_names, missing_names, shares, refused_by, refused_create, after_names}
+use Rattle.spec_exchange.specs.CheckCreate.{keeps_guid, max_guids, is_counted_out, action_of, names}
+use Rattle.spec_exchange.specs.CheckCreate.{shares, refused_by, refused_create, after_names}
 use Rattle.spec_exchange.specs.CheckCreate.{new_check, live_check, refusal_check, guid_check, reconnect_check}
 use Rattle.spec_exchange.specs.CheckCreate.{durable_check, reconnect_or_create, create_check}
 use Rattle.spec_exchange.specs.CheckOpen.{file_of, has_access, is_slot, kept_lock, is_repeated, path_change}
 use Rattle.spec_exchange.specs.CheckOpen.{rename_names, delete_names, write_check, read_check, turn_down_lock}
 use Rattle.spec_exchange.specs.CheckOpen.{range_check, slot_check, named_change, unless_repeated, size_change}
 use Rattle.spec_exchange.specs.CheckOpen.{setting_check, flush_check, file_query_check, listing_of, list_check, is_late}
+use Rattle.spec_exchange.specs.CheckOpen.{basic_names}
 use Rattle.spec_exchange.specs.CheckSetup.{tree_in}
 use Rattle.spec_exchange.specs.Check.{check, owed, formed, command_check, with_tree, in_tree, tree_command, on_open, has_session}
 use Rattle.spec_exchange.specs.Effects.{apply}
@@ -35,6 +36,7 @@ use Rattle.law_server.proofs.tables.Doors.{by_verdict, Before, Finds}
 use Rattle.law_server.proofs.tables.Logic.{either}
 use Rattle.law_creates.specs.Creates.{Seen}
 use Rattle.law_creates.proofs.Seeing.{expire_seen}
+use Rattle.law_server.proofs.tables.Refusals.{names_say}
 
 -- ---- words on verdicts
 
@@ -76,9 +78,17 @@ made_refused op None status e = e
 made_refused op (Some d) status e = e
 
 made_names : (s : Server) (r : CreateRequest) (found : Option ℕ) (status : ℕ) → names s r found ≡ Some status → refuses status ≡ true
-unfolding names names_of_found found_names missing_names
-made_names s r None status e = grind arith
-made_names s r (Some f) status e = grind arith
+made_names = names_say (λ n. refuses n ≡ true) (record {
+  pending = refl;
+  collision = refl;
+  no_directory = refl;
+  directory = refl;
+  parameter = refl;
+  denied = refl;
+  undeletable = refl;
+  no_name = refl;
+  no_path = refl;
+})
 
 made_after : (op : Op) (s : Server) (r : CreateRequest) (found u : Option ℕ) → names s r found ≡ u → Made op (after_names s r found u)
 made_after op s r found (Some status) e c = made_refused op r.durable status (made_names s r found status e)
@@ -185,6 +195,10 @@ delete_refuses : (s : Server) (f : ℕ) (flag : Bool) (status : ℕ) → delete_
 unfolding delete_names
 delete_refuses s f flag status e = grind arith
 
+basic_refuses : (s : Server) (f : ℕ) (b : Basic) (status : ℕ) → basic_names s f b ≡ Some status → refuses status ≡ true
+unfolding basic_names
+basic_refuses s f b status e = grind arith
+
 named_tells : (op : Op) (o : ℕ) (change : Change) (u : Option ℕ) → reads op Empty ≡ true
     → ((status : ℕ) → u ≡ Some status → refuses status ≡ true) → tells op (named_change o change u) ≡ true
 named_tells op o change (Some status) k f = f status refl
@@ -240,10 +254,12 @@ command_tells (OpTime create time) guid file slot number s m pipes f = open_tell
   where
     time_tells : (s : Server) (m : Message) (o : ℕ) (b : Basic) → tells (OpTime create time) (setting_check s m o (SetBasic b)) ≡ true
     time_tells s m o b =
-        let change : Change = PutBasic (set_basic (s.basic (file_of s o)) b) in
+        let change : Change = PutBasic (set_basic (s.basic (file_of s o)) b) in let u = basic_names s (file_of s o) b in
         either (λ v. tells (OpTime create time) v ≡ true) (has_access s o 0x100)
-        (unless_repeated s m o change (Alter o change Empty)) (TurnDown o access_denied)
-        (λ _. unless_tells (OpTime create time) s m o change (Alter o change Empty) refl refl) (λ _. refl)
+        (unless_repeated s m o change (named_change o change u)) (TurnDown o access_denied)
+        (λ _. unless_tells (OpTime create time) s m o change (named_change o change u) refl
+        (named_tells (OpTime create time) o change u refl (basic_refuses s (file_of s o) b)))
+        (λ _. refl)
 command_tells (OpRename create path) guid file slot number s m pipes f = open_tells (OpRename create path) s m file _
     (setting_tells (OpRename create path) s m file (SetEnd 0) refl _ (rename_tells s m file))
   where
@@ -369,7 +385,7 @@ full_tells op (Begin session user previous r is_quiet) e = e
 full_tells op (Join session) e = e
 full_tells op (EndSession session is_quiet) e = e
 full_tells op (AddTree pipes) e = e
-full_tells op DropTree e = e
+full_tells op DropTree e = refl
 
 -- ---- by answer
 

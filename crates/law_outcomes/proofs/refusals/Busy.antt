@@ -7,7 +7,7 @@ use Rattle.spec_exchange.specs.Commands.{Write, form, is_setup}
 use Rattle.spec_exchange.specs.State.{Server, Message, Heard, Answer}
 use Rattle.spec_exchange.specs.Files.{is_directory, passes_room}
 use Rattle.spec_exchange.specs.Ranges.{may_write}
-use Rattle.spec_exchange.specs.Opens.{is_of_session}
+use Rattle.spec_exchange.specs.Opens.{is_of_session, is_of_tree}
 use Rattle.spec_exchange.specs.Verdict.{Verdict, Refuse, Give, KeepRefusal, Repeat, Attach, Make, TurnDown, Tell, Show}
 use Rattle.spec_exchange.specs.Verdict.{KeepSlot, PutRanges, Alter, CloseOpen, Challenge, ChallengeBinding, Begin, Join}
 use Rattle.spec_exchange.specs.Verdict.{EndSession, AddTree, DropTree}
@@ -18,7 +18,7 @@ use Rattle.spec_exchange.specs.Effects.{apply}
 use Rattle.spec_exchange.specs.Step.{step, without_room}
 use Rattle.spec_exchange.specs.Network.{answer_to}
 use Rattle.law_server.proofs.tables.Doors.{by_verdict, Finds}
-use Rattle.law_server.proofs.tables.Logic.{either, other_off}
+use Rattle.law_server.proofs.tables.Logic.{either, front_of, other_off}
 use Rattle.law_order.specs.order.Newest.{LowSequences}
 use Rattle.law_order.proofs.order.Pairs.{in_time}
 use Rattle.law_order.proofs.order.Answers.{Earlier, earlier}
@@ -87,7 +87,8 @@ busy_tree : (s : Server) (m : Message) (o at : ℕ) (bytes : List ℕ) → m.com
 busy_tree s m o at bytes e fm None = record { is = refl }
 busy_tree s m o at bytes e fm (Some pipes) =
     subst (λ c. Busy s m o at bytes (tree_command s m pipes c)) (sym e)
-    (either (Busy s m o at bytes) (is_of_session s o m.session_id) _ _ (λ on. busy_write s m o at bytes fm on) (λ _. record { is = refl }))
+    (either (Busy s m o at bytes) (is_of_tree s o m.session_id m.tree_id) _ _
+    (λ on. busy_write s m o at bytes fm (front_of (is_of_session s o m.session_id) _ on)) (λ _. record { is = refl }))
 
 busy_form : (s : Server) (m : Message) (o at : ℕ) (bytes : List ℕ) → m.command ≡ Write o at bytes 0 → (f : Option ℕ)
     → form m.command ≡ f → Busy s m o at bytes (formed s m f)

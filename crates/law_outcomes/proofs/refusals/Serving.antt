@@ -1,4 +1,5 @@
 -- Where the server takes a message, no write that it refuses has acted, and none acts to which a refusal waits.
+use Rattle.law_sessions.proofs.sessions.Trees.{own_tree}
 use Rattle.std.proofs.Common.{◌≡◌, ℕ, ◌+◌, ◌≤◌, ◌<◌, Bool, true, false, if◌then◌else◌, List, ◌∷◌, refl, arith, sym}
 use Rattle.std.proofs.Common.{subst, ◌∙◌, ap, Option, Some, None, is_some, slice_get}
 use Rattle.spec_exchange.specs.Table.{is_at}
@@ -79,7 +80,8 @@ its_facts w a k g x f =
     (w.client.number_of g) (lists_of (w.client.op g) f.edit) in
     listed_facts w.server w.moment x.message (content_op (w.client.op g)) (file_at w.client g) q.1 (b.1 ∙ q.0) b.3
     (λ z. l.ss.tree_up k 0 x f.waits (ops_of x.token g f.own) (l.fits.on_present x.message.connection x.message.session_id
-    (at_of x.message.session_id (w.server.session_on x.message.connection) z))) l.low (l.ss.sequences_up k 0 x f.waits).0
+    (at_of x.message.session_id (w.server.session_on x.message.connection) z)))
+    (own_tree w.client w.conns w.server k 0 x (file_at w.client g) l.ss f.waits (ops_of x.token g f.own)) l.low (l.ss.sequences_up k 0 x f.waits).0
 
 -- the server would take it, so it may act still
 still_pends : (w : World) (a : ℕ → ℕ) (k g : ℕ) (x : Sent) → Front w a k g x → form x.message.command ≡ None

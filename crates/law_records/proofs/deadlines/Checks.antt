@@ -5,10 +5,12 @@ use Rattle.spec_exchange.specs.Check.{check, command_check, formed, has_session,
 use Rattle.spec_exchange.specs.CheckCreate.{after_names, create_check, durable_check, guid_check, is_counted_out, found_names}
 use Rattle.spec_exchange.specs.CheckCreate.{names, names_of_found, new_check, reconnect_or_create, refusal_check}
 use Rattle.spec_exchange.specs.CheckCreate.{keeps_guid, max_guids, refused_create, shares}
+use Rattle.spec_exchange.specs.CheckCreate.{found_attributes}
 use Rattle.spec_exchange.specs.CheckOpen.{allocation_change, bytes_change, changes_nothing, delete_names, file_of, is_repeated, list_check}
 use Rattle.spec_exchange.specs.CheckOpen.{list_from, listing_of, named_change, open_below, path_change, rename_names, set_check}
 use Rattle.spec_exchange.specs.CheckOpen.{setting_check, size_change, slot_check, kept_lock, target_of, target_refused, unless_repeated}
 use Rattle.spec_exchange.specs.CheckOpen.{begins_at, has_access, is_late, write_check}
+use Rattle.spec_exchange.specs.CheckOpen.{basic_names}
 use Rattle.spec_exchange.specs.CheckSetup.{binding_check, binding_token, first_binding, first_token, is_binding, is_new}
 use Rattle.spec_exchange.specs.CheckSetup.{live_binding, second_binding}
 use Rattle.spec_exchange.specs.CheckSetup.{second_token, session_check, setup_check, tree_in}
@@ -18,8 +20,10 @@ use Rattle.spec_exchange.specs.Commands.{SetBasic, SetDelete, SetEnd, SetInfo, S
 use Rattle.spec_exchange.specs.Commands.{deletes_on_close, TreeDisconnect, Unreadable, Write, Element, form, is_setup}
 use Rattle.spec_exchange.specs.Files.{find, has_parent, root, info_of, is_directory, is_found_directory}
 use Rattle.spec_exchange.specs.Files.{is_full_directory, passes_room, path_of, used}
+use Rattle.spec_exchange.specs.Files.{is_read_only, exists}
 use Rattle.spec_exchange.specs.Listing.{all_named, children, fitting, one_or_all, parent_file, wanted, insert_named}
-use Rattle.spec_exchange.specs.Opens.{deletes, file_has_open, is_of_session, mapped}
+use Rattle.spec_exchange.specs.Opens.{deletes, file_has_open, is_of_tree, mapped}
+use Rattle.spec_exchange.specs.Opens.{granted}
 use Rattle.spec_exchange.specs.Status.{access_denied, disk_full, duplicate_objectid, file_lock_conflict}
 use Rattle.spec_exchange.specs.Status.{file_not_available, insufficient_resources}
 use Rattle.spec_exchange.specs.Status.{file_closed, invalid_device_request, invalid_parameter, object_name_collision, object_name_not_found}
@@ -56,7 +60,7 @@ unfolding has_parent
 parent s f path = ap (is_found_directory (with s f)) (found s f (parent_of path)) ∙ found_directory s f (find s (parent_of path))
 
 found_name : (s : Server) (f : ℕ → Option ℕ) (r : CreateRequest) (o : Option ℕ) → names_of_found (with s f) r o ≡ names_of_found s r o
-unfolding names_of_found found_names is_directory
+unfolding names_of_found found_names found_attributes is_directory is_read_only exists granted
 found_name s f r None = refl
 found_name s f r (Some g) = refl
 
@@ -67,6 +71,7 @@ name s f r o = either _ _ _ _ _ _ (ap (λ (b : Bool). is_some o || b) (parent s 
 -- ---- CREATE
 
 shared : (s : Server) (f : ℕ → Option ℕ) (r : CreateRequest) (o : Option ℕ) → shares (with s f) r o ≡ shares s r o
+unfolding granted is_read_only exists is_directory
 shared s f r None = refl
 shared s f r (Some g) = refl
 
@@ -231,7 +236,7 @@ sized s f m o size c =
     (either _ _ (Tell o Empty) (size_for (with s f) o size c) _ (size_for s o size c) (repeated s f m o c) refl (size_same s f o size c)))
 
 set : (s : Server) (f : ℕ → Option ℕ) (m : Message) (o : ℕ) (x : Setting) → setting_check (with s f) m o x ≡ setting_check s m o x
-unfolding is_full_directory is_directory path_of delete_names
+unfolding is_full_directory is_directory path_of delete_names basic_names is_read_only exists
 set s f m o (SetBasic basic) = refl
 set s f m o (Rename replace path) =
     either (has_access s o 0x1_0000) _ _ (TurnDown o access_denied) _ _ refl
@@ -299,7 +304,7 @@ setups s f m r = either r.binding _ _ _ _ _ refl (bindings s f m r) (sessions s 
 -- ---- the whole
 
 on : (s : Server) (f : ℕ → Option ℕ) (m : Message) (o : ℕ) (v w : Verdict) → v ≡ w → on_open (with s f) m o v ≡ on_open s m o w
-on s f m o v w e = either (is_of_session s o m.session_id) _ v (Refuse file_closed) w _ refl e refl
+on s f m o v w e = either (is_of_tree s o m.session_id m.tree_id) _ v (Refuse file_closed) w _ refl e refl
 
 in_its_tree : (s : Server) (f : ℕ → Option ℕ) (m : Message) (pipes : Bool) (c : Command)
     → tree_command (with s f) m pipes c ≡ tree_command s m pipes c

@@ -2,10 +2,10 @@
 use Rattle.std.proofs.Common.{◌≡◌, ℕ, Bool, true, false, if◌then◌else◌, List, [], ◌∷◌, ◌++◌, Option, Some, None, refl, ap, ◌∙◌}
 use Rattle.spec_exchange.specs.Commands.{deletes_on_close}
 use Rattle.spec_exchange.specs.Effects.{dated, end_session, files_behind, guid_staying, leave_all, leave_all_records}
-use Rattle.spec_exchange.specs.Effects.{leaves, plain_in, plain_of}
+use Rattle.spec_exchange.specs.Effects.{leaves, opens_of_tree, plain_in, plain_of, tree_opens_in}
 use Rattle.spec_exchange.specs.Effects.{end_if_named, end_records, ranges_staying, records_if_named, staying_in}
 use Rattle.spec_exchange.specs.Files.{exists, is_directory, is_full_directory, path_of, remove_file, set_delete_pending}
-use Rattle.spec_exchange.specs.Opens.{drop_open, file_has_open, goes, gone_records, leave_open, leave_records, pending_behind}
+use Rattle.spec_exchange.specs.Opens.{drop_open, file_has_open, goes, gone_records, is_of_tree, leave_open, leave_records, pending_behind}
 use Rattle.spec_exchange.specs.Opens.{pending_records, shut_records, without_gone}
 use Rattle.spec_exchange.specs.Records.{origin_at}
 use Rattle.spec_exchange.specs.State.{Origin, Range, Record, Server}
@@ -73,6 +73,15 @@ pub plain : (s : Server) (f : ℕ → Option ℕ) (x : ℕ) (os : List ℕ) → 
 unfolding plain_in
 plain s f x [] = refl
 plain s f x (o ∷ os) = ap (λ (ps : List ℕ). if leaves s x o then o ∷ ps else ps) (plain s f x os)
+
+pub of_tree : (s : Server) (f : ℕ → Option ℕ) (x t : ℕ) (os : List ℕ) → tree_opens_in (with s f) x t os ≡ tree_opens_in s x t os
+unfolding tree_opens_in
+of_tree s f x t [] = refl
+of_tree s f x t (o ∷ os) = ap (λ (ps : List ℕ). if is_of_tree s o x t then o ∷ ps else ps) (of_tree s f x t os)
+
+pub tree_records : (s : Server) (f : ℕ → Option ℕ) (g : Origin) (x t : ℕ) → leave_all_records (with s f) g
+    (opens_of_tree (with s f) x t) ≡ leave_all_records s g (opens_of_tree s x t)
+tree_records s f g x t = ap (leave_all_records (with s f) g) (of_tree s f x t s.opens) ∙ all_left_records (opens_of_tree s x t) s f g
 
 staying : (s : Server) (f : ℕ → Option ℕ) (x : ℕ) (os : List ℕ) → staying_in (with s f) x os ≡ staying_in s x os
 unfolding staying_in

@@ -7,7 +7,10 @@ use Rattle.spec_exchange.specs.Effects.{acts_if_named, apply, change_acts, creat
 use Rattle.spec_exchange.specs.Effects.{next_open, open_row}
 use Rattle.spec_exchange.specs.Effects.{end_acts}
 use Rattle.spec_exchange.specs.Files.{empty_file, info_of, is_directory, path_of}
+use Rattle.spec_exchange.specs.Files.{file_attributes}
+use Rattle.spec_exchange.specs.Files.{is_read_only, exists}
 use Rattle.spec_exchange.specs.Opens.{add_open}
+use Rattle.spec_exchange.specs.Opens.{granted}
 use Rattle.spec_exchange.specs.State.{Body, Message, Server}
 use Rattle.spec_exchange.specs.Step.{Ruling, Says, TakesAllOut, TakesIn, TakesOut, TurnsAway, carried_out, ends_with}
 use Rattle.spec_exchange.specs.Step.{take_all_acts, take_out}
@@ -16,7 +19,7 @@ use Rattle.spec_exchange.specs.Verdict.{AddTree, Alter, Attach, Begin, Challenge
 use Rattle.spec_exchange.specs.Verdict.{Give, Join, KeepRefusal, KeepSlot, Make, PutBasic, PutBytes, PutDeletePending, PutEnd, PutNothing}
 use Rattle.spec_exchange.specs.Verdict.{PutPath, PutRanges, Refuse, Repeat, Show, Tell, TurnDown, Verdict}
 use Rattle.law_records.proofs.deadlines.Checks.{with}
-use Rattle.law_records.proofs.deadlines.Opens.{dates_if, ends, plain, taken_out}
+use Rattle.law_records.proofs.deadlines.Opens.{dates_if, ends, of_tree, plain, taken_out}
 use Rattle.law_records.proofs.deadlines.Records.{file}
 
 -- ---- the reply
@@ -26,8 +29,8 @@ files : (s : Server) (f : ℕ → Option ℕ) (r : CreateRequest) (o : Option �
 files s f r None now = refl
 files s f r (Some g) now = by (empties r.disposition)
   where
-    by : (b : Bool) → (if b then empty_file (with s f) g r.attributes now else with s f)
-        ≡ with (if b then empty_file s g r.attributes now else s) f
+    by : (b : Bool) → (if b then empty_file (with s f) g (file_attributes r.attributes) now else with s f)
+        ≡ with (if b then empty_file s g (file_attributes r.attributes) now else s) f
     by true = refl
     by false = refl
 
@@ -39,7 +42,7 @@ told_in u s m r g action =
 made : (s : Server) (f : ℕ → Option ℕ) (m : Message) (r : CreateRequest) (o : Option ℕ) (action now : ℕ)
     → create_reply (make_open (with s f) m r o action now) (next_open s) r action
     ≡ create_reply (make_open s m r o action now) (next_open s) r action
-unfolding info_of is_directory
+unfolding info_of is_directory is_read_only exists granted
 made s f m r o action now =
     ap (λ (u : Server). told_in u s m r (new_file (with s f) o) action) (files s f r o now)
     ∙ ap (λ (g : ℕ). told_in (file_made s r o now) s m r g action) (file s f o)
@@ -123,7 +126,7 @@ did s f m now (Begin session user previous r q) = ended_if s f previous
 did s f m now (Join session) = refl
 did s f m now (EndSession session q) = ended s f session
 did s f m now (AddTree pipes) = refl
-did s f m now DropTree = refl
+did s f m now DropTree = ap (λ (os : List ℕ). is_filled os) (of_tree s f m.session_id m.tree_id s.opens)
 
 pub acted : (s : Server) (f : ℕ → Option ℕ) (now : ℕ) (r : Ruling) → (carried_out (with s f) now r).acted ≡ (carried_out s now r).acted
 acted s f now (Says m v) = did s f m now v

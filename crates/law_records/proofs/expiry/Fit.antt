@@ -1,6 +1,6 @@
 -- Which records fit is told by the journal's bytes alone, and more records fit less.
-use Rattle.std.proofs.Common.{◌≡◌, ◌≤◌, ℕ, ◌+◌, nat_le, Bool, true, false, List, [], ◌∷◌, ◌++◌, refl, sym, ap, subst, arith, ◌∙◌}
-use Rattle.spec_exchange.specs.Records.{entry_bytes, fits, lower_limit, records_size, record_size}
+use Rattle.std.proofs.Common.{◌≡◌, ◌≤◌, ℕ, ◌+◌, nat_le, false, List, [], ◌∷◌, ◌++◌, refl, ap, arith}
+use Rattle.spec_exchange.specs.Records.{entry_bytes, fits, lower_limit, records_size}
 use Rattle.spec_exchange.specs.State.{Record, Server}
 
 pub same_fits : (s d : Server) (rs : List Record) → d.journal ≡ s.journal → fits d rs ≡ fits s rs

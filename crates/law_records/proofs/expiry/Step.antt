@@ -1,5 +1,5 @@
 -- A step by what is told of the state before the first deadlines.
-use Rattle.std.proofs.Common.{◌≡◌, ℕ, ◌+◌, nat_le, Bool, true, false, if◌then◌else◌, List, ◌++◌, Option, Some, None, refl, sym, ap, ◌∙◌}
+use Rattle.std.proofs.Common.{◌≡◌, ℕ, nat_le, Bool, true, false, if◌then◌else◌, List, ◌++◌, Option, Some, None, refl, sym, ap, ◌∙◌}
 use Rattle.spec_exchange.specs.Records.{fits, origin_at}
 use Rattle.spec_exchange.specs.State.{Answer, Origin, Record, Server, ServerEvent}
 use Rattle.spec_exchange.specs.Step.{Ruling, behind_expiry, carried_out, connection_of, due, event_answer, expire, expire_records, expiring}

@@ -13,25 +13,11 @@ use Rattle.spec_exchange.specs.Step.{take_all_out, take_all_records, take_out, w
 use Rattle.law_records.specs.recovery.Recovers.{Mirrors, RecordRecovers}
 use Rattle.law_records.proofs.recovery.Ends.{ends_if_named}
 use Rattle.law_records.proofs.recovery.Leaves.{expires_recorded, fold_append}
-use Rattle.law_records.proofs.recovery.Verdicts.{Good, Needs, ender, leaver}
+use Rattle.law_records.proofs.recovery.Verdicts.{Good, needs, ender, leaver}
 use Rattle.law_records.proofs.recovery.Worlds as worlds
 use Rattle.law_server.specs.tables.Fits.{Fits}
 use Rattle.law_server.proofs.tables.Logic.{either}
 use Rattle.spec_world.specs.Lacking.{Expires, alone_records}
-
-needs : (s : Server) → Fits s → Needs s
-needs s i =
-    record {
-      guid_open = i.guid_open;
-      open_guid = i.open_guid;
-      listed = i.listed;
-      ascending = i.ascending;
-      open_ids = i.open_ids;
-      range_owners = i.range_owners;
-      open_files = i.open_files;
-      not_root = λ o _. i.not_root o;
-      root_stays = i.root_stays;
-    }
 
 -- ---- what other laws say
 

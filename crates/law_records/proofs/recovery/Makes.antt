@@ -8,11 +8,13 @@ use Rattle.spec_exchange.specs.Texts.{is_path}
 use Rattle.spec_exchange.specs.Commands.{CreateRequest, Durable, asks_directory}
 use Rattle.spec_exchange.specs.State.{Server, Message, Open, Range, Origin, CreateRecord, NewOpen}
 use Rattle.spec_exchange.specs.Files.{find, exists, is_directory, has_parent, empty_file}
-use Rattle.spec_exchange.specs.Opens.{id_of, max_ids, mapped, add_open}
+use Rattle.spec_exchange.specs.Files.{file_attributes}
+use Rattle.spec_exchange.specs.Opens.{id_of, max_ids, granted, add_open}
 use Rattle.spec_exchange.specs.CheckCreate.{max_opens, max_files, last_file, empties, action_of}
 use Rattle.spec_exchange.specs.Records.{origin_of}
 use Rattle.spec_exchange.specs.Effects.{guid_of, is_persistent, timeout_asked, new_file, file_made, open_row, next_open}
 use Rattle.spec_exchange.specs.Effects.{guids_after, make_open, new_open, create_records}
+use Rattle.spec_exchange.specs.Effects.{made_attributes, final_attributes}
 use Rattle.spec_exchange.specs.Fold.{with_record, fold_from, may_make, may_restore, may_have_open, may_create}
 use Rattle.spec_exchange.specs.Fold.{restored_row, restore, created_file}
 use Rattle.law_server.specs.tables.Fits.{Listed, GuidOpen, RangeOwners, OpenIds}
@@ -26,18 +28,18 @@ use Rattle.law_records.proofs.recovery.Opens.{adds_plain, adds_persistent}
 
 -- ---- the file
 
-created_by : (d s : Server) (f attributes now : ℕ) (path : List ℕ) (is_dir : Bool) (x y : Bool) → Mirrors d s
-    → Mirrors (created_file d (if x then 0 else if y then 3 else 1) f path attributes is_dir now)
+created_by : (d s : Server) (f attributes old now : ℕ) (path : List ℕ) (is_dir : Bool) (x y : Bool) → Mirrors d s
+    → Mirrors (created_file d (if x then 0 else if y then 3 else 1) f path (if x || y then attributes else old) is_dir now)
     (if x || y then empty_file s f attributes now else s)
-created_by d s f attributes now path is_dir true y h = empties_file d s f attributes now h
-created_by d s f attributes now path is_dir false true h = empties_file d s f attributes now h
-created_by d s f attributes now path is_dir false false h = h
+created_by d s f attributes old now path is_dir true y h = empties_file d s f attributes now h
+created_by d s f attributes old now path is_dir false true h = empties_file d s f attributes now h
+created_by d s f attributes old now path is_dir false false h = h
 
 pub creates_file : (d s : Server) (r : CreateRequest) (found : Option ℕ) (now : ℕ) → Mirrors d s
-    → Mirrors (created_file d (action_of r found) (new_file s found) r.path r.attributes (asks_directory r) now) (file_made s r found now)
-creates_file d s r None now h = makes_file d s r.path (asks_directory r) r.attributes now h
-creates_file d s r (Some f) now h = created_by d s f r.attributes now r.path (asks_directory r) (r.disposition == 0)
-    (nat_le 4 r.disposition) h
+    → Mirrors (created_file d (action_of r found) (new_file s found) r.path (final_attributes s r found) (asks_directory r) now) (file_made s r found now)
+creates_file d s r None now h = makes_file d s r.path (asks_directory r) (made_attributes r) now h
+creates_file d s r (Some f) now h = created_by d s f (file_attributes r.attributes) (s.basic f).attributes now r.path
+    (asks_directory r) (r.disposition == 0) (nat_le 4 r.disposition) h
 
 all_of : (a b c e f g : Bool) → a ≡ true → b ≡ true → c ≡ true → e ≡ true → f ≡ true → g ≡ true
     → (a && (b && (c && (e && (f && g))))) ≡ true
@@ -131,7 +133,7 @@ new_id_made s o r None now i = record {
   guids = i.guids;
   owners = owners_made s.ranges s.standing s.next_file i.owners;
 }
-new_id_made s o r (Some f) now i = new_id_if s o f r.attributes now (empties r.disposition) i
+new_id_made s o r (Some f) now i = new_id_if s o f (file_attributes r.attributes) now (empties r.disposition) i
 
 -- ---- the open
 
@@ -173,42 +175,42 @@ opens_plain d s o row session sequence given guids plain i free few h = (
 
 -- ---- the row of the record
 
-abbrev row_kept : Server → Message → CreateRequest → Option Durable → NewOpen
-row_kept s m r asked =
+abbrev row_kept : Server → Message → CreateRequest → ℕ → Option Durable → NewOpen
+row_kept s m r access asked =
     record {
       id = next_open s;
       client_guid = m.client_guid;
       create_guid = number_or_zero (guid_of asked);
       user = s.user m.session_id;
-      access = mapped r.access;
+      access = access;
       share = r.share;
       options = r.options;
       timeout = timeout_asked asked;
     }
 
-new_open_is : (s : Server) (m : Message) (r : CreateRequest) (asked : Option Durable) → is_persistent asked ≡ true
-    → new_open s m r asked ≡ Some (row_kept s m r asked)
+new_open_is : (s : Server) (m : Message) (r : CreateRequest) (access : ℕ) (asked : Option Durable) → is_persistent asked ≡ true
+    → new_open s m r access asked ≡ Some (row_kept s m r access asked)
 unfolding new_open
-new_open_is s m r None e = absurd (cc)
-new_open_is s m r (Some x) e = rw e refl
+new_open_is s m r access None e = absurd (cc)
+new_open_is s m r access (Some x) e = rw e refl
 
-no_open_is : (s : Server) (m : Message) (r : CreateRequest) (asked : Option Durable) → is_persistent asked ≡ false
-    → new_open s m r asked ≡ None
+no_open_is : (s : Server) (m : Message) (r : CreateRequest) (access : ℕ) (asked : Option Durable) → is_persistent asked ≡ false
+    → new_open s m r access asked ≡ None
 unfolding new_open
-no_open_is s m r None e = refl
-no_open_is s m r (Some x) e = rw e refl
+no_open_is s m r access None e = refl
+no_open_is s m r access (Some x) e = rw e refl
 
 guid_some : (asked : Option Durable) → is_persistent asked ≡ true → Some (number_or_zero (guid_of asked)) ≡ guid_of asked
 guid_some None e = absurd (cc)
 guid_some (Some x) e = refl
 
 same_row : (s : Server) (m : Message) (r : CreateRequest) (f action : ℕ) → is_persistent r.durable ≡ true
-    → restored_row (row_kept s m r r.durable) f action ≡ open_row s m r f action
+    → restored_row (row_kept s m r (granted s f r.access) r.durable) f action ≡ open_row s m r f action
 same_row s m r f action e =
     let g = guid_some r.durable e in
     λ t. record {
       file = f;
-      access = mapped r.access;
+      access = granted s f r.access;
       share = r.share;
       options = r.options;
       action = action;
@@ -239,7 +241,7 @@ not_stays x y e = rw e refl
 
 pub restores : (d s : Server) (m : Message) (r : CreateRequest) (found : Option ℕ) (action : ℕ)
     → MakeFacts s m r found action → NewId s (next_open s) → Mirrors d s → is_persistent r.durable ≡ true
-    → may_restore d (row_kept s m r r.durable) ≡ true
+    → may_restore d (row_kept s m r (granted s (new_file s found) r.access) r.durable) ≡ true
 unfolding may_restore
 restores d s m r found action facts i h kept =
     let lim = facts.given in let few = h.2.open_ids_given in let parts = id_parts s.epoch (s.open_ids_given + 1)
@@ -279,7 +281,7 @@ given_if s f attributes now false = refl
 
 given_made : (s : Server) (r : CreateRequest) (found : Option ℕ) (now : ℕ) → (file_made s r found now).open_ids_given ≡ s.open_ids_given
 given_made s r None now = refl
-given_made s r (Some f) now = given_if s f r.attributes now (empties r.disposition)
+given_made s r (Some f) now = given_if s f (file_attributes r.attributes) now (empties r.disposition)
 
 guids_if : (s : Server) (f attributes now : ℕ) (b : Bool) → (if b then empty_file s f attributes now else s).by_guid ≡ s.by_guid
 guids_if s f attributes now true = refl
@@ -287,27 +289,27 @@ guids_if s f attributes now false = refl
 
 guids_made : (s : Server) (r : CreateRequest) (found : Option ℕ) (now : ℕ) → (file_made s r found now).by_guid ≡ s.by_guid
 guids_made s r None now = refl
-guids_made s r (Some f) now = guids_if s f r.attributes now (empties r.disposition)
+guids_made s r (Some f) now = guids_if s f (file_attributes r.attributes) now (empties r.disposition)
 
 kept_create : (s : Server) (m : Message) (r : CreateRequest) (found : Option ℕ) (action now : ℕ) → is_persistent r.durable ≡ true
-    → create_records s m r found action now ≡ CreateRecord (origin_of m) action (new_file s found) r.path r.attributes
-    (asks_directory r) now (Some (row_kept s m r r.durable)) ∷ []
+    → create_records s m r found action now ≡ CreateRecord (origin_of m) action (new_file s found) r.path (final_attributes s r found)
+    (asks_directory r) now (Some (row_kept s m r (granted s (new_file s found) r.access) r.durable)) ∷ []
 unfolding create_records
-kept_create s m r found action now kept = rw (new_open_is s m r r.durable kept, kept) (and_off (action == 1) _ _)
+kept_create s m r found action now kept = rw (new_open_is s m r (granted s (new_file s found) r.access) r.durable kept, kept) (and_off (action == 1) _ _)
 
 plain_create : (s : Server) (m : Message) (r : CreateRequest) (found : Option ℕ) (action now : ℕ) → is_persistent r.durable ≡ false
     → create_records s m r found action now
-    ≡ (if action == 1 then [] else CreateRecord (origin_of m) action (new_file s found) r.path r.attributes
+    ≡ (if action == 1 then [] else CreateRecord (origin_of m) action (new_file s found) r.path (final_attributes s r found)
     (asks_directory r) now None ∷ [])
 unfolding create_records
-plain_create s m r found action now plain = rw (no_open_is s m r r.durable plain, plain) (and_on (action == 1) _ _)
+plain_create s m r found action now plain = rw (no_open_is s m r (granted s (new_file s found) r.access) r.durable plain, plain) (and_on (action == 1) _ _)
   where
     and_on : {X : Type 0} (x : Bool) (a b : X) → (if x && true then a else b) ≡ (if x then a else b)
     and_on true a b = refl
     and_on false a b = refl
 
 abbrev file_created : Server → Server → CreateRequest → Option ℕ → ℕ → Server
-file_created d s r found now = created_file d (action_of r found) (new_file s found) r.path r.attributes (asks_directory r) now
+file_created d s r found now = created_file d (action_of r found) (new_file s found) r.path (final_attributes s r found) (asks_directory r) now
 
 few_of : (fold_given s_given t_given : ℕ) → fold_given ≤ t_given → t_given ≡ s_given → fold_given ≤ s_given
 few_of a b c h e = omega arith
@@ -318,11 +320,11 @@ persistent_at : (d s : Server) (m : Message) (r : CreateRequest) (found : Option
 unfolding fold_from may_have_open
 persistent_at d s m r found action now facts i h kept =
     let a = action_of r found in let f = new_file s found in let o = next_open s in let c = file_created d s r found now
-    in let u = file_made s r found now in let n = row_kept s m r r.durable in
+    in let u = file_made s r found now in let n = row_kept s m r (granted s (new_file s found) r.access) r.durable in
     let both_files = creates_file d s r found now h in
     let lim = facts.given in
     let parts = id_parts s.epoch (s.open_ids_given + 1) (omega arith) in
-    let e = create_record d (origin_of m) a f r.path r.attributes (asks_directory r) now (Some n)
+    let e = create_record d (origin_of m) a f r.path (final_attributes s r found) (asks_directory r) now (Some n)
     (creates d s m r found action facts h.0) (restores d s m r found action facts i h kept) in
     subst (λ rs. Mirrors (fold_from d rs) (make_open s m r found a now)) (sym (kept_create s m r found a now kept))
     (subst (λ x. Mirrors x (make_open s m r found a now)) (sym e)
@@ -351,12 +353,12 @@ guid_of_row by client (Some x) h g e = let old = h x refl in grind arith
 plain_file : (d s : Server) (m : Message) (r : CreateRequest) (found : Option ℕ) (action now : ℕ) (b : Bool)
     → MakeFacts s m r found action → Files d s → (action_of r found == 1) ≡ b
     → fold_from d (if b then [] else CreateRecord (origin_of m) (action_of r found) (new_file s found) r.path
-    r.attributes (asks_directory r) now None ∷ []) ≡ file_created d s r found now
+    (final_attributes s r found) (asks_directory r) now None ∷ []) ≡ file_created d s r found now
 unfolding fold_from may_have_open
 plain_file d s m r found action now true facts h e =
-    sym (ap (λ a. created_file d a (new_file s found) r.path r.attributes (asks_directory r) now) (eqb-true (action_of r found) 1 e))
+    sym (ap (λ a. created_file d a (new_file s found) r.path (final_attributes s r found) (asks_directory r) now) (eqb-true (action_of r found) 1 e))
 plain_file d s m r found action now false facts h e =
-    create_record d (origin_of m) (action_of r found) (new_file s found) r.path r.attributes (asks_directory r) now None
+    create_record d (origin_of m) (action_of r found) (new_file s found) r.path (final_attributes s r found) (asks_directory r) now None
     (creates d s m r found action facts h) refl
 
 plain_at : (d s : Server) (m : Message) (r : CreateRequest) (found : Option ℕ) (action now : ℕ)

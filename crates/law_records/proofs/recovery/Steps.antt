@@ -3,7 +3,7 @@ use Rattle.std.proofs.Common.{◌≡◌, ℕ, nat_lt, nat_le, Bool, true, false,
 use Rattle.std.proofs.Common.{refl, arith, sym, subst, ◌∙◌, ap, Option, Some, None, is_some, ◌⊎◌, inl, inr}
 use Rattle.std.proofs.lemmas.Bool.Decides.{nat_tests}
 use Rattle.spec_exchange.specs.Table.{has}
-use Rattle.spec_exchange.specs.State.{Server, Message, ServerEvent, Accept, Heard, End, Open, Record, Origin, Answer}
+use Rattle.spec_exchange.specs.State.{Server, ServerEvent, Accept, Heard, End, Open}
 use Rattle.spec_exchange.specs.Files.{exists}
 use Rattle.spec_exchange.specs.Check.{check}
 use Rattle.spec_exchange.specs.Records.{fits, origin_at}
@@ -19,6 +19,7 @@ use Rattle.law_records.specs.recovery.Recovers.{Mirrors}
 use Rattle.law_records.proofs.recovery.Lists.{at_head, in_tail}
 use Rattle.law_records.proofs.recovery.Leaves.{fold_append, expires_recorded}
 use Rattle.law_records.proofs.recovery.Ends.{ends_if_named}
+use Rattle.law_server.proofs.tables.SessionEffects.{deadlines_keeps}
 use Rattle.law_records.proofs.recovery.Verdicts.{Needs, ender, leaver, Good, nothing_owed, good}
 
 -- a ruling that the checks give, or what stands in its place
@@ -123,6 +124,7 @@ needs_dated s now n = record {
   open_files = n.open_files;
   not_root = n.not_root;
   root_stays = n.root_stays;
+  fits = deadlines_keeps s now n.fits;
 }
 
 by_deadline : (now : ℕ) (stands : Bool) (at : Option ℕ) (row : Open) (deadline : Option ℕ)

@@ -1,11 +1,11 @@
 -- Each verdict of the checks: what its records fold to stands for what its effect leaves.
 use Rattle.std.proofs.lemmas.Bool.{eqb-false}
 use Rattle.std.proofs.Common.{◌≡◌, ◌≢◌, ℕ, Bool, true, false, ◌||◌, if◌then◌else◌, List, [], ◌∷◌, refl, sym, ◌∙◌, ap}
-use Rattle.std.proofs.Common.{Option, Some, None, is_some}
+use Rattle.std.proofs.Common.{Option, Some, None, is_some, subst}
 use Rattle.spec_exchange.specs.Table.{put}
 use Rattle.spec_exchange.specs.Status.{success}
 use Rattle.spec_exchange.specs.Commands.{Element, Lock, all_lock, all_unlock, form, deletes_on_close}
-use Rattle.spec_exchange.specs.State.{Server, Message, Range, Answer, Body}
+use Rattle.spec_exchange.specs.State.{Server, Message, Origin, Range, Answer, Body}
 use Rattle.spec_exchange.specs.Files.{root, path_of}
 use Rattle.spec_exchange.specs.Opens.{leave_open, leave_records}
 use Rattle.spec_exchange.specs.Ranges.{Stands, change_ranges}
@@ -16,13 +16,16 @@ use Rattle.spec_exchange.specs.Verdict.{KeepSlot, PutRanges, Alter, CloseOpen, C
 use Rattle.spec_exchange.specs.Verdict.{EndSession, AddTree, DropTree, Change, PutBytes, PutEnd, PutBasic}
 use Rattle.spec_exchange.specs.Verdict.{PutDeletePending, PutPath, PutNothing}
 use Rattle.spec_exchange.specs.Effects.{apply, reach, attach, attached, keep_slot, set_ranges, lock_records}
-use Rattle.spec_exchange.specs.Effects.{change_file, change_records, keep_closed}
+use Rattle.spec_exchange.specs.Effects.{change_file, change_records, keep_closed, keep_all_closed, leave_all}
+use Rattle.spec_exchange.specs.Effects.{leave_all_records, opens_of_tree, drop_tree}
 use Rattle.spec_exchange.specs.Fold.{fold_from}
-use Rattle.law_server.specs.tables.Fits.{Listed, Ascending, GuidOpen, OpenGuid, OpenIds, RangeOwners, OpenFiles}
+use Rattle.law_server.specs.tables.Fits.{Fits, Listed, Ascending, GuidOpen, OpenGuid, OpenIds, RangeOwners, OpenFiles}
 use Rattle.law_server.proofs.tables.Logic.{either}
 use Rattle.law_server.proofs.tables.Found.{Facts, LockFacts, AlterFacts}
+use Rattle.law_server.proofs.tables.Leaving.{leave_open_keeps}
+use Rattle.law_server.proofs.tables.Closing.{StandInTurn, tree_stands}
 use Rattle.law_records.specs.recovery.Recovers.{Mirrors}
-use Rattle.law_records.proofs.recovery.Leaves.{Leaver, leaves_recorded}
+use Rattle.law_records.proofs.recovery.Leaves.{Leaver, fold_append, leaves_recorded}
 use Rattle.law_records.proofs.recovery.Locks.{LockKind, slot_kept, ranges_put}
 use Rattle.law_records.proofs.recovery.Makes.{makes, next_id}
 use Rattle.law_records.proofs.recovery.Alters.{changes, allowed}
@@ -39,6 +42,22 @@ pub record Needs (s : Server) : Type 0 where
   pub open_files : OpenFiles s
   pub not_root : (o : ℕ) → s.standing o ≡ true → deletes_on_close (s.opened o).options ≡ true → (s.opened o).file ≢ 0
   pub root_stays : s.delete_pending root ≡ false
+  pub fits : Fits s
+
+pub needs : (s : Server) → Fits s → Needs s
+needs s i =
+    record {
+      guid_open = i.guid_open;
+      open_guid = i.open_guid;
+      listed = i.listed;
+      ascending = i.ascending;
+      open_ids = i.open_ids;
+      range_owners = i.range_owners;
+      open_files = i.open_files;
+      not_root = λ o _. i.not_root o;
+      root_stays = i.root_stays;
+      fits = i;
+    }
 
 pub ender : (s : Server) → Needs s → Ender s
 ender s n = record { listed = n.listed; ascending = n.ascending; files = n.open_files; not_root = n.not_root }
@@ -139,6 +158,31 @@ closed_aside : (e s : Server) (session : ℕ) (guid : Option ℕ) → Mirrors e 
 closed_aside e s session None h = h
 closed_aside e s session (Some g) h = h
 
+-- ---- a tree that goes
+
+all_left_recorded : (d s : Server) (origin : Origin) (os : List ℕ) → StandInTurn s os → Fits s → Mirrors d s
+    → Mirrors (fold_from d (leave_all_records s origin os)) (leave_all s os)
+unfolding leave_all leave_all_records
+all_left_recorded d s origin [] each i h = nothing_owed d s h
+all_left_recorded d s origin (o ∷ os) each i h =
+    subst (λ x. Mirrors x (leave_all (leave_open s o) os))
+    (sym (fold_append d (leave_records s origin o) (leave_all_records (leave_open s o) origin os)))
+    (all_left_recorded (fold_from d (leave_records s origin o)) (leave_open s o) origin os each.1 (leave_open_keeps s o each.0 i)
+    (leaves_recorded d s origin o (leaver s o (needs s i) each.0) i.listed h))
+
+all_closed_aside : (e s : Server) (session : ℕ) (os : List ℕ) → Mirrors e s → Mirrors e (keep_all_closed s session os)
+unfolding keep_all_closed
+all_closed_aside e s session [] h = h
+all_closed_aside e s session (o ∷ os) h = all_closed_aside e (keep_closed s session (s.opened o).create_guid) session os
+    (closed_aside e s session (s.opened o).create_guid h)
+
+drops : (d s : Server) (origin : Origin) (session tree : ℕ) → Fits s → Mirrors d s
+    → Mirrors (fold_from d (leave_all_records s origin (opens_of_tree s session tree))) (drop_tree s session tree)
+drops d s origin session tree i h =
+    let os = opens_of_tree s session tree in
+    all_closed_aside (fold_from d (leave_all_records s origin os)) (leave_all s os) session os
+    (all_left_recorded d s origin os (tree_stands s session tree i) i h)
+
 -- ---- by verdict
 
 pub good : (d s : Server) (m : Message) (now : ℕ) (v : Verdict) → Facts s m v → Needs s → Mirrors d s → Good d (apply s m now v)
@@ -166,4 +210,4 @@ good d s m now (Begin session user previous r is_quiet) f n h = ends_if_named d 
 good d s m now (Join session) f n h = nothing_owed d s h
 good d s m now (EndSession session is_quiet) f n h = ends d s (origin_of m) session now is_quiet (ender s n) h
 good d s m now (AddTree pipes) f n h = nothing_owed d s h
-good d s m now DropTree f n h = nothing_owed d s h
+good d s m now DropTree f n h = drops d s (origin_of m) m.session_id m.tree_id n.fits h

@@ -22,23 +22,9 @@ use Rattle.law_server.proofs.tables.SessionEffects.{deadlines_keeps}
 use Rattle.law_server.proofs.tables.Applied.{expired_keeps}
 use Rattle.law_records.specs.recovery.Recovers.{kept_ranges, Mirrors, RecordRecovers}
 use Rattle.law_records.proofs.recovery.Leaves.{fold_append}
-use Rattle.law_records.proofs.recovery.Verdicts.{Needs, nothing_owed}
+use Rattle.law_records.proofs.recovery.Verdicts.{needs, nothing_owed}
 use Rattle.law_records.proofs.recovery.Steps.{Runs, steps}
 use Rattle.law_records.proofs.recovery.Durable.{restarts, same_durable}
-
-needs : (s : Server) → Fits s → Needs s
-needs s i =
-    record {
-      guid_open = i.guid_open;
-      open_guid = i.open_guid;
-      listed = i.listed;
-      ascending = i.ascending;
-      open_ids = i.open_ids;
-      range_owners = i.range_owners;
-      open_files = i.open_files;
-      not_root = λ o _. i.not_root o;
-      root_stays = i.root_stays;
-    }
 
 -- ---- the server's step
 

@@ -4,8 +4,9 @@ use Rattle.spec_exchange.specs.CheckCreate.{empties}
 use Rattle.spec_exchange.specs.CheckOpen.{file_of, is_late, is_slot}
 use Rattle.spec_exchange.specs.Commands.{CreateRequest, deletes_on_close}
 use Rattle.spec_exchange.specs.Effects.{apply, attach, attached, change_file, end_if_named, file_made, keep_closed}
-use Rattle.spec_exchange.specs.Effects.{keep_slot, reach, set_ranges}
+use Rattle.spec_exchange.specs.Effects.{keep_slot, opens_of_tree, reach, set_ranges}
 use Rattle.spec_exchange.specs.Files.{empty_file, remove_file, set_delete_pending}
+use Rattle.spec_exchange.specs.Files.{file_attributes}
 use Rattle.spec_exchange.specs.Opens.{drop_open, goes, leave_open, pending_behind}
 use Rattle.spec_exchange.specs.Records.{fits, origin_at}
 use Rattle.spec_exchange.specs.State.{Answer, Message, Record, Server, ServerEvent}
@@ -17,6 +18,7 @@ use Rattle.spec_exchange.specs.Table.{put, put2}
 use Rattle.spec_exchange.specs.Verdict.{AddTree, Alter, Attach, Begin, Challenge, ChallengeBinding, Change, CloseOpen, DropTree, EndSession}
 use Rattle.spec_exchange.specs.Verdict.{Give, Join, KeepRefusal, KeepSlot, Make, PutBasic, PutBytes, PutDeletePending, PutEnd, PutNothing}
 use Rattle.spec_exchange.specs.Verdict.{PutPath, PutRanges, Refuse, Repeat, Show, Tell, TurnDown, Verdict}
+use Rattle.law_server.proofs.tables.Closing.{closed_beside}
 
 one_of : (b : Bool) (u v : Server) (n : ℕ) → u.version ≡ n → v.version ≡ n → (if b then u else v).version ≡ n
 one_of true u v n e h = e
@@ -55,7 +57,7 @@ left_same s o =
 
 made_same : (s : Server) (r : CreateRequest) (found : Option ℕ) (now : ℕ) → (file_made s r found now).version ≡ s.version
 made_same s r None now = refl
-made_same s r (Some f) now = one_of (empties r.disposition) (empty_file s f r.attributes now) s s.version refl refl
+made_same s r (Some f) now = one_of (empties r.disposition) (empty_file s f (file_attributes r.attributes) now) s s.version refl refl
 
 ended_same : (s : Server) (now : ℕ) (o : Option ℕ) (q : Bool) → (end_if_named s now o q).version ≡ s.version
 ended_same s now None q = refl
@@ -89,7 +91,7 @@ applied s m now (Begin session user previous r q) = ended_same s now previous q
 applied s m now (Join session) = refl
 applied s m now (EndSession session q) = refl
 applied s m now (AddTree pipes) = refl
-applied s m now DropTree = refl
+applied s m now DropTree = (closed_beside s m.session_id (opens_of_tree s m.session_id m.tree_id)).version
 
 carried : (s : Server) (now : ℕ) (r : Ruling) → (carried_out s now r).server.version ≡ s.version
 carried s now (Says m v) = applied s m now v

@@ -1,12 +1,13 @@
 -- Each event, an expiry alone and a restart keep rows and records within their fields.
 use Rattle.std.proofs.Common.{◌≡◌, ℕ, ◌<◌, ◌^◌, nat_le, nat_lt, Bool, true, false, ◌&&◌, ◌||◌, if◌then◌else◌, List, [], ◌∷◌}
-use Rattle.std.proofs.Common.{◌++◌, length, refl, sym, subst, inl, inr, Option, Some, None}
+use Rattle.std.proofs.Common.{◌++◌, length, refl, sym, subst, inl, inr, Option, Some, None, is_some}
 use Rattle.spec_exchange.specs.Status.{user_session_deleted, invalid_parameter, object_name_invalid}
 use Rattle.spec_exchange.specs.Texts.{begins_with_backslash, is_path}
 use Rattle.spec_exchange.specs.Commands.{Command, Unreadable, Aside, Setup, Logoff, TreeConnect, TreeDisconnect, Create, Close}
 use Rattle.spec_exchange.specs.Commands.{Flush, Read, Write, Lock, Ioctl, ListDirectory, QueryFile, QueryVolume, SetInfo}
-use Rattle.spec_exchange.specs.Commands.{Setting, SetBasic, Rename, SetDelete, SetAllocation, SetEnd, CreateRequest}
-use Rattle.spec_exchange.specs.Commands.{asks_directory, asks_file, form, path_form, create_form, is_setup}
+use Rattle.spec_exchange.specs.Commands.{Setting, SetBasic, Rename, SetDelete, SetAllocation, SetEnd, CreateRequest, Reconnect}
+use Rattle.spec_exchange.specs.Commands.{asks_directory, asks_file, form, path_form, made_form, create_form, is_setup}
+use Rattle.spec_exchange.specs.Commands.{has_bit}
 use Rattle.spec_exchange.specs.State.{Server, Message, ServerEvent, Accept, Heard, End, Stop, Record, Answer}
 use Rattle.spec_exchange.specs.State.{EpochRecord, VersionRecord, CreateRecord, WriteRecord, EndRecord, BasicRecord, DeleteRecord}
 use Rattle.spec_exchange.specs.State.{RenameRecord, RemoveRecord, LockRecord, CloseRecord, ExpireRecord}
@@ -90,11 +91,20 @@ path_kept path e =
     then_kept (is_path path) object_name_invalid (first_kept (begins_with_backslash path) invalid_parameter
     (if is_path path then None else Some object_name_invalid) e)
 
-create_kept : (r : CreateRequest) → create_form r ≡ None → is_path r.path ≡ true
+made_kept : (r : CreateRequest) → r.reconnect ≡ None → create_form r ≡ None → made_form r ≡ None
+made_kept r new e =
+    subst (λ (u : Option Reconnect). (if is_some u then (if is_some r.durable then Some invalid_parameter else None) else made_form r)
+    ≡ None) new e
+
+create_kept : (r : CreateRequest) → made_form r ≡ None → is_path r.path ≡ true
 create_kept r e =
-    path_kept r.path (first_kept (asks_directory r && asks_file r) invalid_parameter (path_form r.path)
+    path_kept r.path (first_kept (asks_directory r && has_bit r.attributes 0x100) invalid_parameter (path_form r.path)
+    (first_kept (asks_directory r && asks_file r) invalid_parameter
+    (if asks_directory r && has_bit r.attributes 0x100 then Some invalid_parameter else path_form r.path)
     (first_kept (nat_lt 5 r.disposition) invalid_parameter
-    (if asks_directory r && asks_file r then Some invalid_parameter else path_form r.path) e))
+    (if asks_directory r && asks_file r then Some invalid_parameter
+    else if asks_directory r && has_bit r.attributes 0x100 then Some invalid_parameter
+    else path_form r.path) e)))
 
 sets_fit : (setting : Setting) → IsTypedSetting setting → form (SetInfo 0 setting) ≡ None → SetsFit setting
 sets_fit (SetBasic basic) t e = t
@@ -104,7 +114,7 @@ sets_fit (SetAllocation size) t e = tt
 sets_fit (SetEnd size) t e = tt
 
 asks_fit : (c : Command) → IsTyped c → form c ≡ None → AsksFit c
-asks_fit (Create r) t e = (leaf_of_text r.path t.0 (create_kept r e), t.1)
+asks_fit (Create r) t e = (λ new. leaf_of_text r.path t.0 (create_kept r (made_kept r new e)), t.1)
 asks_fit (SetInfo file setting) t e = sets_fit setting t e
 asks_fit (Unreadable status) t e = tt
 asks_fit (Aside status) t e = tt
@@ -158,7 +168,7 @@ RulingKeeps s (TakesOut k is_quiet) = Unit {0}
 RulingKeeps s (TakesAllOut is_quiet) = Unit {0}
 
 carries : (t : Server) (now : ℕ) (r : Ruling) → now < 256 ^ 8 → RulingKeeps t r → RowsFit t → FitAnswer (carried_out t now r)
-carries t now (Says m v) n e h = record { server = by_effect t m now v n e h; records = records_by t m now v n e }
+carries t now (Says m v) n e h = record { server = by_effect t m now v n e h; records = records_by t m now v n e h }
 carries t now (TakesIn k) n e h = record { server = h; records = tt }
 carries t now TurnsAway n e h = record { server = h; records = tt }
 carries t now (TakesOut k q) n e h = record { server = taken_out t k now q h; records = fit_named t (origin_at k) (ends_with t k) q }

@@ -1,4 +1,5 @@
 -- What a verdict does to the rows.
+use Rattle.spec_exchange.specs.Effects.{opens_of_tree, keep_all_closed}
 use Rattle.std.proofs.Common.{◌≡◌, ℕ, ◌+◌, ◌<◌, ◌≤◌, ◌^◌, ◌==◌, nat_lt, Bool, true, false, List, [], ◌∷◌, length}
 use Rattle.std.proofs.Common.{arith, Option, Some, None, is_some}
 use Rattle.std.proofs.lemmas.Bool.Decides.{nat_tests}
@@ -10,12 +11,15 @@ use Rattle.spec_exchange.specs.State.{Server, Message, Entry, Open}
 use Rattle.spec_exchange.specs.Files.{times_at, touched, emptied_basic, make_file, set_content, empty_file, store_basic}
 use Rattle.spec_exchange.specs.Files.{set_delete_pending, without_file, without_target, remove_file, path_in, path_of}
 use Rattle.spec_exchange.specs.Files.{moved_entries, rename_file}
+use Rattle.spec_exchange.specs.Files.{file_attributes}
+use Rattle.spec_exchange.specs.Files.{directory_attributes}
 use Rattle.spec_exchange.specs.Opens.{drop_open, leave_open, pending_behind, without_gone, goes}
 use Rattle.spec_exchange.specs.CheckCreate.{last_file, empties}
 use Rattle.spec_exchange.specs.CheckOpen.{is_late, is_slot, file_of}
 use Rattle.spec_exchange.specs.Effects.{apply, reach, attached, attach, keep_slot, keep_closed, change_file, file_made, new_file}
 use Rattle.spec_exchange.specs.Effects.{timeout_of, timeout_asked, open_row, next_open, make_open, set_ranges, plain_of, leave_all}
 use Rattle.spec_exchange.specs.Effects.{files_behind, end_session, end_if_named}
+use Rattle.spec_exchange.specs.Effects.{made_attributes, final_attributes}
 use Rattle.spec_exchange.specs.Verdict.{Verdict, Refuse, Give, KeepRefusal, Repeat, Attach, Make, TurnDown, Tell, Show}
 use Rattle.spec_exchange.specs.Verdict.{KeepSlot, PutRanges, Alter, CloseOpen, Challenge, ChallengeBinding, Begin, Join}
 use Rattle.spec_exchange.specs.Verdict.{EndSession, AddTree, DropTree, Change, PutBytes, PutEnd, PutBasic}
@@ -26,6 +30,9 @@ use Rattle.law_server.proofs.tables.Logic.{either}
 use Rattle.law_commands.specs.commands.Fitting.{IsBasic}
 use Rattle.law_replies.specs.fields.Rows.{is_below_root, IsLeaf, IsFieldPlace, AreFieldEntries, IsFieldRow, RowsFit}
 use Rattle.law_replies.proofs.fields.Paths.{entries_moved, entries_gone, entries_replaced, entries_more}
+use Rattle.std.specs.Int.Bits.{or_add_and}
+use Rattle.std.proofs.lemmas.Nat.{and_le_l, and_le_r}
+use Rattle.std.specs.Prelude.{bit_and}
 
 -- ---- one row
 
@@ -151,13 +158,33 @@ pub record Makes (next : ℕ) (r : CreateRequest) (found : Option ℕ) (action :
   pub done : action ≤ 3
   pub file : FileIn next r found
 
+file_small : (a : ℕ) → file_attributes a < 256 ^ 4
+unfolding file_attributes
+file_small a = let x = and_le_r a 0x3127 in let y = or_add_and (bit_and a 0x3127) 0x20 in omega (arith, x, y)
+
+directory_small : (a : ℕ) → a < 256 ^ 4 → directory_attributes a < 256 ^ 4
+unfolding directory_attributes
+directory_small a l = let x = and_le_l a 0xffff_ff5f in omega (arith, x, l)
+
+made_small : (r : CreateRequest) → r.attributes < 256 ^ 4 → made_attributes r < 256 ^ 4
+made_small r l =
+    either (λ (n : ℕ). n < 256 ^ 4) (asks_directory r) (directory_attributes r.attributes) (file_attributes r.attributes)
+    (λ _. directory_small r.attributes l) (λ _. file_small r.attributes)
+
+pub final_small : (s : Server) (r : CreateRequest) (found : Option ℕ) → r.attributes < 256 ^ 4 → RowsFit s
+    → final_attributes s r found < 256 ^ 4
+final_small s r None l h = made_small r l
+final_small s r (Some f) l h =
+    either (λ (n : ℕ). n < 256 ^ 4) (empties r.disposition) (file_attributes r.attributes) (s.basic f).attributes
+    (λ _. file_small r.attributes) (λ _. (h.basics f).attributes)
+
 made : (s : Server) (r : CreateRequest) (found : Option ℕ) (now action : ℕ) → now < 256 ^ 8 → Makes s.next_file r found action
     → RowsFit s → RowsFit (file_made s r found now)
 made s r None now action n k h =
-    let f = k.file in file_fits s r.path (asks_directory r) r.attributes now f.0 k.set n f.1 h
+    let f = k.file in file_fits s r.path (asks_directory r) (made_attributes r) now f.0 (made_small r k.set) n f.1 h
 made s r (Some x) now action n k h =
-    either RowsFit (empties r.disposition) (empty_file s x r.attributes now) s
-    (λ _. empty_fits s x r.attributes now k.set n h) (λ _. h)
+    either RowsFit (empties r.disposition) (empty_file s x (file_attributes r.attributes) now) s
+    (λ _. empty_fits s x (file_attributes r.attributes) now (file_small r.attributes) n h) (λ _. h)
 
 new_low : (s : Server) (r : CreateRequest) (found : Option ℕ) (action : ℕ) → Makes s.next_file r found action
     → new_file s found ≤ last_file
@@ -259,6 +286,12 @@ closed : (s : Server) (session : ℕ) (g : Option ℕ) → RowsFit s → RowsFit
 closed s session None h = h
 closed s session (Some g) h = h
 
+all_closed : (s : Server) (session : ℕ) (os : List ℕ) → RowsFit s → RowsFit (keep_all_closed s session os)
+unfolding keep_all_closed
+all_closed s session [] h = h
+all_closed s session (o ∷ os) h = all_closed (keep_closed s session (s.opened o).create_guid) session os
+    (closed s session (s.opened o).create_guid h)
+
 abbrev pub Keeps : Server → Verdict → Type 0
 Keeps s (Make r found action) = Makes s.next_file r found action
 Keeps s (Alter o change body) = Changes s.content s.entries (file_of s o) change
@@ -287,4 +320,5 @@ by_effect s m now (Begin session user previous r is_quiet) n e h = ended_if s no
 by_effect s m now (Join session) n e h = h
 by_effect s m now (EndSession session is_quiet) n e h = ends s session now is_quiet h
 by_effect s m now (AddTree pipes) n e h = h
-by_effect s m now DropTree n e h = h
+by_effect s m now DropTree n e h =
+    let os = opens_of_tree s m.session_id m.tree_id in all_closed (leave_all s os) m.session_id os (all_left s os h)

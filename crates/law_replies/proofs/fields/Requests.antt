@@ -32,7 +32,7 @@ time_fits time l = record { created = zero_8; accessed = zero_8; written = l; ch
 
 own_fits : (op : Op) (guid file slot number : ℕ) → keeps_limits op ≡ true → AsksFit (request_of op guid file slot number)
 own_fits (OpCreate path access share disposition persist directory) guid file slot number k =
-    (spelled_leaf path (front_of (is_spelled_path path) (fits_32 access && (fits_32 share && fits_32 disposition)) k), zero_4)
+    (λ _. spelled_leaf path (front_of (is_spelled_path path) (fits_32 access && (fits_32 share && fits_32 disposition)) k), zero_4)
 own_fits (OpWrite create at bytes) guid file slot number k = tt
 own_fits (OpRead create at size) guid file slot number k = tt
 own_fits (OpEnd create size) guid file slot number k = tt
@@ -48,7 +48,7 @@ own_fits (OpClose create) guid file slot number k = tt
 
 ask_fits : (op : Op) (guid file : ℕ) → keeps_limits op ≡ true → AsksFit (reconnect_of op guid file)
 ask_fits (OpCreate path access share disposition persist directory) guid file k =
-    (spelled_leaf path (front_of (is_spelled_path path) (fits_32 access && (fits_32 share && fits_32 disposition)) k), zero_4)
+    (λ _. spelled_leaf path (front_of (is_spelled_path path) (fits_32 access && (fits_32 share && fits_32 disposition)) k), zero_4)
 ask_fits (OpWrite create at bytes) guid file k = tt
 ask_fits (OpRead create at size) guid file k = tt
 ask_fits (OpEnd create size) guid file k = tt

@@ -61,7 +61,7 @@ EventFits (End k) = Unit {0}
 EventFits Stop = Unit {0}
 
 carries : (t : Server) (now : ℕ) (r : Ruling) → now < 256 ^ 8 → RulingKeeps t r → RowsFit t → FitAnswer (carried_out t now r)
-carries t now (Says m v) n e h = record { server = by_effect t m now v n e h; records = records_by t m now v n e }
+carries t now (Says m v) n e h = record { server = by_effect t m now v n e h; records = records_by t m now v n e h }
 carries t now (TakesIn k) n e h = record { server = h; records = tt }
 carries t now TurnsAway n e h = record { server = h; records = tt }
 carries t now (TakesOut k q) n e h = record { server = taken_out t k now q h; records = fit_named t (origin_at k) (ends_with t k) q }

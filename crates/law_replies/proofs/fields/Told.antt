@@ -11,7 +11,7 @@ use Rattle.spec_exchange.specs.Commands.{Close, Flush, Read, Write, Lock, Ioctl,
 use Rattle.spec_exchange.specs.Commands.{CreateRequest, Durable, Reconnect, deletes_on_close, form, is_setup}
 use Rattle.spec_exchange.specs.State.{Server, Message, Heard, Named, Record, Listing}
 use Rattle.spec_exchange.specs.Files.{find, path_of, is_directory, info_of, remove_file, set_delete_pending}
-use Rattle.spec_exchange.specs.Opens.{id_of, max_ids, deletes, mapped, is_of_session, drop_open, pending_behind}
+use Rattle.spec_exchange.specs.Opens.{id_of, max_ids, deletes, mapped, is_of_tree, drop_open, pending_behind}
 use Rattle.spec_exchange.specs.Opens.{without_gone, goes, leave_open}
 use Rattle.spec_exchange.specs.CheckCreate.{last_file, keeps_guid, max_guids, is_counted_out, action_of, names, shares, refused_by}
 use Rattle.spec_exchange.specs.CheckCreate.{refused_create, after_names, new_check, live_check, refusal_check, guid_check, has_guid}
@@ -177,7 +177,7 @@ told_create n s m r false = told_connect_or n s m r r.reconnect
 -- ---- the ordered checks
 
 told_open : (n : ℕ) (s : Server) (m : Message) (o : ℕ) (v : Verdict) → Tells n v → Tells n (on_open s m o v)
-told_open n s m o v e = either (Tells n) (is_of_session s o m.session_id) v _ (λ _. e) (λ _. tt)
+told_open n s m o v e = either (Tells n) (is_of_tree s o m.session_id m.tree_id) v _ (λ _. e) (λ _. tt)
 
 walk : (n : ℕ) (s : Server) (m : Message) (c : Command) → m.command ≡ c → command_check s m c ≡ with_tree s m
     → (form c ≡ None → (pipes : Bool) → Tells n (tree_command s m pipes c)) → Tells n (check s m)

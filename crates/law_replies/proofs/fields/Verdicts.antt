@@ -7,6 +7,7 @@ use Rattle.spec_exchange.specs.Commands.{Command, Create, SetInfo, Basic, Settin
 use Rattle.spec_exchange.specs.Commands.{CreateRequest, Durable}
 use Rattle.spec_exchange.specs.State.{Server, Message, Body}
 use Rattle.spec_exchange.specs.Files.{root, find, is_directory, set_time, set_basic, passes_room}
+use Rattle.spec_exchange.specs.Files.{set_attributes}
 use Rattle.spec_exchange.specs.CheckCreate.{action_of, refused_by}
 use Rattle.spec_exchange.specs.CheckOpen.{file_of, bytes_change, target_of, target_refused}
 use Rattle.spec_exchange.specs.Verdict.{Verdict, Refuse, Give, KeepRefusal, Repeat, Attach, Make, TurnDown, Tell, Show}
@@ -24,6 +25,7 @@ use Rattle.law_replies.specs.fields.Rows.{is_below_root, IsLeaf, RowsFit}
 use Rattle.law_replies.proofs.fields.Paths.{exists_low, exists_named}
 use Rattle.law_replies.proofs.fields.Changes.{Changes, FileIn, Makes, Keeps}
 use Rattle.law_replies.proofs.fields.Written.{size_few, ended_few, written_few}
+use Rattle.std.specs.Prelude.{nat_le}
 
 -- ---- a request that fits
 
@@ -33,7 +35,7 @@ SetsFit (Rename replace path) = IsLeaf path
 SetsFit _ = Unit {0}
 
 abbrev pub AsksFit : Command → Type 0
-AsksFit (Create r) = IsLeaf r.path × (r.attributes < 256 ^ 4)
+AsksFit (Create r) = (r.reconnect ≡ None → IsLeaf r.path) × (r.attributes < 256 ^ 4)
 AsksFit (SetInfo file setting) = SetsFit setting
 AsksFit _ = Unit {0}
 
@@ -63,10 +65,10 @@ make_keeps : (s : Server) (m : Message) (r : CreateRequest) (found : Option ℕ)
     → MakeFacts s m r found action → Makes s.next_file r found action
 make_keeps s m r found action h g f =
     record {
-      leaf = g.0;
+      leaf = g.0 f.new.new;
       set = g.1;
       done = subst (λ a. a ≤ 3) (sym f.action_is) (action_low r found);
-      file = file_in s r found g.0 h f.found_is f.there f.missing;
+      file = file_in s r found (g.0 f.new.new) h f.found_is f.there f.missing;
     }
 
 -- ---- a write or a set-info
@@ -81,7 +83,13 @@ time_fits : (old t : ℕ) → old < 256 ^ 8 → t < 256 ^ 8 → set_time old t <
 unfolding set_time
 time_fits old t h i =
     either (λ (n : ℕ). n < 256 ^ 8) (t == 0) old _ (λ _. h)
-    (λ _. either (λ (n : ℕ). n < 256 ^ 8) (t == 0xffff_ffff_ffff_ffff) old t (λ _. h) (λ _. i))
+    (λ _. either (λ (n : ℕ). n < 256 ^ 8) (nat_le 0xffff_ffff_ffff_fffe t) old t (λ _. h) (λ _. i))
+
+attributes_fit : (old asked : ℕ) → old < 256 ^ 4 → asked < 256 ^ 4 → set_attributes old asked < 256 ^ 4
+unfolding set_attributes
+attributes_fit old asked h i =
+    either (λ (n : ℕ). n < 256 ^ 4) (asked == 0) old _ (λ _. h)
+    (λ _. either (λ (n : ℕ). n < 256 ^ 4) (asked == 0x80) 0 asked (λ _. omega arith) (λ _. i))
 
 set_fits : (old b : Basic) → IsBasic old → IsBasic b → IsBasic (set_basic old b)
 unfolding set_basic
@@ -91,8 +99,7 @@ set_fits old b h i =
       accessed = time_fits old.accessed b.accessed h.accessed i.accessed;
       written = time_fits old.written b.written h.written i.written;
       changed = time_fits old.changed b.changed h.changed i.changed;
-      attributes =
-          either (λ (n : ℕ). n < 256 ^ 4) (b.attributes == 0) old.attributes b.attributes (λ _. h.attributes) (λ _. i.attributes);
+      attributes = attributes_fit old.attributes b.attributes h.attributes i.attributes;
     }
 
 -- the root is replaced by none

@@ -1,4 +1,5 @@
 -- What is written down fits, and so does what a fold makes of it.
+use Rattle.spec_exchange.specs.Effects.{opens_of_tree}
 use Rattle.std.proofs.Common.{◌≡◌, ℕ, ◌+◌, ◌-◌, ◌<◌, ◌≤◌, ◌^◌, ◌==◌, nat_le, nat_lt, Bool, true, false, not, ◌&&◌, ◌||◌}
 use Rattle.std.proofs.Common.{if◌then◌else◌, List, [], ◌∷◌, ◌++◌, length, take, drop, replicate, length-append}
 use Rattle.std.proofs.Common.{refl, sym, ◌∙◌, subst, arith, eqb-true, Option, Some, None, is_some}
@@ -16,11 +17,13 @@ use Rattle.spec_exchange.specs.Files.{empty_file, store_basic, set_delete_pendin
 use Rattle.spec_exchange.specs.Ranges.{RangeAnswer, Stands, Denied, change_ranges}
 use Rattle.spec_exchange.specs.Opens.{drop_open, leave_open, pending_behind, without_gone, goes, leave_records}
 use Rattle.spec_exchange.specs.Opens.{pending_records, shut_records, gone_records}
+use Rattle.spec_exchange.specs.Opens.{granted}
 use Rattle.spec_exchange.specs.CheckCreate.{last_file, max_files}
 use Rattle.spec_exchange.specs.CheckOpen.{target_of, file_of}
 use Rattle.spec_exchange.specs.Effects.{apply, new_open, new_file, create_records, is_persistent, recorded_index}
 use Rattle.spec_exchange.specs.Effects.{lock_records, change_records, plain_of}
 use Rattle.spec_exchange.specs.Effects.{leave_all_records, end_records, records_if_named, set_ranges, keep_slot}
+use Rattle.spec_exchange.specs.Effects.{final_attributes}
 use Rattle.spec_exchange.specs.Records.{origin_at, origin_of}
 use Rattle.spec_exchange.specs.Verdict.{Verdict, Refuse, Give, KeepRefusal, Repeat, Attach, Make, TurnDown, Tell, Show}
 use Rattle.spec_exchange.specs.Verdict.{KeepSlot, PutRanges, Alter, CloseOpen, Challenge, ChallengeBinding, Begin, Join}
@@ -37,6 +40,7 @@ use Rattle.law_replies.proofs.fields.Paths.{off, entries_gone, exists_low, exist
 use Rattle.law_replies.proofs.fields.Changes.{Changes, Makes, Keeps, put_row, file_fits, content_fits, empty_fits}
 use Rattle.law_replies.proofs.fields.Changes.{basic_fits, entries_fit, rename_fits}
 use Rattle.law_replies.proofs.fields.Changes.{timeout_low, gone, pending_set, expired_added, slotted}
+use Rattle.law_replies.proofs.fields.Changes.{final_small}
 
 -- ---- a record
 
@@ -131,41 +135,43 @@ fit_change s m f now (PutDeletePending flag) n e = (tt, tt)
 fit_change s m f now (PutPath replaced path) n e = (e.0, tt)
 fit_change s m f now PutNothing n e = tt
 
-fit_open : (s : Server) (m : Message) (r : CreateRequest) (u : Option Durable) → IsNewOpen (new_open s m r u)
+fit_open : (s : Server) (m : Message) (r : CreateRequest) (access : ℕ) (u : Option Durable) → IsNewOpen (new_open s m r access u)
 unfolding new_open
-fit_open s m r None = tt
-fit_open s m r (Some d) = either IsNewOpen d.persistent _ None (λ _. timeout_low d.timeout) (λ _. tt)
+fit_open s m r access None = tt
+fit_open s m r access (Some d) = either IsNewOpen d.persistent _ None (λ _. timeout_low d.timeout) (λ _. tt)
 
 fit_create : (s : Server) (m : Message) (r : CreateRequest) (found : Option ℕ) (action now : ℕ) → now < 256 ^ 8
-    → Makes s.next_file r found action → AllFit (create_records s m r found action now)
+    → Makes s.next_file r found action → RowsFit s → AllFit (create_records s m r found action now)
 unfolding create_records
-fit_create s m r found action now n k =
+fit_create s m r found action now n k h =
     either AllFit ((action == 1) && not (is_persistent r.durable)) []
-    (CreateRecord (origin_of m) action (new_file s found) r.path r.attributes (asks_directory r) now (new_open s m r r.durable) ∷ [])
+    (CreateRecord (origin_of m) action (new_file s found) r.path (final_attributes s r found) (asks_directory r) now
+    (new_open s m r (granted s (new_file s found) r.access) r.durable) ∷ [])
     (λ _. tt)
-    (λ _. ((k.leaf, k.set, n, fit_open s m r r.durable), tt))
+    (λ _. ((k.leaf, final_small s r found k.set h, n, fit_open s m r (granted s (new_file s found) r.access) r.durable), tt))
 
-pub records_by : (s : Server) (m : Message) (now : ℕ) (v : Verdict) → now < 256 ^ 8 → Keeps s v → AllFit (apply s m now v).records
-records_by s m now (Refuse status) n e = tt
-records_by s m now (Give body) n e = tt
-records_by s m now (KeepRefusal guid status) n e = tt
-records_by s m now (Repeat o r) n e = tt
-records_by s m now (Attach o r) n e = tt
-records_by s m now (Make r found action) n e = fit_create s m r found action now n e
-records_by s m now (TurnDown o status) n e = tt
-records_by s m now (Tell o body) n e = tt
-records_by s m now (Show o last body) n e = tt
-records_by s m now (KeepSlot o index number status elements) n e = fit_lock s m o index number status elements
-records_by s m now (PutRanges o index number ranges elements) n e = fit_lock s m o index number success elements
-records_by s m now (Alter o change body) n e = fit_change s m (file_of s o) now change n e
-records_by s m now (CloseOpen o body) n e = fit_left s (origin_of m) o
-records_by s m now Challenge n e = tt
-records_by s m now (ChallengeBinding session) n e = tt
-records_by s m now (Begin session user previous r is_quiet) n e = fit_named s (origin_of m) previous is_quiet
-records_by s m now (Join session) n e = tt
-records_by s m now (EndSession session is_quiet) n e = fit_ended s (origin_of m) session is_quiet
-records_by s m now (AddTree pipes) n e = tt
-records_by s m now DropTree n e = tt
+pub records_by : (s : Server) (m : Message) (now : ℕ) (v : Verdict) → now < 256 ^ 8 → Keeps s v → RowsFit s
+    → AllFit (apply s m now v).records
+records_by s m now (Refuse status) n e h = tt
+records_by s m now (Give body) n e h = tt
+records_by s m now (KeepRefusal guid status) n e h = tt
+records_by s m now (Repeat o r) n e h = tt
+records_by s m now (Attach o r) n e h = tt
+records_by s m now (Make r found action) n e h = fit_create s m r found action now n e h
+records_by s m now (TurnDown o status) n e h = tt
+records_by s m now (Tell o body) n e h = tt
+records_by s m now (Show o last body) n e h = tt
+records_by s m now (KeepSlot o index number status elements) n e h = fit_lock s m o index number status elements
+records_by s m now (PutRanges o index number ranges elements) n e h = fit_lock s m o index number success elements
+records_by s m now (Alter o change body) n e h = fit_change s m (file_of s o) now change n e
+records_by s m now (CloseOpen o body) n e h = fit_left s (origin_of m) o
+records_by s m now Challenge n e h = tt
+records_by s m now (ChallengeBinding session) n e h = tt
+records_by s m now (Begin session user previous r is_quiet) n e h = fit_named s (origin_of m) previous is_quiet
+records_by s m now (Join session) n e h = tt
+records_by s m now (EndSession session is_quiet) n e h = fit_ended s (origin_of m) session is_quiet
+records_by s m now (AddTree pipes) n e h = tt
+records_by s m now DropTree n e h = fit_all_left s (origin_of m) (opens_of_tree s m.session_id m.tree_id)
 
 -- ---- a file within its room
 
@@ -317,16 +323,16 @@ restored s f action (Some n) l d e h =
       within = h.within;
     }
 
-granted : (s : Server) (o index number : ℕ) (a : RangeAnswer) → RowsFit s → RowsFit (lock_granted s o index number a)
-granted s o index number (Denied status) h = h
-granted s o index number (Stands ranges) h = slotted (set_ranges s (file_of s o) ranges) o index number success h
+ranges_granted : (s : Server) (o index number : ℕ) (a : RangeAnswer) → RowsFit s → RowsFit (lock_granted s o index number a)
+ranges_granted s o index number (Denied status) h = h
+ranges_granted s o index number (Stands ranges) h = slotted (set_ranges s (file_of s o) ranges) o index number success h
 
 locked : (s : Server) (o index number status : ℕ) (elements : List Element) → RowsFit s
     → RowsFit (lock_recorded s o index number status elements)
 locked s o index number status elements h =
     either RowsFit (not (all_lock elements || all_unlock elements)) s _ (λ _. h)
     (λ _. either RowsFit (status == success) (lock_granted s o index number (change_ranges (s.ranges (file_of s o)) o elements))
-    (keep_slot s o index number status) (λ _. granted s o index number _ h) (λ _. slotted s o index number status h))
+    (keep_slot s o index number status) (λ _. ranges_granted s o index number _ h) (λ _. slotted s o index number status h))
 
 named_there : (s : Server) (f replaced : ℕ) (path : List ℕ) → RowsFit s → may_rename s f replaced path ≡ true
     → is_below_root (path_in s.entries f) ≡ true

@@ -17,7 +17,7 @@ use Rattle.spec_exchange.specs.Commands.{Read, Write, Lock, Ioctl, ListDirectory
 use Rattle.spec_exchange.specs.State.{Server, Message, Heard, Named, Info, Record, Body, Empty, Content, FileInfo, Listing}
 use Rattle.spec_exchange.specs.Files.{is_directory, path_of, info_of}
 use Rattle.spec_exchange.specs.Ranges.{may_read}
-use Rattle.spec_exchange.specs.Opens.{is_of_session}
+use Rattle.spec_exchange.specs.Opens.{is_of_tree}
 use Rattle.spec_exchange.specs.CheckOpen.{file_of, has_access, needs_attributes, there, read_check, file_query_check}
 use Rattle.spec_exchange.specs.CheckOpen.{begins_at, listing_of, list_check}
 use Rattle.spec_exchange.specs.Listing.{all_named, wanted, fitting, one_or_all, file_info_size}
@@ -174,7 +174,7 @@ told_list s o class restart single pattern room few h =
 -- ---- the ordered checks
 
 told_open : (c : Command) (s : Server) (m : Message) (o : ℕ) (v : Verdict) → Tells c v → Tells c (on_open s m o v)
-told_open c s m o v e = either (Tells c) (is_of_session s o m.session_id) v _ (λ _. e) (λ _. tt)
+told_open c s m o v e = either (Tells c) (is_of_tree s o m.session_id m.tree_id) v _ (λ _. e) (λ _. tt)
 
 walk : (c : Command) (s : Server) (m : Message) → m.command ≡ c → command_check s m c ≡ with_tree s m
     → (form c ≡ None → (pipes : Bool) → Tells c (tree_command s m pipes c)) → Tells c (check s m)

@@ -7,7 +7,7 @@ use Rattle.spec_exchange.specs.Status.{success}
 use Rattle.spec_exchange.specs.Client.{Stage, Apart, SaidNegotiate, SaidFirst, SaidSecond, AskedTree}
 use Rattle.spec_exchange.specs.Network.{Sent, answer}
 use Rattle.spec_crypto.specs.declared.sessions.material.Keys.{Keys}
-use Rattle.spec_crypto.specs.tokens.Acceptor.{User}
+use Rattle.spec_crypto.specs.tokens.Tokens.{Users}
 use Rattle.spec_world.specs.Settings.{WorldSettings}
 use Rattle.spec_world.specs.Messages.{HeardMessage}
 use Rattle.spec_world.specs.Ends.{ServerEnd, Logons}
@@ -70,7 +70,7 @@ begun_given L drawn session channel keys low h x up =
 pub given_more : (L : Logons) (drawn more : ℕ → ℕ) → ((y : ℕ) → drawn y ≤ more y) → Given L drawn → Given L more
 given_more L drawn more grown h x up e = higher (drawn x) (more x) (h x up e) (grown x)
 
-pub given_behind : (users : List User) (L : Logons) (k : ℕ) (f : ServerEnd) (c : Checked) (fresh : List ℕ) (now : ℕ) (p : Progress)
+pub given_behind : (users : Users) (L : Logons) (k : ℕ) (f : ServerEnd) (c : Checked) (fresh : List ℕ) (now : ℕ) (p : Progress)
     (drawn : ℕ → ℕ) → DrawsOn drawn c.header.session p → Given L drawn
     → Given (logons_behind users L k f c fresh now p) (next_drawn drawn c.header.session p)
 given_behind users L k f c fresh now Stays drawn d h = h

@@ -10,7 +10,7 @@ use Rattle.spec_crypto.specs.tokens.Formulas.{utf16, mech_list_mic}
 use Rattle.spec_crypto.specs.tokens.Acceptor.{User, user_named}
 use Rattle.spec_crypto.specs.tokens.Spnego.{RespValue, ntlm_list, resp_spelling, IsWritableResp}
 use Rattle.spec_crypto.specs.tokens.Tokens.{Pending, Shown, Refused, LoggedOn, first_token, challenge_token}
-use Rattle.spec_crypto.specs.tokens.Tokens.{shown, final_token, is_final, is_final_of}
+use Rattle.spec_crypto.specs.tokens.Tokens.{shown, is_final, is_final_of}
 use Rattle.spec_world.specs.Settings.{WorldSettings, logon_with, logon_of}
 use Rattle.spec_world.specs.Ends.{ClientEnd}
 use Rattle.spec_world.specs.Logon.{shows_of, exported, exported_by, pending_by, challenge_of, final_by, final_of}
@@ -19,6 +19,7 @@ use Rattle.law_ties.specs.wire_facts.Fitting.{AllAscii, HasPassword, IsFitting}
 use Rattle.law_ties.specs.wire_facts.Lawful.{HasLogon, IsLawfulAnswered, AreTokensLawful}
 use Rattle.law_runs.proofs.logons.Lengths.{IsUsed, code_most, resp_most, resp_fits}
 use Rattle.law_runs.proofs.logons.Begun.{own_begun, begins, first_short, own_second, own_pending, pending_is, eight_of, challenge_short}
+use Rattle.law_runs.proofs.logons.Begun.{final_is}
 use Rattle.law_runs.proofs.logons.Shown.{Laws, RespReads, token_of, token_most, token_fits, answers, same_bytes}
 use Rattle.law_runs.proofs.logons.Shown.{logon_by, logged_on, refused}
 
@@ -66,7 +67,7 @@ short_of : (z : WorldSettings) (n : ClientEnd) (server : List ℕ) (now : ℕ) �
 short_of z n server now fitting has =
     let most = token_most (credentials_of z.client n) server now (used_by z n fitting has) in omega arith
 
-named_logon : (z : WorldSettings) (u : User) → user_named (utf16 z.client.user) z.server.users ≡ Some u → u.password ≡ z.client.password
+named_logon : (z : WorldSettings) (u : User) → user_named (utf16 z.client.user) z.server.users.list ≡ Some u → u.password ≡ z.client.password
     → logon_of z ≡ Logon u.name
 unfolding logon_of
 named_logon z u named same =
@@ -74,14 +75,14 @@ named_logon z u named same =
     let shows : logon_with z.client.password (Some u) ≡ Logon u.name = λ t. if equal t then Logon u.name else ShowsRefused in
     ap (λ (o : Option User). logon_with z.client.password o) named ∙ shows
 
-no_logon : (z : WorldSettings) → user_named (utf16 z.client.user) z.server.users ≡ None → logon_of z ≡ ShowsRefused
+no_logon : (z : WorldSettings) → user_named (utf16 z.client.user) z.server.users.list ≡ None → logon_of z ≡ ShowsRefused
 unfolding logon_of
 no_logon z none = ap (λ (o : Option User). logon_with z.client.password o) none
 
 named_answered : Laws → (z : WorldSettings) (n : ClientEnd) (server : List ℕ) (now : ℕ) (u : User) → IsFitting z → HasLogon n
-    → length server ≡ 8 → user_named (utf16 z.client.user) z.server.users ≡ Some u → u.password ≡ z.client.password
+    → length server ≡ 8 → user_named (utf16 z.client.user) z.server.users.list ≡ Some u → u.password ≡ z.client.password
     → Answered z n server now
-unfolding exported final_token
+unfolding exported
 named_answered laws z n server now u fitting has eight named same =
     let c = credentials_of z.client n in
     let p = own_pending server now in
@@ -89,7 +90,7 @@ named_answered laws z n server now u fitting has eight named same =
     let logged : shown users (Some p) (token_of c server now) ≡ LoggedOn (logon_by u c) true =
     logged_on laws users u c server now (used_by z n fitting has) eight (record { named = named; password = same }) in
     let last : final_of users (Some p) (token_of c server now) ≡ resp_spelling (final_value n.base) =
-    ap (λ (s : Shown). final_by ntlm_list s) logged in
+    ap (λ (s : Shown). final_by ntlm_list s) logged ∙ final_is (logon_by u c) true in
     record {
       short = short_of z n server now fitting has;
       shows = ap shows_of logged ∙ sym (named_logon z u named same);
@@ -102,7 +103,7 @@ never : (user : List ℕ) → ◌≡◌ {A = Shows} ShowsRefused (Logon user) �
 never user h = absurd cc
 
 unknown_answered : Laws → (z : WorldSettings) (n : ClientEnd) (server : List ℕ) (now : ℕ) → IsFitting z → HasLogon n
-    → length server ≡ 8 → user_named (utf16 z.client.user) z.server.users ≡ None → Answered z n server now
+    → length server ≡ 8 → user_named (utf16 z.client.user) z.server.users.list ≡ None → Answered z n server now
 unknown_answered laws z n server now fitting has eight none =
     let c = credentials_of z.client n in
     let p = own_pending server now in
@@ -121,7 +122,7 @@ unknown_answered laws z n server now fitting has eight none =
     }
 
 answered_by : Laws → (z : WorldSettings) (n : ClientEnd) (server : List ℕ) (now : ℕ) → IsFitting z → HasLogon n → length server ≡ 8
-    → (o : Option User) → user_named (utf16 z.client.user) z.server.users ≡ o → Answered z n server now
+    → (o : Option User) → user_named (utf16 z.client.user) z.server.users.list ≡ o → Answered z n server now
 answered_by laws z n server now fitting has eight None none = unknown_answered laws z n server now fitting has eight none
 answered_by laws z n server now fitting has eight (Some u) named =
     named_answered laws z n server now u fitting has eight named
@@ -130,7 +131,7 @@ answered_by laws z n server now fitting has eight (Some u) named =
 -- ---- the client's answer
 
 answer_is : Laws → (z : WorldSettings) (n : ClientEnd) (server : List ℕ) (now : ℕ) → IsFitting z → HasLogon n → length server ≡ 8
-    → answer_of z.client n (challenge_token (own_second server now)) ≡ Some (token_of (credentials_of z.client n) server now)
+    → answer_of z.client n (challenge_token ntlm_list (own_second server now)) ≡ Some (token_of (credentials_of z.client n) server now)
 unfolding answer_of
 answer_is laws z n server now fitting has eight =
     let c = credentials_of z.client n in
@@ -143,14 +144,14 @@ abbrev AnswersTo : WorldSettings → ClientEnd → Option Pending → Type 0
 AnswersTo z n p = (token : List ℕ) × (answer_of z.client n (challenge_of p) ≡ Some token) × IsLawfulAnswered z n p token
 
 answers_to : Laws → (z : WorldSettings) (n : ClientEnd) (fresh : List ℕ) (now : ℕ) → IsFitting z → HasLogon n → length fresh ≡ 8
-    → AnswersTo z n (pending_by first_token fresh now)
+    → AnswersTo z n (pending_by false first_token fresh now)
 answers_to laws z n fresh now fitting has eight =
     let server = take 8 fresh in
     let long = eight_of fresh eight in
     let own : AnswersTo z n (Some (own_pending server now)) = (
       token_of (credentials_of z.client n) server now,
       answer_is laws z n server now fitting has long,
-      answered_by laws z n server now fitting has long (user_named (utf16 z.client.user) z.server.users) refl,
+      answered_by laws z n server now fitting has long (user_named (utf16 z.client.user) z.server.users.list) refl,
     ) in
     subst (AnswersTo z n) (sym (pending_is fresh now)) own
 

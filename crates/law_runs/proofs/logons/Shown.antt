@@ -15,12 +15,13 @@ use Rattle.spec_crypto.specs.tokens.Acceptor.{User, LogonValue, challenge_value,
 use Rattle.spec_crypto.specs.tokens.Acceptor.{user_named, verdict_on, verdict_of, verdict}
 use Rattle.spec_crypto.specs.tokens.Answer.{Credentials, first_message, answer_with, has_room, answer_code, answer, answered}
 use Rattle.spec_crypto.specs.tokens.Spnego.{RespValue, ntlm_list, resp_in, resp_spelling, IsWritableResp}
-use Rattle.spec_crypto.specs.tokens.Tokens.{Begun, Refused, LoggedOn, challenge_token, answer_with_mic}
+use Rattle.spec_crypto.specs.tokens.Tokens.{Users, Begun, Refused, LoggedOn, challenge_token, answer_with_mic}
 use Rattle.spec_crypto.specs.tokens.Tokens.{answer_to_message, answer_to, answer_token, shown_with, shown_logon}
 use Rattle.spec_crypto.specs.tokens.Tokens.{shown_second, shown_by, shown_if, shown}
 use Rattle.law_crypto.specs.ntlm.Own.{IsClient, IsItsUser}
 use Rattle.law_runs.proofs.logons.Lengths.{own_challenge, IsUsed, second_size, third_most, rooms, code_most, resp_most, resp_fits}
 use Rattle.law_runs.proofs.logons.Begun.{own_type1, type1_reads, own_second, challenged, own_pending, begins_none}
+use Rattle.law_runs.proofs.logons.Begun.{challenge_is, second_is}
 
 -- ---- what the laws of tokens and of NTLM say
 
@@ -107,28 +108,30 @@ challenge_fits server now eight =
     (let b = second_size server now eight in omega arith)
 
 pub answers : Laws → (c : Credentials) (server : List ℕ) (now : ℕ) → IsUsed c → length server ≡ 8
-    → answer_token c (challenge_token (own_second server now)) ≡ Some (token_of c server now)
-unfolding answer_token challenge_token
+    → answer_token c (challenge_token ntlm_list (own_second server now)) ≡ Some (token_of c server now)
+unfolding answer_token
 answers laws c server now used eight =
     let second = own_second server now in
     let v : RespValue = record { state = Some 1; ntlm = true; token = Some second; mic = None } in
-    ap (λ (r : Result RespValue DerError). answer_to c r) (laws.resp v (challenge_fits server now eight))
+    ap (λ (t : List ℕ). answer_to c (resp_in t)) (challenge_is second)
+    ∙ (ap (λ (r : Result RespValue DerError). answer_to c r) (laws.resp v (challenge_fits server now eight))
     ∙ (ap (λ (r : Result Type2Value NtlmError). answer_to_message c second r) (second_reads laws server now eight)
-    ∙ ap (λ (o : Option (List ℕ)). answer_with_mic c o) (third_is c server now used))
+    ∙ ap (λ (o : Option (List ℕ)). answer_with_mic c o) (third_is c server now used)))
 
 -- ---- what it shows
 
-abbrev Verdict : List User → Credentials → List ℕ → ℕ → Result LogonValue LogonError
-Verdict users c server now = verdict users server first_message (own_second server now) (third_of c server now)
+abbrev Verdict : Users → Credentials → List ℕ → ℕ → Result LogonValue LogonError
+Verdict users c server now = verdict users.list server first_message (own_second server now) (third_of c server now)
 
-shown_is : Laws → (users : List User) (c : Credentials) (server : List ℕ) (now : ℕ) → IsUsed c →
+shown_is : Laws → (users : Users) (c : Credentials) (server : List ℕ) (now : ℕ) → IsUsed c →
     shown users (Some (own_pending server now)) (token_of c server now)
     ≡ shown_logon ntlm_list (Some (client_code c)) (Verdict users c server now)
 unfolding shown
 shown_is laws users c server now used =
     let p = own_pending server now in
-    ap (λ (b : Option Begun). shown_if b (shown_by users (Some p) (token_of c server now))) (begins_none (answer_value c server now))
-    ∙ ap (λ (r : Result RespValue DerError). shown_second users p r) (laws.resp (answer_value c server now) (answer_fits c server now used))
+    ap (λ (b : Option Begun). shown_if b (shown_by users (Some p) (token_of c server now))) (begins_none users.bare (answer_value c server now))
+    ∙ ap (λ (r : Result RespValue DerError). shown_second users p r)
+    (second_is (answer_value c server now) ∙ laws.resp (answer_value c server now) (answer_fits c server now used))
 
 pub same_bytes : (a : List ℕ) → bytes_eq a a ≡ true
 same_bytes a = (bytes_eq-Decides a a).1 refl
@@ -139,11 +142,11 @@ client_is c used = record { challenge = used.challenge; key = used.key; ascii = 
 abbrev pub logon_by : User → Credentials → LogonValue
 logon_by u c = record { user = u.name; key = c.key; exchanged = true }
 
-pub logged_on : Laws → (users : List User) (u : User) (c : Credentials) (server : List ℕ) (now : ℕ) → IsUsed c → length server ≡ 8
-    → IsItsUser c users u → shown users (Some (own_pending server now)) (token_of c server now) ≡ LoggedOn (logon_by u c) true
+pub logged_on : Laws → (users : Users) (u : User) (c : Credentials) (server : List ℕ) (now : ℕ) → IsUsed c → length server ≡ 8
+    → IsItsUser c users.list u → shown users (Some (own_pending server now)) (token_of c server now) ≡ LoggedOn (logon_by u c) true
 logged_on laws users u c server now used eight own =
     let judged : Verdict users c server now ≡ Ok (logon_by u c) =
-    laws.logon c users u server (own_second server now) (third_of c server now) now (own_challenge server now) (client_is c used)
+    laws.logon c users.list u server (own_second server now) (third_of c server now) now (own_challenge server now) (client_is c used)
     own eight (challenged server now) (second_reads laws server now eight) (third_is c server now used) in
     let same : shown_with ntlm_list (logon_by u c) (Some (client_code c)) ≡ LoggedOn (logon_by u c) true =
     λ t. if same_bytes (client_code c) t then LoggedOn (logon_by u c) true else Refused in
@@ -155,8 +158,8 @@ refused_by : (b : Bool) (list : List ℕ) (code : Option (List ℕ)) →
 refused_by true list code = refl
 refused_by false list code = refl
 
-unknown_judged : Laws → (users : List User) (c : Credentials) (server : List ℕ) (now : ℕ) → IsUsed c → length server ≡ 8
-    → user_named (utf16 c.user) users ≡ None
+unknown_judged : Laws → (users : Users) (c : Credentials) (server : List ℕ) (now : ℕ) → IsUsed c → length server ≡ 8
+    → user_named (utf16 c.user) users.list ≡ None
     → Verdict users c server now ≡ (if is_ascii_utf16 (utf16 c.user) then Err UnknownUser else Err NotAscii)
 unfolding verdict
 unknown_judged laws users c server now used eight none =
@@ -166,13 +169,13 @@ unknown_judged laws users c server now used eight none =
     let reads : type3_in third ≡ Ok w =
     laws.answer c first_message second third (own_challenge server now) used.challenge used.key (second_reads laws server now eight)
     (third_is c server now used) in
-    let judged : verdict_of users server first_message second third (Ok w)
+    let judged : verdict_of users.list server first_message second third (Ok w)
     ≡ (if is_ascii_utf16 (utf16 c.user) then Err UnknownUser else Err NotAscii) =
     λ t. if is_ascii_utf16 (utf16 c.user) then verdict_on (none t) server first_message second third w else Err NotAscii in
-    ap (λ (r : Result Type3Value NtlmError). verdict_of users server first_message second third r) reads ∙ judged
+    ap (λ (r : Result Type3Value NtlmError). verdict_of users.list server first_message second third r) reads ∙ judged
 
-pub refused : Laws → (users : List User) (c : Credentials) (server : List ℕ) (now : ℕ) → IsUsed c → length server ≡ 8
-    → user_named (utf16 c.user) users ≡ None → shown users (Some (own_pending server now)) (token_of c server now) ≡ Refused
+pub refused : Laws → (users : Users) (c : Credentials) (server : List ℕ) (now : ℕ) → IsUsed c → length server ≡ 8
+    → user_named (utf16 c.user) users.list ≡ None → shown users (Some (own_pending server now)) (token_of c server now) ≡ Refused
 refused laws users c server now used eight none =
     shown_is laws users c server now used
     ∙ (ap (λ (r : Result LogonValue LogonError). shown_logon ntlm_list (Some (client_code c)) r)

@@ -245,7 +245,7 @@ asks_fit held short z law w i k es v f few taken g own no_create ok paid =
       sets_up_not = plain.sets_up_not;
       cancels_not = plain.cancels_not;
       short = requests.1;
-      reads = λ t h b fits is told. commands.attach t h b op guid file fits is told keeps makes
+      reads = λ t h b fits is pays told. commands.attach t h b op guid file fits is told keeps makes
           (guid_fits z c create fit.who (taken_low z es v f taken create within)) (file_low z es v f few create q.2 ok);
     }
   where

@@ -18,9 +18,10 @@ use Rattle.law_ties.specs.requests.Lines.{is_lines}
 
 -- ---- read back
 
-abbrev pub ReadsBack : Command → Type 0
-ReadsBack c =
-    (t : Told) (h : Header) (b : List ℕ) → IsWritableHeader h → IsMessage h (body_of c) b → h.command ≡ number_of_command c →
+abbrev pub ReadsBack : Command → ℕ → Type 0
+ReadsBack c paid =
+    (t : Told) (h : Header) (b : List ℕ) → IsWritableHeader h → IsMessage h (body_of c) b → h.charge ≡ paid
+    → h.command ≡ number_of_command c →
     command_of t (header_as h b) b ≡ Some c
 
 zero_8 : 0 < 256 ^ 8
@@ -29,38 +30,41 @@ zero_8 = omega arith
 zero_3 : 0 < 256 ^ 3
 zero_3 = omega arith
 
+same_paid : {a b : ℕ} → a ≡ b → b ≤ a
+same_paid e = omega (arith, e)
+
 -- what a request doesn't tell may be any
 pub own_reads : AreCommandsLawful → (op : Op) (guid file slot number : ℕ) → keeps_limits op ≡ true → guid < 256 ^ 16
     → (makes_open op ≡ false → file < 256 ^ 8) → (locking op ≡ true → slot < 256 ^ 3) → number < 16
-    → ReadsBack (request_of op guid file slot number)
+    → ReadsBack (request_of op guid file slot number) (charge (weight op))
 unfolding makes_open locking
 own_reads law (OpCreate path access share disposition persist directory) guid file slot number keeps g f s n =
-    λ t h b fit is at. law.own t h b (OpCreate path access share disposition persist directory) guid 0 0 number fit is at keeps g zero_8
-    zero_3 n
+    λ t h b fit is pays at. law.own t h b (OpCreate path access share disposition persist directory) guid 0 0 number fit is at keeps g zero_8
+    zero_3 n (same_paid pays)
 own_reads law (OpWrite create at bytes) guid file slot number keeps g f s n =
-    λ t h b fit is told. law.own t h b (OpWrite create at bytes) guid file 0 number fit is told keeps g (f refl) zero_3 n
+    λ t h b fit is pays told. law.own t h b (OpWrite create at bytes) guid file 0 number fit is told keeps g (f refl) zero_3 n (same_paid pays)
 own_reads law (OpRead create at size) guid file slot number keeps g f s n =
-    λ t h b fit is told. law.own t h b (OpRead create at size) guid file 0 number fit is told keeps g (f refl) zero_3 n
+    λ t h b fit is pays told. law.own t h b (OpRead create at size) guid file 0 number fit is told keeps g (f refl) zero_3 n (same_paid pays)
 own_reads law (OpEnd create size) guid file slot number keeps g f s n =
-    λ t h b fit is told. law.own t h b (OpEnd create size) guid file 0 number fit is told keeps g (f refl) zero_3 n
+    λ t h b fit is pays told. law.own t h b (OpEnd create size) guid file 0 number fit is told keeps g (f refl) zero_3 n (same_paid pays)
 own_reads law (OpTime create time) guid file slot number keeps g f s n =
-    λ t h b fit is told. law.own t h b (OpTime create time) guid file 0 number fit is told keeps g (f refl) zero_3 n
+    λ t h b fit is pays told. law.own t h b (OpTime create time) guid file 0 number fit is told keeps g (f refl) zero_3 n (same_paid pays)
 own_reads law (OpRename create path) guid file slot number keeps g f s n =
-    λ t h b fit is told. law.own t h b (OpRename create path) guid file 0 number fit is told keeps g (f refl) zero_3 n
+    λ t h b fit is pays told. law.own t h b (OpRename create path) guid file 0 number fit is told keeps g (f refl) zero_3 n (same_paid pays)
 own_reads law (OpRemove create) guid file slot number keeps g f s n =
-    λ t h b fit is told. law.own t h b (OpRemove create) guid file 0 number fit is told keeps g (f refl) zero_3 n
+    λ t h b fit is pays told. law.own t h b (OpRemove create) guid file 0 number fit is told keeps g (f refl) zero_3 n (same_paid pays)
 own_reads law (OpLock create at size exclusive) guid file slot number keeps g f s n =
-    λ t h b fit is told. law.own t h b (OpLock create at size exclusive) guid file slot number fit is told keeps g (f refl) (s refl) n
+    λ t h b fit is pays told. law.own t h b (OpLock create at size exclusive) guid file slot number fit is told keeps g (f refl) (s refl) n (same_paid pays)
 own_reads law (OpUnlock create at size) guid file slot number keeps g f s n =
-    λ t h b fit is told. law.own t h b (OpUnlock create at size) guid file slot number fit is told keeps g (f refl) (s refl) n
+    λ t h b fit is pays told. law.own t h b (OpUnlock create at size) guid file slot number fit is told keeps g (f refl) (s refl) n (same_paid pays)
 own_reads law (OpFlush create) guid file slot number keeps g f s n =
-    λ t h b fit is told. law.own t h b (OpFlush create) guid file 0 number fit is told keeps g (f refl) zero_3 n
+    λ t h b fit is pays told. law.own t h b (OpFlush create) guid file 0 number fit is told keeps g (f refl) zero_3 n (same_paid pays)
 own_reads law (OpStat create) guid file slot number keeps g f s n =
-    λ t h b fit is told. law.own t h b (OpStat create) guid file 0 number fit is told keeps g (f refl) zero_3 n
+    λ t h b fit is pays told. law.own t h b (OpStat create) guid file 0 number fit is told keeps g (f refl) zero_3 n (same_paid pays)
 own_reads law (OpList create) guid file slot number keeps g f s n =
-    λ t h b fit is told. law.own t h b (OpList create) guid file 0 number fit is told keeps g (f refl) zero_3 n
+    λ t h b fit is pays told. law.own t h b (OpList create) guid file 0 number fit is told keeps g (f refl) zero_3 n (same_paid pays)
 own_reads law (OpClose create) guid file slot number keeps g f s n =
-    λ t h b fit is told. law.own t h b (OpClose create) guid file 0 number fit is told keeps g (f refl) zero_3 n
+    λ t h b fit is pays told. law.own t h b (OpClose create) guid file 0 number fit is told keeps g (f refl) zero_3 n (same_paid pays)
 
 pub creates : (op : Op) → makes_open op ≡ true → is_create op ≡ true
 unfolding makes_open

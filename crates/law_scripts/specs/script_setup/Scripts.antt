@@ -53,7 +53,7 @@ first_user (u ∷ us) = u
 -- the server is at 127.0.0.1, port 445
 unfoldable pub drill_settings : Settings → List ℕ → WorldSettings
 drill_settings s seed = record {
-  server = record { users = map user_of s.users; guid = codes "smb311-server-01" };
+  server = record { users = record { list = map user_of s.users; bare = false }; guid = codes "smb311-server-01" };
   client = record {
     user = (first_user s.users).name;
     password = (first_user s.users).password;

@@ -10,16 +10,17 @@ use Rattle.spec_exchange.specs.Texts.{begins_with_backslash, is_path, is_below}
 use Rattle.spec_exchange.specs.Content.{is_empty}
 use Rattle.spec_exchange.specs.Commands.{Command, Unreadable, Aside, Setup, Logoff, TreeConnect, TreeDisconnect, Create}
 use Rattle.spec_exchange.specs.Commands.{Close, Flush, Read, Write, Lock, Ioctl, ListDirectory, QueryFile, QueryVolume}
-use Rattle.spec_exchange.specs.Commands.{SetInfo, Setting, SetBasic, Rename, SetDelete, SetAllocation, SetEnd, Element}
-use Rattle.spec_exchange.specs.Commands.{form, path_form, transfer_form, lock_form, room_form, is_setup, all_lock, all_unlock}
+use Rattle.spec_exchange.specs.Commands.{SetInfo, Setting, SetBasic, Rename, SetDelete, SetAllocation, SetEnd, Element, Basic}
+use Rattle.spec_exchange.specs.Commands.{form, path_form, transfer_form, lock_form, room_form, list_form, is_short_pattern, is_setup, all_lock, all_unlock}
 use Rattle.spec_exchange.specs.State.{Server, Message, Range, Named, Empty}
-use Rattle.spec_exchange.specs.Files.{root, find, has_parent, is_directory, is_full_directory}
+use Rattle.spec_exchange.specs.Files.{root, find, has_parent, is_directory, is_full_directory, is_read_only}
+use Rattle.spec_exchange.specs.Files.{may_set_attributes, may_set_times}
 use Rattle.spec_exchange.specs.Files.{path_of, info_of, set_basic, allocated, passes_room}
 use Rattle.spec_exchange.specs.Ranges.{RangeAnswer, Stands, Denied, change_ranges, lock_ranges, unlock_ranges, stands_or, ranges_of}
 use Rattle.spec_exchange.specs.Ranges.{any_wraps, add_ranges, take_ranges, count_owned, max_ranges, may_read, may_write}
-use Rattle.spec_exchange.specs.Opens.{is_of_session}
+use Rattle.spec_exchange.specs.Opens.{is_of_tree}
 use Rattle.spec_exchange.specs.CheckOpen.{file_of, has_access, is_slot, kept_lock, is_repeated, is_late, bytes_change, path_change}
-use Rattle.spec_exchange.specs.CheckOpen.{allocation_change, rename_names, delete_names, target_of, target_refused, open_below}
+use Rattle.spec_exchange.specs.CheckOpen.{allocation_change, rename_names, delete_names, basic_names, target_of, target_refused, open_below}
 use Rattle.spec_exchange.specs.CheckOpen.{timely_write, write_check, read_check, there, turn_down_lock, range_check, new_lock_check}
 use Rattle.spec_exchange.specs.CheckOpen.{slot_check, lock_check, named_change, unless_repeated, size_change, setting_check, set_check}
 use Rattle.spec_exchange.specs.CheckOpen.{flush_check, close_check, needs_attributes, file_query_check, listing_of, list_check}
@@ -162,7 +163,12 @@ other_delete : (s : Server) (f : ℕ) (flag : Bool) → OtherIn (delete_names s 
 unfolding delete_names
 other_delete s f flag =
     either OtherIn (not flag) _ _ (λ _. tt) (λ _. either OtherIn (f == root) _ _ (λ _. refl)
-    (λ _. either OtherIn (is_full_directory s f) _ _ (λ _. refl) (λ _. tt)))
+    (λ _. either OtherIn (is_full_directory s f) _ _ (λ _. refl)
+    (λ _. either OtherIn (is_read_only s f) _ _ (λ _. refl) (λ _. tt))))
+
+other_basic : (s : Server) (f : ℕ) (b : Basic) → OtherIn (basic_names s f b)
+unfolding basic_names
+other_basic s f b = either OtherIn (may_set_attributes (is_directory s f) b.attributes && may_set_times b) _ _ (λ _. tt) (λ _. refl)
 
 -- of a setting
 abbrev Sets : ℕ → Setting → Verdict → Type 0
@@ -187,8 +193,12 @@ told_size s m o setting size change =
 told_setting : (s : Server) (m : Message) (o : ℕ) (setting : Setting) → Sets o setting (setting_check s m o setting)
 told_setting s m o (SetBasic basic) =
     let change : Change = PutBasic (set_basic (s.basic (file_of s o)) basic) in
-    either (λ v. Sets o (SetBasic basic) v) (has_access s o 0x100) (unless_repeated s m o change (Alter o change Empty))
-    (TurnDown o access_denied) (λ _. told_unless s m o (SetBasic basic) change (Alter o change Empty) refl) (λ _. refl)
+    let u = basic_names s (file_of s o) basic in
+    either (λ v. Sets o (SetBasic basic) v) (has_access s o 0x100) (unless_repeated s m o change (named_change o change u))
+    (TurnDown o access_denied)
+    (λ _. told_unless s m o (SetBasic basic) change (named_change o change u)
+    (told_named o (SetBasic basic) change u (other_basic s (file_of s o) basic)))
+    (λ _. refl)
 told_setting s m o (Rename replace path) =
     let change = path_change s o path in let u = rename_names s (file_of s o) replace path in
     either (λ v. Sets o (Rename replace path) v) (has_access s o 0x1_0000) (unless_repeated s m o change (named_change o change u))
@@ -243,7 +253,7 @@ told_flush s o =
     either (λ v. TellsOf (Flush o) v) (has_access s o 0x2 || has_access s o 0x4) _ _ (λ _. refl) (λ _. refl)
 
 told_open : (c : Command) (s : Server) (m : Message) (o : ℕ) (v : Verdict) → TellsOf c v → TellsOf c (on_open s m o v)
-told_open c s m o v e = either (λ u. TellsOf c u) (is_of_session s o m.session_id) v _ (λ _. e) (λ _. refl)
+told_open c s m o v e = either (λ u. TellsOf c u) (is_of_tree s o m.session_id m.tree_id) v _ (λ _. e) (λ _. refl)
 
 first_kept : (b : Bool) (x : ℕ) (u : Option ℕ) → (if b then Some x else u) ≡ None → b ≡ false
 first_kept true x u e = absurd cc
@@ -325,6 +335,10 @@ other_elements (e ∷ es) = either OtherIn (all_lock (e ∷ es) || all_unlock (e
 other_room : (room : ℕ) → OtherIn (room_form room)
 other_room room = either OtherIn (nat_lt 1048576 room) _ _ (λ _. refl) (λ _. tt)
 
+other_list : (pattern : List ℕ) (room : ℕ) → OtherIn (list_form pattern room)
+other_list pattern room =
+    either OtherIn (nat_lt 1048576 room) _ _ (λ _. refl) (λ _. either OtherIn (is_short_pattern pattern) _ _ (λ _. tt) (λ _. refl))
+
 other_form : (c : Command) → is_simple c ≡ true → OtherIn (form c)
 other_form (Write o at bytes channel) e = other_transfer at (length bytes) channel
 other_form (Read o at size minimum channel) e = other_transfer at size channel
@@ -344,7 +358,7 @@ other_form (TreeConnect share) e = absent e
 other_form TreeDisconnect e = absent e
 other_form (Create request) e = absent e
 other_form (Ioctl o code room) e = absent e
-other_form (ListDirectory o class restart single pattern room) e = other_room room
+other_form (ListDirectory o class restart single pattern room) e = other_list pattern room
 other_form (QueryFile o class room) e = other_room room
 other_form (QueryVolume o class room) e = absent e
 

@@ -2,23 +2,23 @@
 use Rattle.std.proofs.Common.{◌≡◌, ◌≢◌, ◌⊎◌, inl, inr, ℕ, ◌+◌, ◌≤◌, ◌<◌, ◌==◌, nat_lt, Bool, true, false, List, []}
 use Rattle.std.proofs.Common.{length, refl, arith, sym, subst, ◌∙◌, Option, Some, None, is_some, slice_get}
 use Rattle.std.proofs.lemmas.Bool.{eqb-false}
-use Rattle.spec_exchange.specs.Table.{put, has}
+use Rattle.spec_exchange.specs.Table.{put}
 use Rattle.spec_exchange.specs.Status.{success}
 use Rattle.spec_exchange.specs.Content.{written, ended, is_empty}
 use Rattle.spec_exchange.specs.Commands.{CreateRequest, Durable, SetupRequest, Element, Setting, SetBasic, Rename}
 use Rattle.spec_exchange.specs.Commands.{SetDelete, SetAllocation, SetEnd, asks_directory, deletes_on_close}
 use Rattle.spec_exchange.specs.State.{Server, Message, Range, Body, NewSession}
-use Rattle.spec_exchange.specs.Files.{root, find, exists, make_file, empty_file, set_content, store_basic}
-use Rattle.spec_exchange.specs.Files.{set_delete_pending, touched, emptied_basic, is_directory}
+use Rattle.spec_exchange.specs.Files.{root, find, exists, make_file, empty_file, set_content, store_basic, file_attributes}
+use Rattle.spec_exchange.specs.Files.{touched, emptied_basic, is_directory}
 use Rattle.spec_exchange.specs.Ranges.{change_ranges, Stands}
-use Rattle.spec_exchange.specs.Opens.{id_of, max_ids, add_open, drop_open, leave_open, without_gone, file_has_open, goes}
+use Rattle.spec_exchange.specs.Opens.{id_of, max_ids, add_open, leave_open, file_has_open}
 use Rattle.spec_exchange.specs.CheckCreate.{empties}
 use Rattle.spec_exchange.specs.CheckOpen.{is_late, is_slot, file_of, bytes_change, target_of, target_refused, delete_names}
 use Rattle.spec_exchange.specs.Verdict.{Verdict, Refuse, Give, KeepRefusal, Repeat, Attach, Make, TurnDown, Tell, Show}
 use Rattle.spec_exchange.specs.Verdict.{KeepSlot, PutRanges, Alter, CloseOpen, Challenge, ChallengeBinding, Begin, Join}
 use Rattle.spec_exchange.specs.Verdict.{EndSession, AddTree, DropTree, Change, PutBytes, PutEnd, PutBasic}
 use Rattle.spec_exchange.specs.Verdict.{PutDeletePending, PutPath, PutNothing}
-use Rattle.spec_exchange.specs.Effects.{apply, reach, attached, guid_of, is_persistent, open_row, next_open}
+use Rattle.spec_exchange.specs.Effects.{apply, reach, attached, guid_of, is_persistent, open_row, next_open, made_attributes}
 use Rattle.spec_exchange.specs.Effects.{guids_after, make_open, keep_slot, set_ranges, change_file, keep_closed}
 use Rattle.spec_exchange.specs.Effects.{end_session, end_if_named, add_session}
 use Rattle.spec_exchange.specs.Step.{due, expire, add_expired_guid}
@@ -31,8 +31,9 @@ use Rattle.law_server.proofs.tables.AddOpen.{add_open_keeps}
 use Rattle.law_server.proofs.tables.FileEffects.{make_file_keeps, set_delete_pending_keeps, rename_file_keeps, set_ranges_keeps}
 use Rattle.law_server.proofs.tables.SessionEffects.{attach_keeps, keep_refusal_keeps, close_guid_keeps, challenge_keeps}
 use Rattle.law_server.proofs.tables.SessionEffects.{bind_keeps, add_session_keeps, join_session_keeps, add_tree_keeps}
-use Rattle.law_server.proofs.tables.SessionEffects.{drop_tree_keeps, unread_keeps}
+use Rattle.law_server.proofs.tables.SessionEffects.{unread_keeps}
 use Rattle.law_server.proofs.tables.Leaving.{leave_open_keeps, unopened_of}
+use Rattle.law_server.proofs.tables.Closing.{drop_tree_keeps, left_present}
 use Rattle.law_server.proofs.tables.EndSession.{end_session_keeps}
 
 -- ---- columns that nothing here reads
@@ -147,7 +148,7 @@ ready s m r found action i f =
       kept = guids_kept s m.session_id r.durable present i.no_guids;
     }
 
-made_there : (s : Server) (r : CreateRequest) (now : ℕ) → exists (make_file s r.path (asks_directory r) r.attributes now) s.next_file ≡ true
+made_there : (s : Server) (r : CreateRequest) (now : ℕ) → exists (make_file s r.path (asks_directory r) (made_attributes r) now) s.next_file ≡ true
 unfolding exists
 made_there s r now = let more = exists-pushed s.entries (record { file = s.next_file; path = r.path }) s.next_file in grind arith
 
@@ -159,25 +160,29 @@ make_found : (s : Server) (m : Message) (r : CreateRequest) (f action now : ℕ)
 unfolding exists
 make_found s m r f action now i a file off =
     either (λ u. Fits (record (add_open u (next_open s) (open_row s m r f action) (Some m.session_id)
-    m.channel_sequence) { open_ids_given = s.open_ids_given + 1; guids = guids_after s m.session_id r.durable }))
+    m.channel_sequence) {
+      open_ids_given = s.open_ids_given + 1;
+      tree_of_open = put s.tree_of_open (next_open s) m.tree_id;
+      guids = guids_after s m.session_id r.durable;
+    }))
     (empties r.disposition) _ _
-    (λ _. add_open_keeps (empty_file s f r.attributes now) (next_open s) (open_row s m r f action) (Some m.session_id)
-    m.channel_sequence (s.open_ids_given + 1) (guids_after s m.session_id r.durable) a.free a.above a.id a.more
+    (λ _. add_open_keeps (empty_file s f (file_attributes r.attributes) now) (next_open s) (open_row s m r f action) (Some m.session_id)
+    m.channel_sequence (s.open_ids_given + 1) (guids_after s m.session_id r.durable) (put s.tree_of_open (next_open s) m.tree_id) a.free a.above a.id a.more
     a.most a.session a.plain a.guid a.named file off a.kept
-    (empty_file_keeps s f r.attributes now i))
+    (empty_file_keeps s f (file_attributes r.attributes) now i))
     (λ _. add_open_keeps s (next_open s) (open_row s m r f action) (Some m.session_id) m.channel_sequence
-    (s.open_ids_given + 1) (guids_after s m.session_id r.durable) a.free a.above a.id a.more a.most a.session
+    (s.open_ids_given + 1) (guids_after s m.session_id r.durable) (put s.tree_of_open (next_open s) m.tree_id) a.free a.above a.id a.more a.most a.session
     a.plain a.guid a.named file off a.kept i)
 
 make_missing : (s : Server) (m : Message) (r : CreateRequest) (action now : ℕ) → Fits s → Ready s m r
     → Fits (make_open s m r None action now)
 make_missing s m r action now i a =
-    add_open_keeps (make_file s r.path (asks_directory r) r.attributes now) (next_open s)
+    add_open_keeps (make_file s r.path (asks_directory r) (made_attributes r) now) (next_open s)
     (open_row s m r s.next_file action) (Some m.session_id) m.channel_sequence (s.open_ids_given + 1)
-    (guids_after s m.session_id r.durable)
+    (guids_after s m.session_id r.durable) (put s.tree_of_open (next_open s) m.tree_id)
     a.free a.above a.id a.more a.most a.session a.plain a.guid a.named (made_there s r now)
     (λ _. not_root_number s.next_file i.next_file) a.kept
-    (make_file_keeps s r.path (asks_directory r) r.attributes now i)
+    (make_file_keeps s r.path (asks_directory r) (made_attributes r) now i)
 
 make_keeps : (s : Server) (m : Message) (r : CreateRequest) (found : Option ℕ) (action now : ℕ) → Fits s
     → MakeFacts s m r found action → Fits (make_open s m r found action now)
@@ -281,16 +286,6 @@ alter_keeps s m o now change body i f =
 
 -- ---- CLOSE and expiry
 
-pub gone_present : (s : Server) (f : ℕ) → (without_gone s f).present ≡ s.present
-gone_present s f = either (λ (t : Server). t.present ≡ s.present) (goes s f) _ _ (λ _. refl) (λ _. refl)
-
-pub left_present : (s : Server) (o : ℕ) → (leave_open s o).present ≡ s.present
-left_present s o =
-    either (λ (t : Server). (without_gone (drop_open t o) (s.opened o).file).present ≡ s.present)
-    (deletes_on_close (s.opened o).options) _ _
-    (λ _. gone_present (drop_open (set_delete_pending s (s.opened o).file true) o) (s.opened o).file)
-    (λ _. gone_present (drop_open s o) (s.opened o).file)
-
 shut_keeps : (s : Server) (session o : ℕ) (guid : Option ℕ) → s.standing o ≡ true → s.present session ≡ true → Fits s
     → Fits (keep_closed (leave_open s o) session guid)
 shut_keeps s session o None stands present i = leave_open_keeps s o stands i
@@ -349,4 +344,4 @@ applied_keeps s m now (Join session) i f = join_session_keeps s m session
     (subst (λ x. s.present x ≡ true) (sym f.binding.session_is) f.binding.present) i
 applied_keeps s m now (EndSession session is_quiet) i f = end_session_keeps s session now is_quiet i
 applied_keeps s m now (AddTree pipes) i f = add_tree_keeps s m.session_id pipes (there s m i f.session) i
-applied_keeps s m now DropTree i f = drop_tree_keeps s m.session_id m.tree_id i
+applied_keeps s m now DropTree i f = drop_tree_keeps s m.session_id m.tree_id (there s m i f.tree.session) i

@@ -6,6 +6,7 @@ use Rattle.std.proofs.lemmas.Bool.Decides.{nat_tests}
 use Rattle.spec_exchange.specs.Table.{is_at}
 use Rattle.spec_exchange.specs.Status.{success, sharing_violation, insufficient_resources, invalid_device_request}
 use Rattle.spec_exchange.specs.Status.{lock_not_granted, range_not_locked, disk_full}
+use Rattle.spec_exchange.specs.Status.{object_path_not_found, object_name_not_found}
 use Rattle.spec_exchange.specs.Texts.{is_path, is_below, same_name}
 use Rattle.spec_exchange.specs.Content.{is_empty}
 use Rattle.spec_exchange.specs.Commands.{Command, Unreadable, Aside, Setup, Logoff, TreeConnect, TreeDisconnect, Create}
@@ -13,15 +14,16 @@ use Rattle.spec_exchange.specs.Commands.{Close, Flush, Read, Write, Lock, Ioctl,
 use Rattle.spec_exchange.specs.Commands.{SetInfo, Setting, SetBasic, Rename, SetDelete, SetAllocation, SetEnd}
 use Rattle.spec_exchange.specs.Commands.{CreateRequest, Durable, Reconnect, SetupRequest, Shows, Begins, Bad, Refused}
 use Rattle.spec_exchange.specs.Commands.{Logon, Element, deletes_on_close, form, path_form, lock_form, all_lock}
-use Rattle.spec_exchange.specs.Commands.{all_unlock, is_setup, asks_directory, asks_file, no_file}
-use Rattle.spec_exchange.specs.State.{Server, Message, Making, NewSession, Binding, Range, Body, Empty, Count, Closed, Named}
+use Rattle.spec_exchange.specs.Commands.{all_unlock, is_setup, no_file}
+use Rattle.spec_exchange.specs.State.{Server, Message, Making, NewSession, Binding, Range, Body, Empty, Count, Named}
 use Rattle.spec_exchange.specs.Files.{root, find, find_in, path_of, exists, exists_in, is_directory, has_parent, passes_room, allocated}
 use Rattle.spec_exchange.specs.Ranges.{RangeAnswer, Stands, Denied, change_ranges, lock_ranges, unlock_ranges}
 use Rattle.spec_exchange.specs.Ranges.{stands_or, may_write, ranges_of, any_wraps, add_ranges, take_ranges, count_owned}
 use Rattle.spec_exchange.specs.Ranges.{max_ranges}
-use Rattle.spec_exchange.specs.Opens.{deletes, mapped, max_ids, is_of_session}
+use Rattle.spec_exchange.specs.Opens.{deletes, mapped, max_ids, is_of_session, is_of_tree}
 use Rattle.spec_exchange.specs.CheckCreate.{keeps_guid, max_guids, max_opens, max_files, last_file, is_counted_out}
 use Rattle.spec_exchange.specs.CheckCreate.{action_of, names, names_of_found, found_names, missing_names, shares}
+use Rattle.spec_exchange.specs.CheckCreate.{first_refusal, found_attributes, missing_attributes}
 use Rattle.spec_exchange.specs.CheckCreate.{makes_missing, has_guid, refused_by, refused_create, after_names, new_check}
 use Rattle.spec_exchange.specs.CheckCreate.{live_check, refusal_check, guid_check, reconnect_check, durable_check}
 use Rattle.spec_exchange.specs.CheckCreate.{reconnect_or_create, create_check}
@@ -31,7 +33,7 @@ use Rattle.spec_exchange.specs.CheckOpen.{open_below, write_check, read_check, t
 use Rattle.spec_exchange.specs.CheckOpen.{new_lock_check, slot_check, lock_check, named_change, size_change}
 use Rattle.spec_exchange.specs.CheckOpen.{setting_check, set_check, flush_check, file_query_check, volume_query_check}
 use Rattle.spec_exchange.specs.CheckOpen.{listing_of, list_check, ioctl_check, ioctl_status, free_ioctl_check}
-use Rattle.spec_exchange.specs.CheckOpen.{needs_attributes, begins_at, is_repeated, unless_repeated}
+use Rattle.spec_exchange.specs.CheckOpen.{needs_attributes, begins_at, is_repeated, unless_repeated, basic_names}
 use Rattle.spec_exchange.specs.CheckSetup.{tree_in, is_new, is_binding, granted_session, second_token, first_token}
 use Rattle.spec_exchange.specs.CheckSetup.{session_check, granted_binding, second_binding, first_binding, binding_check}
 use Rattle.spec_exchange.specs.CheckSetup.{setup_check, tree_check, max_sessions, max_channels, max_numbers, pipes_name}
@@ -47,6 +49,7 @@ use Rattle.law_server.proofs.tables.Found.{SessionFacts, TreeFacts, OpenFacts, C
 use Rattle.law_server.proofs.tables.Found.{MissingFacts, MakeFacts, RepeatFacts, AttachFacts, LockFacts, SlotFacts}
 use Rattle.law_server.proofs.tables.Found.{RangesFacts, setting_change, WriteFacts, SizeFacts, PathFacts, SettingSays}
 use Rattle.law_server.proofs.tables.Found.{SettingFacts, AlterFacts, ShutFacts, BindingFacts, BeginFacts, Facts}
+use Rattle.law_server.proofs.tables.Refusals.{names_say, first_none}
 
 -- ---- CREATE: the names
 
@@ -64,11 +67,19 @@ found_exists s [] f e = grind arith
 found_exists s (c ∷ cs) f e = let h = found_in s.entries (c ∷ cs) f e in grind arith
 
 -- a broken rule of the names is no success
-names_refuse : (s : Server) (r : CreateRequest) (found : Option ℕ) (status : ℕ) → names s r found ≡ Some status
+pub names_refuse : (s : Server) (r : CreateRequest) (found : Option ℕ) (status : ℕ) → names s r found ≡ Some status
     → (status == success) ≡ false
-unfolding names names_of_found found_names missing_names
-names_refuse s r None status e = grind arith
-names_refuse s r (Some f) status e = grind arith
+names_refuse = names_say (λ n. (n == success) ≡ false) (record {
+  pending = refl;
+  collision = refl;
+  no_directory = refl;
+  directory = refl;
+  parameter = refl;
+  denied = refl;
+  undeletable = refl;
+  no_name = refl;
+  no_path = refl;
+})
 
 there_facts : (s : Server) (r : CreateRequest) (f : ℕ) → find s r.path ≡ Some f → found_names s r f ≡ None → ThereFacts s r f
 unfolding found_names
@@ -81,12 +92,19 @@ there_facts s r f is e = record {
 
 names_of_there : (s : Server) (r : CreateRequest) (f : ℕ) → names s r (Some f) ≡ None → found_names s r f ≡ None
 unfolding names names_of_found
-names_of_there s r f e = grind arith
+names_of_there s r f e = first_none (found_names s r f) (found_attributes s r f) e
 
 names_of_missing : (s : Server) (r : CreateRequest) → names s r None ≡ None → makes_missing r.disposition ≡ true
     × has_parent s r.path ≡ true
 unfolding names names_of_found missing_names
-names_of_missing s r e = (grind arith, grind arith)
+names_of_missing s r e =
+    either (λ u. u ≡ None → makes_missing r.disposition ≡ true × has_parent s r.path ≡ true) (has_parent s r.path)
+    (first_refusal (missing_names r) (missing_attributes r)) (Some object_path_not_found)
+    (λ p k. (made (makes_missing r.disposition) (first_none (missing_names r) (missing_attributes r) k), p)) (λ _ k. absurd (cc)) e
+  where
+    made : (b : Bool) → (if b then None else Some object_name_not_found) ≡ None → b ≡ true
+    made true k = refl
+    made false k = absurd (cc)
 
 opens_left : (s : Server) (r : CreateRequest) (found : Option ℕ) → is_counted_out s r found ≡ false → length s.opens < max_opens
 unfolding is_counted_out
@@ -105,11 +123,13 @@ path_formed : (path : List ℕ) → path_form path ≡ None → is_path path ≡
 unfolding path_form
 path_formed path e = grind arith
 
-create_path : (m : Message) (r : CreateRequest) → m.command ≡ Create r → form m.command ≡ None → path_form r.path ≡ None
-create_path m r is e = let h : form (Create r) ≡ None = subst (λ c. form c ≡ None) is e in grind arith
+create_path : (m : Message) (r : CreateRequest) → m.command ≡ Create r → r.reconnect ≡ None → form m.command ≡ None
+    → path_form r.path ≡ None
+create_path m r is new e = let h : form (Create r) ≡ None = subst (λ c. form c ≡ None) is e in grind arith
 
-create_disposition : (m : Message) (r : CreateRequest) → m.command ≡ Create r → form m.command ≡ None → r.disposition ≤ 5
-create_disposition m r is e = let h : form (Create r) ≡ None = subst (λ c. form c ≡ None) is e in grind (arith, nat_tests)
+create_disposition : (m : Message) (r : CreateRequest) → m.command ≡ Create r → r.reconnect ≡ None → form m.command ≡ None
+    → r.disposition ≤ 5
+create_disposition m r is new e = let h : form (Create r) ≡ None = subst (λ c. form c ≡ None) is e in grind (arith, nat_tests)
 
 missing_facts : (s : Server) (r : CreateRequest) → is_counted_out s r None ≡ false → names s r None ≡ None → MissingFacts s r
 missing_facts s r k e =
@@ -144,8 +164,8 @@ make_facts s m r found n is k e h =
       found_is = is;
       action_is = refl;
       shared = h;
-      path = path_formed r.path (create_path m r n.create.command n.create.session.formed);
-      disposition = create_disposition m r n.create.command n.create.session.formed;
+      path = path_formed r.path (create_path m r n.create.command n.new n.create.session.formed);
+      disposition = create_disposition m r n.create.command n.new n.create.session.formed;
       opens = opens_left s r found k;
       given = ids_left s r found k;
       there = λ f t. there_facts s r f (sym is ∙ t) (names_of_there s r f (subst (λ u. names s r u ≡ None) t e));
@@ -475,8 +495,10 @@ setting_facts : (s : Server) (m : Message) (o : ℕ) (setting : Setting) → Ope
 setting_facts s m o (SetBasic basic) f late c =
     let change = setting_change s o (SetBasic basic) in
     either (λ v. Facts s m v) (has_access s o 0x100) _ _
-    (λ a. unrepeated s m o change _ f (λ fresh. alter_facts s m o change Empty f late fresh
-    (setting_of s m o (SetBasic basic) c a))) (λ _. f)
+    (λ a. unrepeated s m o change _ f
+    (λ fresh. named_facts s m o change f late fresh (basic_names s (file_of s o) basic)
+    (λ _. setting_of s m o (SetBasic basic) c a)))
+    (λ _. f)
 setting_facts s m o (Rename replace path) f late c =
     let change = setting_change s o (Rename replace path) in
     either (λ v. Facts s m v) (has_access s o 0x1_0000) _ _
@@ -651,11 +673,12 @@ tree_facts s m share f c =
 on_open_facts : (s : Server) (m : Message) (o : ℕ) (v : Verdict) → TreeFacts s m → (OpenFacts s m o → Facts s m v)
     → Facts s m (on_open s m o v)
 on_open_facts s m o v t f =
-    either (λ v. Facts s m v) (is_of_session s o m.session_id) _ _
-    (λ h. f (record {
+    either (λ v. Facts s m v) (is_of_tree s o m.session_id m.tree_id) _ _
+    (λ h. let own = front_of (is_of_session s o m.session_id) _ h in f (record {
       tree = t;
-      standing = front_of (s.standing o) _ h;
-      session_of_open = at_of m.session_id (s.session_of_open o) (back_of (s.standing o) _ h);
+      standing = front_of (s.standing o) _ own;
+      session_of_open = at_of m.session_id (s.session_of_open o) (back_of (s.standing o) _ own);
+      tree_of_open = eqb-true (s.tree_of_open o) m.tree_id (back_of (is_of_session s o m.session_id) _ h);
     }))
     (λ _. tt)
 
@@ -781,7 +804,7 @@ lesser s m (Begin session user previous r is_quiet) f = f
 lesser s m (Join session) f = f
 lesser s m (EndSession session is_quiet) f = f
 lesser s m (AddTree pipes) f = f
-lesser s m DropTree f = f
+lesser s m DropTree f = tt
 
 -- the verdict of the checks, or what stands in its place where the records don't fit
 pub found : (s : Server) (m : Message) (v : Verdict) → (v ≡ check s m) ⊎ (v ≡ without_room (check s m)) → Facts s m v

@@ -5,8 +5,7 @@ use Rattle.spec_exchange.specs.State.{Server, Range}
 use Rattle.spec_exchange.specs.Files.{exists}
 use Rattle.spec_exchange.specs.Opens.{with_guid, drop_open}
 use Rattle.spec_exchange.specs.Ranges.{without_owner}
-use Rattle.law_server.specs.tables.Fits.{Fits, Attached, PlainAttached, GuidOpen, OpenGuid, PersistentGuid, Deadlines, Listed}
-use Rattle.law_server.specs.tables.Fits.{Ascending, OpenIds, RangeOwners, OpenFiles}
+use Rattle.law_server.specs.tables.Fits.{Fits, Attached, PlainAttached, GuidOpen, OpenGuid, PersistentGuid, Deadlines, Listed, Ascending, OpenIds, RangeOwners, OpenFiles}
 use Rattle.law_server.proofs.tables.Lists.{has-without, ascending-without, without_owner-from}
 
 dropped_guid : (s : Server) (o c g p : ℕ) → GuidOpen s → (u : Option ℕ) → (s.opened o).create_guid ≡ u
@@ -24,8 +23,8 @@ dropped_open s o p g stands old (Some h) e = let was = old p g in let own = old 
 dropped_range : (s : Server) (o y n : ℕ) (r : Range) → RangeOwners s → (b : Bool) → (y == (s.opened o).file) ≡ b
     → slice_get (if b then without_owner o (s.ranges (s.opened o).file) else s.ranges y) n ≡ Some r
     → put s.standing o false r.owner ≡ true × (s.opened r.owner).file ≡ y
-dropped_range s o y n r old true e h = let f = without_owner-from o (s.ranges (s.opened o).file) n r h in let was =
-    old (s.opened o).file f.1.0 r f.1.1 in let same = eqb-true y (s.opened o).file e in grind arith
+dropped_range s o y n r old true e h = let f = without_owner-from o (s.ranges (s.opened o).file) n r h in let was = old
+    (s.opened o).file f.1.0 r f.1.1 in let same = eqb-true y (s.opened o).file e in grind arith
 dropped_range s o y n r old false e h = let was = old y n r h in grind arith
 
 drop_open_attached : (s : Server) (o : ℕ) → (s.standing o ≡ true) → Attached s → Attached (drop_open s o)

@@ -3,10 +3,7 @@ use Rattle.std.proofs.Common.{◌≡◌, ℕ, ◌<◌, ◌==◌, Bool, true, fal
 use Rattle.spec_exchange.specs.State.{Server, Open}
 use Rattle.spec_exchange.specs.Files.{root, exists, exists_in}
 use Rattle.spec_exchange.specs.Effects.{leaves, end_session, files_behind, guid_staying, cleared, dated}
-use Rattle.law_server.specs.tables.Fits.{Fits, Attached, PlainAttached, GuidOpen, OpenGuid, PersistentGuid, Deadlines, Listed}
-use Rattle.law_server.specs.tables.Fits.{Ascending, OpenIds, SessionIds, MakingIds, OnPresent, OnMade, NoTrees, NoClosed}
-use Rattle.law_server.specs.tables.Fits.{NoRefused, NoGuids, NextTree, TreeIds, RangeOwners, NotRoot, RootStays, OpenFiles}
-use Rattle.law_server.specs.tables.Fits.{FileNumbers}
+use Rattle.law_server.specs.tables.Fits.{Fits, Attached, PlainAttached, GuidOpen, OpenGuid, PersistentGuid, Deadlines, Listed, Ascending, OpenIds, SessionIds, MakingIds, OnPresent, OnMade, NoTrees, NoClosed, NoRefused, NoGuids, NextTree, TreeIds, RangeOwners, NotRoot, RootStays, OpenFiles, FileNumbers}
 use Rattle.law_server.proofs.tables.Logic.{front_of, back_of, not_true}
 use Rattle.law_server.proofs.tables.Lists.{has-staying, ascending-staying, ranges_staying-from}
 use Rattle.spec_exchange.specs.Effects.{plain_of}
@@ -33,8 +30,8 @@ dated_end : (session now : ℕ) (row : Open) (at deadline : Option ℕ) (d : ℕ
 dated_end session now row None deadline d old h = refl
 dated_end session now row (Some x) deadline d old h = let was = old d in grind arith
 
-ended_files : (s : Server) (session : ℕ) (is_quiet : Bool) (p : ℕ) → AllLeft s (files_behind s session is_quiet)
-    (plain_of s session) → (s.standing p && not (leaves s session p)) ≡ true
+ended_files : (s : Server) (session : ℕ) (is_quiet : Bool) (p : ℕ)
+    → AllLeft s (files_behind s session is_quiet) (plain_of s session) → (s.standing p && not (leaves s session p)) ≡ true
     → (((s.opened p).file == root) || exists_in (files_behind s session is_quiet).entries (s.opened p).file) ≡ true
 unfolding exists
 ended_files s session is_quiet p left st =
@@ -43,8 +40,9 @@ ended_files s session is_quiet p left st =
     let there = left.open_files p (left.stays p stands (not_plain s session p out)) in
     subst (λ rows. (((rows p).file == root) || exists_in (files_behind s session is_quiet).entries (rows p).file) ≡ true) left.opened there
 
-ended_numbers : (s : Server) (session : ℕ) (is_quiet : Bool) (y : ℕ) → AllLeft s (files_behind s session is_quiet)
-    (plain_of s session) → exists_in (files_behind s session is_quiet).entries y ≡ true → 0 < y × y < s.next_file
+ended_numbers : (s : Server) (session : ℕ) (is_quiet : Bool) (y : ℕ)
+    → AllLeft s (files_behind s session is_quiet) (plain_of s session)
+    → exists_in (files_behind s session is_quiet).entries y ≡ true → 0 < y × y < s.next_file
 ended_numbers s session is_quiet y left h = subst (λ n. 0 < y × y < n) left.next_file (left.file_numbers y h)
 
 end_session_attached : (s : Server) (session : ℕ) (now : ℕ) (is_quiet : Bool) → Attached s → Attached (end_session s session now is_quiet)
@@ -52,8 +50,7 @@ unfolding exists
 end_session_attached s session now is_quiet i_attached =
     λ p x. let old = i_attached p x in grind arith
 
-end_session_plain_attached : (s : Server) (session : ℕ) (now : ℕ) (is_quiet : Bool) → PlainAttached s
-    → PlainAttached (end_session s session now is_quiet)
+end_session_plain_attached : (s : Server) (session : ℕ) (now : ℕ) (is_quiet : Bool) → PlainAttached s → PlainAttached (end_session s session now is_quiet)
 unfolding exists
 end_session_plain_attached s session now is_quiet i_plain_attached =
     λ p. let old = i_plain_attached p in grind arith
@@ -68,14 +65,12 @@ unfolding exists
 end_session_open_guid s session now is_quiet i_open_guid =
     λ p g. let old = i_open_guid p g in ended_named s session p g old
 
-end_session_persistent_guid : (s : Server) (session : ℕ) (now : ℕ) (is_quiet : Bool) → PersistentGuid s
-    → PersistentGuid (end_session s session now is_quiet)
+end_session_persistent_guid : (s : Server) (session : ℕ) (now : ℕ) (is_quiet : Bool) → PersistentGuid s → PersistentGuid (end_session s session now is_quiet)
 unfolding exists
 end_session_persistent_guid s session now is_quiet i_persistent_guid =
     λ p. let old = i_persistent_guid p in grind arith
 
-end_session_deadlines : (s : Server) (session : ℕ) (now : ℕ) (is_quiet : Bool) → Deadlines s
-    → Deadlines (end_session s session now is_quiet)
+end_session_deadlines : (s : Server) (session : ℕ) (now : ℕ) (is_quiet : Bool) → Deadlines s → Deadlines (end_session s session now is_quiet)
 unfolding exists
 end_session_deadlines s session now is_quiet i_deadlines =
     λ p d. dated_end session now (s.opened p) (s.session_of_open p) (s.deadline p) d (i_deadlines p)
@@ -85,8 +80,7 @@ unfolding exists
 end_session_listed s session now is_quiet i_listed =
     λ p. let old = i_listed p in has-staying s session p s.opens ∙ (grind arith)
 
-end_session_ascending : (s : Server) (session : ℕ) (now : ℕ) (is_quiet : Bool) → Ascending s
-    → Ascending (end_session s session now is_quiet)
+end_session_ascending : (s : Server) (session : ℕ) (now : ℕ) (is_quiet : Bool) → Ascending s → Ascending (end_session s session now is_quiet)
 unfolding exists
 end_session_ascending s session now is_quiet i_ascending =
     ascending-staying s session s.opens i_ascending
@@ -96,20 +90,17 @@ unfolding exists
 end_session_open_ids s session now is_quiet i_open_ids =
     λ p. let old = i_open_ids p in grind arith
 
-end_session_session_ids : (s : Server) (session : ℕ) (now : ℕ) (is_quiet : Bool) → SessionIds s
-    → SessionIds (end_session s session now is_quiet)
+end_session_session_ids : (s : Server) (session : ℕ) (now : ℕ) (is_quiet : Bool) → SessionIds s → SessionIds (end_session s session now is_quiet)
 unfolding exists
 end_session_session_ids s session now is_quiet i_session_ids =
     λ x. let old = i_session_ids x in grind arith
 
-end_session_making_ids : (s : Server) (session : ℕ) (now : ℕ) (is_quiet : Bool) → MakingIds s
-    → MakingIds (end_session s session now is_quiet)
+end_session_making_ids : (s : Server) (session : ℕ) (now : ℕ) (is_quiet : Bool) → MakingIds s → MakingIds (end_session s session now is_quiet)
 unfolding exists
 end_session_making_ids s session now is_quiet i_making_ids =
     λ k x. let old = i_making_ids k x in grind arith
 
-end_session_on_present : (s : Server) (session : ℕ) (now : ℕ) (is_quiet : Bool) → OnPresent s
-    → OnPresent (end_session s session now is_quiet)
+end_session_on_present : (s : Server) (session : ℕ) (now : ℕ) (is_quiet : Bool) → OnPresent s → OnPresent (end_session s session now is_quiet)
 unfolding exists
 end_session_on_present s session now is_quiet i_on_present =
     λ k x. let old = i_on_present k x in grind arith
@@ -129,8 +120,7 @@ unfolding exists
 end_session_no_closed s session now is_quiet i_no_closed =
     λ x g. let old = i_no_closed x g in grind arith
 
-end_session_no_refused : (s : Server) (session : ℕ) (now : ℕ) (is_quiet : Bool) → NoRefused s
-    → NoRefused (end_session s session now is_quiet)
+end_session_no_refused : (s : Server) (session : ℕ) (now : ℕ) (is_quiet : Bool) → NoRefused s → NoRefused (end_session s session now is_quiet)
 unfolding exists
 end_session_no_refused s session now is_quiet i_no_refused =
     λ x g. let old = i_no_refused x g in grind arith
@@ -150,27 +140,22 @@ unfolding exists
 end_session_tree_ids s session now is_quiet i_tree_ids =
     λ x n t. let old = i_tree_ids x n t in grind arith
 
-end_session_range_owners : (s : Server) (session : ℕ) (now : ℕ) (is_quiet : Bool) → RangeOwners s
-    → RangeOwners (end_session s session now is_quiet)
+end_session_range_owners : (s : Server) (session : ℕ) (now : ℕ) (is_quiet : Bool) → RangeOwners s → RangeOwners (end_session s session now is_quiet)
 unfolding exists
 end_session_range_owners s session now is_quiet i_range_owners =
-    λ y n r h. let f = ranges_staying-from s session (s.ranges y) n r h in let was = i_range_owners y f.1.0 r f.1.1 in
-    let stays = f.0 in grind arith
+    λ y n r h. let f = ranges_staying-from s session (s.ranges y) n r h in let was = i_range_owners y f.1.0 r f.1.1 in let stays = f.0 in grind arith
 
-end_session_root_stays : (s : Server) (session : ℕ) (now : ℕ) (is_quiet : Bool) → RootStays s → OpenFiles s → Listed s
-    → FileNumbers s → NotRoot s → RootStays (end_session s session now is_quiet)
+end_session_root_stays : (s : Server) (session : ℕ) (now : ℕ) (is_quiet : Bool) → RootStays s → OpenFiles s → Listed s → FileNumbers s → NotRoot s → RootStays (end_session s session now is_quiet)
 unfolding exists
 end_session_root_stays s session now is_quiet i_root_stays i_open_files i_listed i_file_numbers i_not_root =
     (files_left s session is_quiet i_listed i_open_files i_file_numbers i_not_root i_root_stays).not_pending
 
-end_session_open_files : (s : Server) (session : ℕ) (now : ℕ) (is_quiet : Bool) → OpenFiles s → Listed s → FileNumbers s
-    → NotRoot s → RootStays s → OpenFiles (end_session s session now is_quiet)
+end_session_open_files : (s : Server) (session : ℕ) (now : ℕ) (is_quiet : Bool) → OpenFiles s → Listed s → FileNumbers s → NotRoot s → RootStays s → OpenFiles (end_session s session now is_quiet)
 unfolding exists
 end_session_open_files s session now is_quiet i_open_files i_listed i_file_numbers i_not_root i_root_stays =
     λ p st. ended_files s session is_quiet p (files_left s session is_quiet i_listed i_open_files i_file_numbers i_not_root i_root_stays) st
 
-end_session_file_numbers : (s : Server) (session : ℕ) (now : ℕ) (is_quiet : Bool) → FileNumbers s → OpenFiles s
-    → Listed s → NotRoot s → RootStays s → FileNumbers (end_session s session now is_quiet)
+end_session_file_numbers : (s : Server) (session : ℕ) (now : ℕ) (is_quiet : Bool) → FileNumbers s → OpenFiles s → Listed s → NotRoot s → RootStays s → FileNumbers (end_session s session now is_quiet)
 unfolding exists
 end_session_file_numbers s session now is_quiet i_file_numbers i_open_files i_listed i_not_root i_root_stays =
     λ y h. ended_numbers s session is_quiet y (files_left s session is_quiet i_listed i_open_files i_file_numbers i_not_root i_root_stays) h

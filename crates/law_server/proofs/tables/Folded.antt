@@ -118,7 +118,7 @@ off_root f options h d = let e : (f == root) ≡ false = grind arith in eqb-fals
 restored_on : (u : Server) (f action : ℕ) (n : NewOpen) → Free u n → exists u f ≡ true → keeps_root f (Some n) ≡ true
     → Fits u → Fits (restore u f action (Some n))
 restored_on u f action n a file sound i =
-    add_open_keeps u n.id (restored_row n f action) None 0 (max u.open_ids_given (n.id % 0x1_0000_0000)) u.guids
+    add_open_keeps u n.id (restored_row n f action) None 0 (max u.open_ids_given (n.id % 0x1_0000_0000)) u.guids u.tree_of_open
     a.standing (id_above n.id a.counter) (id_within n.id u.epoch u.open_ids_given a.epoch)
     (given_more u.open_ids_given (n.id % 0x1_0000_0000)) (given_most u.open_ids_given n.id i.given)
     (λ x e. absurd (cc)) (λ e. absurd (cc)) (own_guid u n a.guid) (λ _. refl) file (off_root f n.options sound) i.no_guids i

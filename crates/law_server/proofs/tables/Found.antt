@@ -33,11 +33,12 @@ pub record TreeFacts (s : Server) (m : Message) : Type 0 where
   pub session : SessionFacts s m
   pub tree : is_some (tree_in (s.trees m.session_id) m.tree_id) ≡ true
 
--- its open stands in its session
+-- its open stands in its session and its tree
 pub record OpenFacts (s : Server) (m : Message) (o : ℕ) : Type 0 where
   pub tree : TreeFacts s m
   pub standing : s.standing o ≡ true
   pub session_of_open : s.session_of_open o ≡ Some m.session_id
+  pub tree_of_open : s.tree_of_open o ≡ m.tree_id
 
 -- ---- CREATE
 

@@ -1,7 +1,7 @@
 -- The lists beside the tables: opens, ranges, files and trees, behind what adds to them or takes from them.
 use Rattle.std.proofs.Common.{◌≡◌, ◌⊎◌, inl, inr, ℕ, ◌+◌, ◌==◌, nat_lt, Bool, true, false, not, ◌&&◌, ◌||◌}
 use Rattle.std.proofs.Common.{if◌then◌else◌, List, [], ◌∷◌, ◌++◌, length, refl, arith, sym, subst, Option, Some, None}
-use Rattle.std.proofs.Common.{slice_get, zero, suc}
+use Rattle.std.proofs.Common.{slice_get, zero, suc, eqb-true}
 use Rattle.std.proofs.lemmas.Bool.Decides.{nat_tests}
 use Rattle.spec_exchange.specs.Table.{has, without, placed_in, is_filled}
 use Rattle.spec_exchange.specs.Commands.{Element, all_lock}
@@ -10,8 +10,8 @@ use Rattle.spec_exchange.specs.Files.{exists_in, without_file, moved_entry, move
 use Rattle.spec_exchange.specs.Ranges.{RangeAnswer, Stands, ranges_of, is_denied, any_wraps, count_owned, max_ranges}
 use Rattle.spec_exchange.specs.Ranges.{add_ranges, is_equal_range, prepended, take_range, take_ranges, stands_or}
 use Rattle.spec_exchange.specs.Ranges.{lock_ranges, unlock_ranges, change_ranges, without_owner}
-use Rattle.spec_exchange.specs.Opens.{opens_in}
-use Rattle.spec_exchange.specs.Effects.{leaves, plain_in, staying_in, ranges_staying, without_tree}
+use Rattle.spec_exchange.specs.Opens.{opens_in, is_of_tree}
+use Rattle.spec_exchange.specs.Effects.{leaves, plain_in, staying_in, ranges_staying, without_tree, tree_opens_in}
 use Rattle.spec_exchange.specs.Step.{due_in}
 use Rattle.law_server.specs.tables.Fits.{is_ascending}
 use Rattle.law_server.proofs.tables.Logic.{either, front_of, back_of, both}
@@ -57,7 +57,7 @@ ascending-above x (y ∷ ys) h =
     let l = front_of (nat_lt x y) (is_ascending (y ∷ ys)) h in both (nat_lt x y) (above x ys) l
     (above-less x y ys l (ascending-above y ys (back_of (nat_lt x y) (is_ascending (y ∷ ys)) h)))
 
-ascending-rest : (x : ℕ) (xs : List ℕ) → is_ascending (x ∷ xs) ≡ true → is_ascending xs ≡ true
+pub ascending-rest : (x : ℕ) (xs : List ℕ) → is_ascending (x ∷ xs) ≡ true → is_ascending xs ≡ true
 unfolding is_ascending
 ascending-rest x [] h = refl
 ascending-rest x (y ∷ ys) h = back_of (nat_lt x y) (is_ascending (y ∷ ys)) h
@@ -91,6 +91,39 @@ ascending-staying s session (x ∷ xs) h =
     let old = ascending-staying s session xs (ascending-rest x xs h) in
     either (λ ys. is_ascending ys ≡ true) (leaves s session x) _ _ (λ _. old)
     (λ _. ascending-front x (staying_in s session xs) (above-staying s session x xs (ascending-above x xs h)) old)
+
+above-tree : (s : Server) (session tree n : ℕ) (os : List ℕ) → above n os ≡ true → above n (tree_opens_in s session tree os) ≡ true
+unfolding above tree_opens_in
+above-tree s session tree n [] h = refl
+above-tree s session tree n (x ∷ xs) h = let old = above-tree s session tree n xs in grind arith
+
+pub ascending-tree : (s : Server) (session tree : ℕ) (os : List ℕ) → is_ascending os ≡ true
+    → is_ascending (tree_opens_in s session tree os) ≡ true
+unfolding tree_opens_in
+ascending-tree s session tree [] h = h
+ascending-tree s session tree (x ∷ xs) h =
+    let old = ascending-tree s session tree xs (ascending-rest x xs h) in
+    either (λ ys. is_ascending ys ≡ true) (is_of_tree s x session tree) _ _
+    (λ _. ascending-front x (tree_opens_in s session tree xs) (above-tree s session tree x xs (ascending-above x xs h)) old)
+    (λ _. old)
+
+-- what follows in an ascending list is another
+above-other : (n p : ℕ) (os : List ℕ) → above n os ≡ true → has p os ≡ true → (n == p) ≡ false
+unfolding above
+above-other n p [] a h = absurd (cc)
+above-other n p (x ∷ xs) a h =
+    let l = front_of (nat_lt n x) (above n xs) a in
+    let rest = above-other n p xs (back_of (nat_lt n x) (above n xs) a) in
+    elim (x == p) as (λ b. x == p ≡ b → (n == p) ≡ false) [
+      | true ↦ λ e. let same = eqb-true x p e in grind (arith, nat_tests)
+      | false ↦ λ e. rest (in_rest x p xs e h)
+    ] refl
+  where
+    in_rest : (y q : ℕ) (ys : List ℕ) → (y == q) ≡ false → has q (y ∷ ys) ≡ true → has q ys ≡ true
+    in_rest y q ys e h = grind arith
+
+pub ascending-other : (n p : ℕ) (os : List ℕ) → is_ascending (n ∷ os) ≡ true → has p os ≡ true → (n == p) ≡ false
+ascending-other n p os a h = above-other n p os (ascending-above n os a) h
 
 above-placed : (n o : ℕ) (os : List ℕ) → nat_lt n o ≡ true → above n os ≡ true → above n (placed_in o os) ≡ true
 unfolding above

@@ -1,10 +1,10 @@
 -- No record that the server owes makes an open that deletes the root on close.
-use Rattle.std.proofs.Common.{◌≡◌, ◌≢◌, ℕ, ◌+◌, ◌==◌, Bool, true, false, not, ◌&&◌, if◌then◌else◌, List, [], ◌∷◌, ◌++◌}
-use Rattle.std.proofs.Common.{refl, arith, sym, subst, ◌∙◌, ap, Option, Some, None}
+use Rattle.std.proofs.Common.{◌≡◌, ℕ, ◌==◌, Bool, true, false, not, ◌&&◌, List, [], ◌∷◌}
+use Rattle.std.proofs.Common.{refl, arith, Option, Some, None}
 use Rattle.spec_exchange.specs.Commands.{CreateRequest, Durable, Element, deletes_on_close}
 use Rattle.spec_exchange.specs.State.{Server, Message, Origin}
 use Rattle.spec_exchange.specs.Files.{root}
-use Rattle.spec_exchange.specs.Opens.{pending_records, shut_records, gone_records, leave_records, leave_open, drop_open}
+use Rattle.spec_exchange.specs.Opens.{pending_records, shut_records, gone_records, leave_records, leave_open, drop_open, granted}
 use Rattle.spec_exchange.specs.Opens.{pending_behind, goes}
 use Rattle.spec_exchange.specs.Records.{origin_of}
 use Rattle.spec_exchange.specs.Verdict.{Verdict, Refuse, Give, KeepRefusal, Repeat, Attach, Make, TurnDown, Tell, Show}
@@ -12,7 +12,7 @@ use Rattle.spec_exchange.specs.Verdict.{KeepSlot, PutRanges, Alter, CloseOpen, C
 use Rattle.spec_exchange.specs.Verdict.{EndSession, AddTree, DropTree, Change, PutBytes, PutEnd, PutBasic}
 use Rattle.spec_exchange.specs.Verdict.{PutDeletePending, PutPath, PutNothing}
 use Rattle.spec_exchange.specs.Effects.{apply, new_file, new_open, create_records, is_persistent, lock_records}
-use Rattle.spec_exchange.specs.Effects.{change_records, plain_of, leave_all_records, end_records, records_if_named}
+use Rattle.spec_exchange.specs.Effects.{opens_of_tree, change_records, plain_of, leave_all_records, end_records, records_if_named}
 use Rattle.spec_exchange.specs.Step.{expire_records, ends_with, take_out, take_all_records}
 use Rattle.law_server.specs.tables.Fits.{Fits, all_sound, keeps_root}
 use Rattle.law_server.proofs.tables.Logic.{either}
@@ -63,10 +63,10 @@ sound_take_all s (k ∷ ks) now is_quiet = sound_more _ _ (sound_named s _ (ends
 -- ---- by verdict
 
 sound_opened : (s : Server) (m : Message) (r : CreateRequest) (f : ℕ) → (deletes_on_close r.options ≡ true → (f == root)
-    ≡ false) → (u : Option Durable) → keeps_root f (new_open s m r u) ≡ true
+    ≡ false) → (access : ℕ) (u : Option Durable) → keeps_root f (new_open s m r access u) ≡ true
 unfolding new_open
-sound_opened s m r f off None = refl
-sound_opened s m r f off (Some d) = either (λ n. keeps_root f n ≡ true) d.persistent _ _ (λ _. grind arith) (λ _. refl)
+sound_opened s m r f off access None = refl
+sound_opened s m r f off access (Some d) = either (λ n. keeps_root f n ≡ true) d.persistent _ _ (λ _. grind arith) (λ _. refl)
 
 sound_create : (s : Server) (m : Message) (r : CreateRequest) (found : Option ℕ) (action now : ℕ)
     → (deletes_on_close r.options ≡ true → (new_file s found == root) ≡ false)
@@ -74,7 +74,7 @@ sound_create : (s : Server) (m : Message) (r : CreateRequest) (found : Option �
 unfolding create_records
 sound_create s m r found action now off =
     either (λ rs. all_sound rs ≡ true) ((action == 1) && not (is_persistent r.durable)) _ _ (λ _. sound_none)
-    (λ _. sound_one _ (sound_opened s m r (new_file s found) off r.durable))
+    (λ _. sound_one _ (sound_opened s m r (new_file s found) off (granted s (new_file s found) r.access) r.durable))
 
 number_off : (n : ℕ) → Rattle.std.proofs.Common.◌<◌ 0 n → (n == root) ≡ false
 number_off n l = grind arith
@@ -119,4 +119,4 @@ applied_sound s m now (Begin session user previous r is_quiet) i f = sound_named
 applied_sound s m now (Join session) i f = sound_none
 applied_sound s m now (EndSession session is_quiet) i f = sound_end s (origin_of m) session is_quiet
 applied_sound s m now (AddTree pipes) i f = sound_none
-applied_sound s m now DropTree i f = sound_none
+applied_sound s m now DropTree i f = sound_leave_all s (origin_of m) (opens_of_tree s m.session_id m.tree_id)

@@ -37,7 +37,7 @@ deleted_by s m now (Begin session user previous r is_quiet) = λ e. absurd (cc)
 deleted_by s m now (Join session) = λ e. refl
 deleted_by s m now (EndSession session is_quiet) = λ e. absurd (cc)
 deleted_by s m now (AddTree pipes) = λ e. refl
-deleted_by s m now DropTree = λ e. refl
+deleted_by s m now DropTree = λ e. absurd (cc)
 
 deleted_step : (s : Server) (now : ℕ) (m : Message) → DeletedIsQuiet (step s now (Heard m))
 deleted_step s now m = by_verdict DeletedIsQuiet s now m (λ t v records b f. deleted_by t m now v)

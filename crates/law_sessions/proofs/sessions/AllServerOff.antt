@@ -4,9 +4,7 @@ use Rattle.spec_exchange.specs.State.{Server}
 use Rattle.spec_exchange.specs.Client.{Client}
 use Rattle.spec_exchange.specs.Network.{Conn, server_off}
 use Rattle.law_sessions.proofs.messages.Lists.{get-push}
-use Rattle.law_sessions.specs.sessions.Sessions.{Sessions, CurrentUp, CurrentDown, RankedUp, FromClient, SequencesUp, WorkUp}
-use Rattle.law_sessions.specs.sessions.Sessions.{DialogUp, LogonUp, FirstUp, SecondUp, TreeConnectUp, AskedFresh, FirstReply}
-use Rattle.law_sessions.specs.sessions.Sessions.{SecondReply, TreeUp, TreeReply}
+use Rattle.law_sessions.specs.sessions.Sessions.{Sessions, CurrentUp, CurrentDown, RankedUp, FromClient, SequencesUp, WorkUp, DialogUp, LogonUp, FirstUp, SecondUp, TreeConnectUp, AskedFresh, FirstReply, SecondReply, TreeUp, TreeReply, SentTrees}
 
 all_server_off_current_up : (c : Client) (conns : ℕ → Conn) (s : Server) → CurrentUp c conns → CurrentUp c (λ q. server_off (conns q))
 all_server_off_current_up c conns s i_current_up =
@@ -48,8 +46,7 @@ all_server_off_second_up : (c : Client) (conns : ℕ → Conn) (s : Server) → 
 all_server_off_second_up c conns s i_second_up =
     λ j n x. let old = i_second_up j n x in grind (arith, get-push)
 
-all_server_off_tree_connect_up : (c : Client) (conns : ℕ → Conn) (s : Server) → TreeConnectUp c conns
-    → TreeConnectUp c (λ q. server_off (conns q))
+all_server_off_tree_connect_up : (c : Client) (conns : ℕ → Conn) (s : Server) → TreeConnectUp c conns → TreeConnectUp c (λ q. server_off (conns q))
 all_server_off_tree_connect_up c conns s i_tree_connect_up =
     λ j n x. let old = i_tree_connect_up j n x in grind (arith, get-push)
 
@@ -57,13 +54,11 @@ all_server_off_asked_fresh : (c : Client) (conns : ℕ → Conn) (s : Server) �
 all_server_off_asked_fresh c conns s i_asked_fresh =
     λ p j n x. let old = i_asked_fresh p j n x in grind (arith, get-push)
 
-all_server_off_first_reply : (c : Client) (conns : ℕ → Conn) (s : Server) → FirstReply c conns s
-    → FirstReply c (λ q. server_off (conns q)) s
+all_server_off_first_reply : (c : Client) (conns : ℕ → Conn) (s : Server) → FirstReply c conns s → FirstReply c (λ q. server_off (conns q)) s
 all_server_off_first_reply c conns s i_first_reply =
     λ j n y. let old = i_first_reply j n y in grind (arith, get-push)
 
-all_server_off_second_reply : (c : Client) (conns : ℕ → Conn) (s : Server) → SecondReply c conns s
-    → SecondReply c (λ q. server_off (conns q)) s
+all_server_off_second_reply : (c : Client) (conns : ℕ → Conn) (s : Server) → SecondReply c conns s → SecondReply c (λ q. server_off (conns q)) s
 all_server_off_second_reply c conns s i_second_reply =
     λ j n y. let old = i_second_reply j n y in grind (arith, get-push)
 
@@ -74,6 +69,10 @@ all_server_off_tree_up c conns s i_tree_up =
 all_server_off_tree_reply : (c : Client) (conns : ℕ → Conn) (s : Server) → TreeReply c conns s → TreeReply c (λ q. server_off (conns q)) s
 all_server_off_tree_reply c conns s i_tree_reply =
     λ j n y. let old = i_tree_reply j n y in grind (arith, get-push)
+
+all_server_off_sent_trees : (c : Client) (conns : ℕ → Conn) (s : Server) → SentTrees c conns → SentTrees c (λ q. server_off (conns q))
+all_server_off_sent_trees c conns s i_sent_trees =
+    λ j n x. let old = i_sent_trees j n x in grind (arith, get-push)
 
 pub all_server_off_keeps : (c : Client) (conns : ℕ → Conn) (s : Server) → Sessions c conns s → Sessions c (λ q. server_off (conns q)) s
 all_server_off_keeps c conns s i =
@@ -111,4 +110,7 @@ all_server_off_keeps c conns s i =
       tree_up = all_server_off_tree_up c conns s i.tree_up;
       tree_live = i.tree_live;
       tree_reply = all_server_off_tree_reply c conns s i.tree_reply;
+      sent_trees = all_server_off_sent_trees c conns s i.sent_trees;
+      asked_new = i.asked_new;
+      open_trees = i.open_trees;
     }

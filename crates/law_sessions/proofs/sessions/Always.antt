@@ -25,8 +25,9 @@ begins_new z = anew z.who.guid (logon_user z.who.logon) (blank_server z) [] (fol
 sits_at_first : (z : Settings) (s : Server) → ((x : ℕ) → s.present x ≡ false) → ((k : ℕ) → s.making k ≡ None)
     → ((o : ℕ) → s.standing o ≡ true → (s.opened o).user ≡ logon_user z.who.logon × (s.opened o).client_guid
     ≡ z.who.guid)
+    → ((o : ℕ) → s.session_of_open o ≡ None)
     → Sessions (new_client z.who) (λ k. no_conn) s
-sits_at_first z s present making opens =
+sits_at_first z s present making opens unattached =
     record {
       live_accepted = λ l. absurd (cc);
       session_ranked = λ l. absurd (omega (arith, l));
@@ -61,18 +62,21 @@ sits_at_first z s present making opens =
       tree_up = λ k n x h. absurd (cc);
       tree_live = λ l. absurd (cc);
       tree_reply = λ k n y h. absurd (cc);
+      sent_trees = λ k n x h. absurd (cc);
+      asked_new = λ k e. absurd (cc);
+      open_trees = λ o x h. absurd (let n = unattached o in cc);
     }
 
 begins : (z : Settings) → SessionsHold (start z)
 begins z =
     let a = begins_new z in
     record {
-      sits = sits_at_first z (start z).server a.folds.present a.folds.making a.folds.opens;
-      stored = record { epoch = refl; present = a.folds.present; making = a.folds.making; opens = a.folds.opens };
+      sits = sits_at_first z (start z).server a.folds.present a.folds.making a.folds.opens a.folds.attached;
+      stored = record { epoch = refl; present = a.folds.present; making = a.folds.making; opens = a.folds.opens; attached = a.folds.attached };
     }
 
 bounds_of : (s : Server) → Fits s → Bounds s
-bounds_of s f = record { on_present = f.on_present; making_once = f.making_once; begun = f.begun }
+bounds_of s f = record { on_present = f.on_present; making_once = f.making_once; begun = f.begun; attached = f.attached }
 
 behind : (z : Settings) (es : List Event) (k : ℕ) → (happens (run es (start z)) (Serve k)).server.session_ids_given ≤ max_ids
 behind z es k = subst (λ w. w.server.session_ids_given ≤ max_ids) (run_more es (Serve k) (start z)) (fitting z (es ++ Serve k ∷ [])).begun

@@ -11,10 +11,12 @@ use Rattle.spec_exchange.specs.CheckSetup.{is_new, tree_in, previous_of}
 use Rattle.spec_exchange.specs.Opens.{leave_open}
 use Rattle.spec_exchange.specs.CheckOpen.{file_of}
 use Rattle.spec_exchange.specs.Effects.{apply, next_session, next_open, reach, set_ranges, file_made, end_if_named, open_row, new_file}
+use Rattle.spec_exchange.specs.Effects.{opens_of_tree}
 use Rattle.spec_exchange.specs.Verdict.{Verdict, Refuse, Give, KeepRefusal, Repeat, Attach, Make, TurnDown, Tell, Show}
 use Rattle.spec_exchange.specs.Verdict.{KeepSlot, PutRanges, Alter, CloseOpen, Challenge, ChallengeBinding, Begin, Join}
 use Rattle.spec_exchange.specs.Verdict.{EndSession, AddTree, DropTree}
 use Rattle.law_server.proofs.tables.Doors.{recorded}
+use Rattle.law_server.proofs.tables.Closing.{closed_beside, closed_fewer}
 use Rattle.law_sessions.specs.sessions.Sessions.{is_new_setup, is_tree_connect, is_logon, logon_user, logs_on, user_in, previous_in}
 use Rattle.law_sessions.proofs.sessions.Checks.{Found, Begun, asks}
 use Rattle.law_sessions.proofs.sessions.Columns.{Stays, stays_same, stays_so, stays_reached, stays_attached, stays_kept}
@@ -239,8 +241,11 @@ unasked P c e = ap asks e
 dropped_tree : (s : Server) (m : Message) (now : ℕ) (records : List Record) → m.command ≡ TreeDisconnect
     → Facts s m (recorded (apply s m now DropTree) records)
 dropped_tree s m now records is =
-    silent_facts s m (recorded (apply s m now DropTree) records) (unasked ℕ m.command is) (λ x p. p) refl (λ k y e. e)
-    refl refl refl (λ x id p n h. absurd (n is)) (λ o e. e) refl
+    let os = opens_of_tree s m.session_id m.tree_id in let b = closed_beside s m.session_id os in
+    silent_facts s m (recorded (apply s m now DropTree) records) (unasked ℕ m.command is)
+    (λ x p. ap (λ (f : ℕ → Bool). f x) (sym b.present) ∙ p) b.user
+    (λ k y e. ap (λ (f : ℕ → Option Making). is_new y (f k)) (sym b.making) ∙ e) b.epoch b.session_ids_given refl
+    (λ x id p n h. absurd (n is)) (λ o e. (closed_fewer s m.session_id os).standing o e) b.opened
 
 more_trees : (ts : List Tree) (t : Tree) (id : ℕ) → is_some (tree_in ts id) ≡ true → is_some (tree_in (ts ++ t ∷ []) id) ≡ true
 more_trees [] t id e = absurd (cc)

@@ -4,8 +4,7 @@ use Rattle.spec_exchange.specs.State.{Server}
 use Rattle.spec_exchange.specs.Client.{Client, bind_channel}
 use Rattle.spec_exchange.specs.Network.{Conn}
 use Rattle.law_sessions.proofs.messages.Lists.{get-push}
-use Rattle.law_sessions.specs.sessions.Sessions.{Sessions, Making, PendingAccepted, PendingUnranked, FirstUp, SecondUp}
-use Rattle.law_sessions.specs.sessions.Sessions.{TreeConnectUp, AskedFresh, PendingGiven, FirstReply, SecondReply, TreeReply}
+use Rattle.law_sessions.specs.sessions.Sessions.{Sessions, Making, PendingAccepted, PendingUnranked, FirstUp, SecondUp, TreeConnectUp, AskedFresh, PendingGiven, FirstReply, SecondReply, TreeReply, AskedNew}
 
 bound_making : (c : Client) (conns : ℕ → Conn) (s : Server) (k : ℕ) → Making c → Making (bind_channel c k)
 bound_making c conns s k i_making =
@@ -27,8 +26,7 @@ bound_second_up : (c : Client) (conns : ℕ → Conn) (s : Server) (k : ℕ) →
 bound_second_up c conns s k i_second_up =
     λ j n x. let old = i_second_up j n x in grind (arith, get-push)
 
-bound_tree_connect_up : (c : Client) (conns : ℕ → Conn) (s : Server) (k : ℕ) → TreeConnectUp c conns
-    → TreeConnectUp (bind_channel c k) conns
+bound_tree_connect_up : (c : Client) (conns : ℕ → Conn) (s : Server) (k : ℕ) → TreeConnectUp c conns → TreeConnectUp (bind_channel c k) conns
 bound_tree_connect_up c conns s k i_tree_connect_up =
     λ j n x. let old = i_tree_connect_up j n x in grind (arith, get-push)
 
@@ -51,6 +49,10 @@ bound_second_reply c conns s k i_second_reply =
 bound_tree_reply : (c : Client) (conns : ℕ → Conn) (s : Server) (k : ℕ) → TreeReply c conns s → TreeReply (bind_channel c k) conns s
 bound_tree_reply c conns s k i_tree_reply =
     λ j n y. let old = i_tree_reply j n y in grind (arith, get-push)
+
+bound_asked_new : (c : Client) (conns : ℕ → Conn) (s : Server) (k : ℕ) → AskedNew c → AskedNew (bind_channel c k)
+bound_asked_new c conns s k i_asked_new =
+    λ p. let old = i_asked_new p in grind arith
 
 pub bound_keeps : (c : Client) (conns : ℕ → Conn) (s : Server) (k : ℕ) → Sessions c conns s → Sessions (bind_channel c k) conns s
 bound_keeps c conns s k i =
@@ -88,4 +90,7 @@ bound_keeps c conns s k i =
       tree_up = i.tree_up;
       tree_live = i.tree_live;
       tree_reply = bound_tree_reply c conns s k i.tree_reply;
+      sent_trees = i.sent_trees;
+      asked_new = bound_asked_new c conns s k i.asked_new;
+      open_trees = i.open_trees;
     }

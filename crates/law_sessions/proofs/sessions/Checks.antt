@@ -371,4 +371,4 @@ found_full s m (Begin session user previous r is_quiet) f = f
 found_full s m (Join session) f = f
 found_full s m (EndSession session is_quiet) f = f
 found_full s m (AddTree pipes) f = f
-found_full s m DropTree f = f
+found_full s m DropTree f = λ a e. (refl, refl)

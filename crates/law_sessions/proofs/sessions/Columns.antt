@@ -1,9 +1,12 @@
 -- Which effects of the server leave the columns of sessions as they are, and make no open.
+use Rattle.spec_exchange.specs.Effects.{close_all}
+use Rattle.law_server.proofs.tables.Closing.{closed_beside, closed_fewer}
 use Rattle.std.proofs.Common.{◌≡◌, ℕ, Bool, true, false, List, refl, arith, ◌∙◌, Option, Some, None, is_some}
 use Rattle.spec_exchange.specs.Table.{put}
 use Rattle.spec_exchange.specs.Commands.{CreateRequest, deletes_on_close}
 use Rattle.spec_exchange.specs.State.{Server, Message, Range}
 use Rattle.spec_exchange.specs.Files.{set_delete_pending, remove_file, empty_file}
+use Rattle.spec_exchange.specs.Files.{file_attributes}
 use Rattle.spec_exchange.specs.Opens.{drop_open, leave_open, pending_behind, without_gone, goes}
 use Rattle.spec_exchange.specs.CheckCreate.{empties}
 use Rattle.spec_exchange.specs.CheckOpen.{is_late, is_slot}
@@ -201,6 +204,23 @@ stays_closed s session (Some g) = record {
   standing = λ q e. e;
 }
 
+pub stays_all_closed : (s : Server) (session : ℕ) (os : List ℕ) → Stays s (close_all s session os)
+stays_all_closed s session os =
+    let b = closed_beside s session os in
+    record {
+      present = b.present;
+      user = b.user;
+      trees = b.trees;
+      next_tree = b.next_tree;
+      epoch = b.epoch;
+      open_ids_given = b.open_ids_given;
+      session_ids_given = b.session_ids_given;
+      making = b.making;
+      session_on = b.session_on;
+      opened = b.opened;
+      standing = (closed_fewer s session os).standing;
+    }
+
 pub stays_changed : (s : Server) (f now : ℕ) (change : Change) → Stays s (change_file s f now change)
 stays_changed s f now (PutBytes at bytes) = record {
   present = refl;
@@ -284,7 +304,7 @@ stays_made s r None now = record {
   standing = λ q e. e;
 }
 stays_made s r (Some f) now =
-    either (λ t. Stays s t) (empties r.disposition) (empty_file s f r.attributes now) s
+    either (λ t. Stays s t) (empties r.disposition) (empty_file s f (file_attributes r.attributes) now) s
     (λ _. record {
       present = refl;
       user = refl;

@@ -13,11 +13,12 @@ use Rattle.spec_exchange.specs.Fold.{fold, recovered_from, recovery_records}
 use Rattle.spec_exchange.specs.Client.{Client}
 use Rattle.law_server.proofs.tables.Doors.{Before}
 use Rattle.law_server.proofs.tables.Logic.{either}
-use Rattle.law_sessions.specs.sessions.Sessions.{MakingUnranked, SessionUsers, OpenUsers, logon_user}
+use Rattle.law_sessions.specs.sessions.Sessions.{MakingUnranked, SessionUsers, OpenUsers, OpenTrees, logon_user}
 use Rattle.law_sessions.proofs.sessions.Words.{Moves}
 use Rattle.law_sessions.proofs.sessions.Columns.{Stays}
 use Rattle.law_sessions.proofs.sessions.Answers.{ends, none_elsewhere}
 use Rattle.law_sessions.proofs.sessions.Heard.{before_stays}
+use Rattle.law_sessions.proofs.sessions.Trees.{Tied, tied_so, named_tied, before_tied}
 use Rattle.law_sessions.proofs.sessions.Written.{Folds, anew}
 use Rattle.law_sessions.proofs.sessions.Owed.{Rules, connects, connects_by, takes_in}
 
@@ -31,9 +32,10 @@ pub record Falls (s u : Server) : Type 0 where
   pub trees : (x id : ℕ) → u.present x ≡ true → is_some (tree_in (s.trees x) id) ≡ true → is_some (tree_in (u.trees x) id) ≡ true
   pub standing : (o : ℕ) → u.standing o ≡ true → s.standing o ≡ true
   pub opened : u.opened ≡ s.opened
+  pub attached : Tied s u
 
-falls_stays : (s t u : Server) → Stays s t → Falls t u → Falls s u
-falls_stays s t u q f =
+falls_stays : (s t u : Server) → Stays s t → Tied s t → Falls t u → Falls s u
+falls_stays s t u q a f =
     record {
       present = λ x p. ap (λ g. g x) (sym q.present) ∙ f.present x p;
       user = f.user ∙ q.user;
@@ -43,6 +45,7 @@ falls_stays s t u q f =
       trees = λ x id p h. f.trees x id p (ap (λ g. is_some (tree_in (g x) id)) q.trees ∙ h);
       standing = λ o e. q.standing o (f.standing o e);
       opened = f.opened ∙ q.opened;
+      attached = tied_so s t u a f.attached;
     }
 
 falls_written : (s u : Server) (j : ℕ) → Falls s u → Falls s (record u { journal = j })
@@ -56,6 +59,7 @@ falls_written s u j f =
       trees = f.trees;
       standing = f.standing;
       opened = f.opened;
+      attached = f.attached;
     }
 
 falls_out : (s : Server) (now k : ℕ) (is_quiet : Bool) → Falls s (take_out s k now is_quiet)
@@ -70,6 +74,7 @@ falls_out s now k is_quiet =
       trees = q.trees;
       standing = q.standing;
       opened = q.opened;
+      attached = named_tied s now (ends_with s k) is_quiet;
     }
 
 falls_rule : (s : Server) (now : ℕ) (r : Ruling) → connects r ≡ true → Falls s (carried_out s now r).server
@@ -82,6 +87,7 @@ falls_rule s now (TakesIn k) c = record {
   trees = λ x id p h. h;
   standing = λ o e. e;
   opened = refl;
+  attached = λ o x h. (h, refl);
 }
 falls_rule s now TurnsAway c = record {
   present = λ x p. p;
@@ -92,6 +98,7 @@ falls_rule s now TurnsAway c = record {
   trees = λ x id p h. h;
   standing = λ o e. e;
   opened = refl;
+  attached = λ o x h. (h, refl);
 }
 falls_rule s now (TakesOut k is_quiet) c = falls_out s now k is_quiet
 falls_rule s now _ c = absurd (cc)
@@ -120,7 +127,7 @@ falls_step : (s : Server) (now : ℕ) (e : ServerEvent) → ((t : Server) → co
 falls_step s now e c =
     let d = with_deadlines s now in let B = expiring d now e (due d now) in
     falls_written s B.server _
-    (falls_expiring s now e (λ t r q h. falls_stays s t (carried_out t now r).server (before_stays s now t q)
+    (falls_expiring s now e (λ t r q h. falls_stays s t (carried_out t now r).server (before_stays s now t q) (before_tied s now t q)
     (falls_rule t now r (connects_by t e r (c t) h))) (due d now) refl)
 
 pub falls_accept : (s : Server) (now k : ℕ) → Falls s (step s now (Accept k)).server
@@ -134,13 +141,14 @@ falls_end s now k = falls_step s now (End k) (λ t. refl)
 same_given : (e d n b : ℕ) → d ≡ e → b ≡ n → id_of e n ≤ id_of d b
 same_given e d n b a c = omega (arith, a, c)
 
-pub moves_falls : (c : Client) (s u : Server) → Falls s u → MakingUnranked c s → SessionUsers c s → OpenUsers c s → Moves c s u
-moves_falls c s u f unranked users opens =
+pub moves_falls : (c : Client) (s u : Server) → Falls s u → MakingUnranked c s → SessionUsers c s → OpenUsers c s → OpenTrees c s → Moves c s u
+moves_falls c s u f unranked users opens trees =
     record {
       present = λ x r p. f.present x p;
       users = λ x p. ap (λ g. g x) f.user ∙ users x (f.present x p);
       opens = λ o h. subst (λ g. (g o).user ≡ logon_user c.who.logon × (g o).client_guid ≡ c.who.guid) (sym f.opened)
           (opens o (f.standing o h));
+      attached = λ o x h. let a = f.attached o x h in let old = trees o x a.0 in (old.0, old.1, a.1 ∙ old.2);
       making = λ k y l e. f.making k y e;
       unranked = λ k y e. unranked k y (f.making k y e);
       ids = same_given s.epoch u.epoch s.session_ids_given u.session_ids_given f.epoch f.session_ids_given;
@@ -158,6 +166,9 @@ never b e f P = absurd (cc)
 none_made : (k y : ℕ) (f : ℕ → Option Making) → f k ≡ None → is_new y (f k) ≡ true → (P : Type 0) → P
 none_made k y f e h P = absurd (grind arith)
 
+unattached_of : (u : Option ℕ) (x : ℕ) → u ≡ None → u ≡ Some x → ⊥
+unattached_of u x e f = cc
+
 pub moves_restart : (c : Client) (s : Server) (rs : List Record) → s.session_ids_given ≤ max_ids
     → Folds c.who.guid (logon_user c.who.logon) s.epoch (fold rs) → Moves c s (recovered_from s rs)
 moves_restart c s rs l f =
@@ -166,6 +177,7 @@ moves_restart c s rs l f =
       present = λ x r p. never (d.present x) (a.folds.present x) p _;
       users = λ x p. never (d.present x) (a.folds.present x) p _;
       opens = a.folds.opens;
+      attached = λ o x h. absurd (unattached_of (d.session_of_open o) x (a.folds.attached o) h);
       making = λ k y m e. none_made k y d.making (a.folds.making k) e _;
       unranked = λ k y e. none_made k y d.making (a.folds.making k) e _;
       ids = later_ids s.epoch d.epoch s.session_ids_given d.session_ids_given l a.folds.epoch a.session_ids_given;

@@ -124,36 +124,37 @@ pub record Tells (w : World) (k : ℕ) (r : Reply) : Type 0 where
   pub tree : w.client.stage k ≡ AskedTree → r.status ≡ success → w.server.present w.client.accepted ≡ true
       → is_some (tree_in (w.server.trees w.client.accepted) r.tree_id) ≡ true
 
-pub took_dialog : (w : World) (k : ℕ) (r : Reply) → copies 0 (w.conns k) ≡ 0 → Tells w k r → SessionsFit w → (t : Stage)
+pub took_dialog : (w : World) (k : ℕ) (r : Reply) → copies 0 (w.conns k) ≡ 0 → Tells w k r
+    → ((o x : ℕ) → w.server.session_of_open o ≡ Some x → w.server.present x ≡ true) → SessionsFit w → (t : Stage)
     → w.client.stage k ≡ t → SessionsFit (dialog_took w k r (dialog_step t r.status))
-took_dialog w k r none tells i Apart at = turned_down w k r r.status i
-took_dialog w k r none tells i (SaidNegotiate bound) at =
+took_dialog w k r none tells there i Apart at = turned_down w k r r.status i
+took_dialog w k r none tells there i (SaidNegotiate bound) at =
     either (λ d. SessionsFit (dialog_took w k r d)) (r.status == success) (GoesOn (SaidFirst bound)) (Refuses r.status)
     (λ _. went w k (SaidFirst bound) none (λ m. i.making k (ap makes_session at ∙ m)) (no_first bound) (no_tree bound)
     i) (λ _. turned_down w k r r.status i)
-took_dialog w k r none tells i (SaidFirst true) at =
+took_dialog w k r none tells there i (SaidFirst true) at =
     either (λ d. SessionsFit (dialog_took w k r d)) (r.status == more_processing_required) (GoesOn (SaidSecond true)) (Refuses r.status)
     (λ _. went w k (SaidSecond true) none (λ m. absurd (cc)) bound_second bound_tree i) (λ _. turned_down w k r r.status i)
-took_dialog w k r none tells i (SaidFirst false) at =
+took_dialog w k r none tells there i (SaidFirst false) at =
     let c = record w.client { stage = put w.client.stage k (SaidSecond false); pending = r.session_id } in
     either (λ d. SessionsFit (dialog_took w k r d)) (r.status == more_processing_required) (GoesOn (SaidSecond false)) (Refuses r.status)
     (λ e. let u = tells.first at (eqb-true r.status more_processing_required e) in
     sends c w.conns w.server k (w.conns k).next_id (SaidSecond false) (put_stage w.client.stage k (SaidSecond false)) none
     (told_keeps w.client w.conns w.server k r.session_id none (i.making k (ap makes_session at)) u.0 u.1 u.2 i))
     (λ _. turned_down w k r r.status i)
-took_dialog w k r none tells i (SaidSecond true) at =
+took_dialog w k r none tells there i (SaidSecond true) at =
     either (λ d. SessionsFit (dialog_took w k r d)) (r.status == success) Binds (Refuses r.status)
     (λ _. ended_well SessionsFit w k w.client.session w.client.tree (λ live. bound_keeps w.client w.conns w.server k i)
     (λ dead newer. absurd (omega (arith, newer))) (failed w k i)) (λ _. turned_down w k r r.status i)
-took_dialog w k r none tells i (SaidSecond false) at =
+took_dialog w k r none tells there i (SaidSecond false) at =
     either (λ d. SessionsFit (dialog_took w k r d)) (r.status == success) Accepts (Refuses r.status)
     (λ e. let u = tells.second at (eqb-true r.status success e) in
     sends (accepted w.client k) w.conns w.server k (w.conns k).next_id AskedTree (put_stage w.client.stage k AskedTree) none
     (accepted_keeps w.client w.conns w.server k none at u.0 u.1 i))
     (λ _. turned_down w k r r.status i)
-took_dialog w k r none tells i AskedTree at =
+took_dialog w k r none tells there i AskedTree at =
     either (λ d. SessionsFit (dialog_took w k r d)) (r.status == success) Readies (Refuses r.status)
     (λ e. ended_well SessionsFit w k w.client.pending r.tree_id
     (λ live. absurd (not_making w.client.making k (i.live_accepted live).2 (i.making k (ap makes_session at))))
-    (λ dead newer. readied_keeps w.client w.conns w.server k r none at (tells.tree at (eqb-true r.status success e)) i) (failed w k i))
+    (λ dead newer. readied_keeps w.client w.conns w.server k r none at (tells.tree at (eqb-true r.status success e)) there i) (failed w k i))
     (λ _. turned_down w k r r.status i)

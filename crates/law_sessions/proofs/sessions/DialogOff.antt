@@ -5,178 +5,101 @@ use Rattle.spec_exchange.specs.State.{Server}
 use Rattle.spec_exchange.specs.Client.{Client, Apart, RefusedDialog, unmade}
 use Rattle.spec_exchange.specs.Network.{Conn, client_off}
 use Rattle.law_sessions.proofs.messages.Lists.{get-push}
-use Rattle.law_sessions.specs.sessions.Sessions.{Sessions, LiveAccepted, Making, PendingAccepted, PendingUnranked, CurrentUp}
-use Rattle.law_sessions.specs.sessions.Sessions.{CurrentDown, RankedUp, FromClient, SequencesUp, WorkUp, DialogUp, LogonUp}
-use Rattle.law_sessions.specs.sessions.Sessions.{FirstUp, SecondUp, TreeConnectUp, AskedFresh, PendingGiven, FirstReply}
-use Rattle.law_sessions.specs.sessions.Sessions.{SecondReply, TreeUp, TreeReply}
+use Rattle.law_sessions.specs.sessions.Sessions.{Sessions, LiveAccepted, Making, PendingAccepted, PendingUnranked, CurrentUp, CurrentDown, RankedUp, FromClient, SequencesUp, WorkUp, DialogUp, LogonUp, FirstUp, SecondUp, TreeConnectUp, AskedFresh, PendingGiven, FirstReply, SecondReply, TreeUp, TreeReply, SentTrees, AskedNew}
 
-dialog_off_live_accepted : (c : Client) (conns : ℕ → Conn) (s : Server) (k : ℕ) (rs : List RefusedDialog)
-    → LiveAccepted c → LiveAccepted (record c {
-      stage = put c.stage k Apart;
-      making = unmade k c.making;
-      refusals = rs;
-    })
+dialog_off_live_accepted : (c : Client) (conns : ℕ → Conn) (s : Server) (k : ℕ) (rs : List RefusedDialog) → LiveAccepted c → LiveAccepted (record c { stage = put c.stage k Apart; making = unmade k c.making; refusals = rs })
 dialog_off_live_accepted c conns s k rs i_live_accepted =
     let old = i_live_accepted in grind arith
 
-dialog_off_making : (c : Client) (conns : ℕ → Conn) (s : Server) (k : ℕ) (rs : List RefusedDialog) → Making c
-    → Making (record c { stage = put c.stage k Apart; making = unmade k c.making; refusals = rs })
+dialog_off_making : (c : Client) (conns : ℕ → Conn) (s : Server) (k : ℕ) (rs : List RefusedDialog) → Making c → Making (record c { stage = put c.stage k Apart; making = unmade k c.making; refusals = rs })
 dialog_off_making c conns s k rs i_making =
     λ p. let old = i_making p in grind arith
 
-dialog_off_pending_accepted : (c : Client) (conns : ℕ → Conn) (s : Server) (k : ℕ) (rs : List RefusedDialog)
-    → PendingAccepted c → PendingAccepted (record c {
-      stage = put c.stage k Apart;
-      making = unmade k c.making;
-      refusals = rs;
-    })
+dialog_off_pending_accepted : (c : Client) (conns : ℕ → Conn) (s : Server) (k : ℕ) (rs : List RefusedDialog) → PendingAccepted c → PendingAccepted (record c { stage = put c.stage k Apart; making = unmade k c.making; refusals = rs })
 dialog_off_pending_accepted c conns s k rs i_pending_accepted =
     λ p. let old = i_pending_accepted p in grind arith
 
-dialog_off_pending_unranked : (c : Client) (conns : ℕ → Conn) (s : Server) (k : ℕ) (rs : List RefusedDialog)
-    → PendingUnranked c → PendingUnranked (record c {
-      stage = put c.stage k Apart;
-      making = unmade k c.making;
-      refusals = rs;
-    })
+dialog_off_pending_unranked : (c : Client) (conns : ℕ → Conn) (s : Server) (k : ℕ) (rs : List RefusedDialog) → PendingUnranked c → PendingUnranked (record c { stage = put c.stage k Apart; making = unmade k c.making; refusals = rs })
 dialog_off_pending_unranked c conns s k rs i_pending_unranked =
     λ p. let old = i_pending_unranked p in grind arith
 
-dialog_off_current_up : (c : Client) (conns : ℕ → Conn) (s : Server) (k : ℕ) (rs : List RefusedDialog)
-    → CurrentUp c conns → CurrentUp (record c {
-      stage = put c.stage k Apart;
-      making = unmade k c.making;
-      refusals = rs;
-    }) (put conns k (client_off (conns k)))
+dialog_off_current_up : (c : Client) (conns : ℕ → Conn) (s : Server) (k : ℕ) (rs : List RefusedDialog) → CurrentUp c conns → CurrentUp (record c { stage = put c.stage k Apart; making = unmade k c.making; refusals = rs }) (put conns k (client_off (conns k)))
 dialog_off_current_up c conns s k rs i_current_up =
     λ j n x. let old = i_current_up j n x in grind (arith, get-push)
 
-dialog_off_current_down : (c : Client) (conns : ℕ → Conn) (s : Server) (k : ℕ) (rs : List RefusedDialog)
-    → CurrentDown c conns → CurrentDown (record c {
-      stage = put c.stage k Apart;
-      making = unmade k c.making;
-      refusals = rs;
-    }) (put conns k (client_off (conns k)))
+dialog_off_current_down : (c : Client) (conns : ℕ → Conn) (s : Server) (k : ℕ) (rs : List RefusedDialog) → CurrentDown c conns → CurrentDown (record c { stage = put c.stage k Apart; making = unmade k c.making; refusals = rs }) (put conns k (client_off (conns k)))
 dialog_off_current_down c conns s k rs i_current_down =
     λ j n y. let old = i_current_down j n y in grind (arith, get-push)
 
-dialog_off_ranked_up : (c : Client) (conns : ℕ → Conn) (s : Server) (k : ℕ) (rs : List RefusedDialog) → RankedUp c conns
-    → RankedUp (record c { stage = put c.stage k Apart; making = unmade k c.making; refusals = rs })
-    (put conns k (client_off (conns k)))
+dialog_off_ranked_up : (c : Client) (conns : ℕ → Conn) (s : Server) (k : ℕ) (rs : List RefusedDialog) → RankedUp c conns → RankedUp (record c { stage = put c.stage k Apart; making = unmade k c.making; refusals = rs }) (put conns k (client_off (conns k)))
 dialog_off_ranked_up c conns s k rs i_ranked_up =
     λ j n x. let old = i_ranked_up j n x in grind (arith, get-push)
 
-dialog_off_from_client : (c : Client) (conns : ℕ → Conn) (s : Server) (k : ℕ) (rs : List RefusedDialog)
-    → FromClient c conns → FromClient (record c {
-      stage = put c.stage k Apart;
-      making = unmade k c.making;
-      refusals = rs;
-    }) (put conns k (client_off (conns k)))
+dialog_off_from_client : (c : Client) (conns : ℕ → Conn) (s : Server) (k : ℕ) (rs : List RefusedDialog) → FromClient c conns → FromClient (record c { stage = put c.stage k Apart; making = unmade k c.making; refusals = rs }) (put conns k (client_off (conns k)))
 dialog_off_from_client c conns s k rs i_from_client =
     λ j n x. let old = i_from_client j n x in grind (arith, get-push)
 
-dialog_off_sequences_up : (c : Client) (conns : ℕ → Conn) (s : Server) (k : ℕ) (rs : List RefusedDialog)
-    → SequencesUp c conns → SequencesUp (record c {
-      stage = put c.stage k Apart;
-      making = unmade k c.making;
-      refusals = rs;
-    }) (put conns k (client_off (conns k)))
+dialog_off_sequences_up : (c : Client) (conns : ℕ → Conn) (s : Server) (k : ℕ) (rs : List RefusedDialog) → SequencesUp c conns → SequencesUp (record c { stage = put c.stage k Apart; making = unmade k c.making; refusals = rs }) (put conns k (client_off (conns k)))
 dialog_off_sequences_up c conns s k rs i_sequences_up =
     λ j n x. let old = i_sequences_up j n x in grind (arith, get-push)
 
-dialog_off_work_up : (c : Client) (conns : ℕ → Conn) (s : Server) (k : ℕ) (rs : List RefusedDialog) → WorkUp conns
-    → WorkUp (put conns k (client_off (conns k)))
+dialog_off_work_up : (c : Client) (conns : ℕ → Conn) (s : Server) (k : ℕ) (rs : List RefusedDialog) → WorkUp conns → WorkUp (put conns k (client_off (conns k)))
 dialog_off_work_up c conns s k rs i_work_up =
     λ j n x. let old = i_work_up j n x in grind (arith, get-push)
 
-dialog_off_dialog_up : (c : Client) (conns : ℕ → Conn) (s : Server) (k : ℕ) (rs : List RefusedDialog) → DialogUp conns
-    → DialogUp (put conns k (client_off (conns k)))
+dialog_off_dialog_up : (c : Client) (conns : ℕ → Conn) (s : Server) (k : ℕ) (rs : List RefusedDialog) → DialogUp conns → DialogUp (put conns k (client_off (conns k)))
 dialog_off_dialog_up c conns s k rs i_dialog_up =
     λ j n x. let old = i_dialog_up j n x in grind (arith, get-push)
 
-dialog_off_logon_up : (c : Client) (conns : ℕ → Conn) (s : Server) (k : ℕ) (rs : List RefusedDialog) → LogonUp c conns
-    → LogonUp (record c { stage = put c.stage k Apart; making = unmade k c.making; refusals = rs })
-    (put conns k (client_off (conns k)))
+dialog_off_logon_up : (c : Client) (conns : ℕ → Conn) (s : Server) (k : ℕ) (rs : List RefusedDialog) → LogonUp c conns → LogonUp (record c { stage = put c.stage k Apart; making = unmade k c.making; refusals = rs }) (put conns k (client_off (conns k)))
 dialog_off_logon_up c conns s k rs i_logon_up =
     λ j n x. let old = i_logon_up j n x in grind (arith, get-push)
 
-dialog_off_first_up : (c : Client) (conns : ℕ → Conn) (s : Server) (k : ℕ) (rs : List RefusedDialog) → FirstUp c conns
-    → FirstUp (record c { stage = put c.stage k Apart; making = unmade k c.making; refusals = rs })
-    (put conns k (client_off (conns k)))
+dialog_off_first_up : (c : Client) (conns : ℕ → Conn) (s : Server) (k : ℕ) (rs : List RefusedDialog) → FirstUp c conns → FirstUp (record c { stage = put c.stage k Apart; making = unmade k c.making; refusals = rs }) (put conns k (client_off (conns k)))
 dialog_off_first_up c conns s k rs i_first_up =
     λ j n x. let old = i_first_up j n x in grind (arith, get-push)
 
-dialog_off_second_up : (c : Client) (conns : ℕ → Conn) (s : Server) (k : ℕ) (rs : List RefusedDialog) → SecondUp c conns
-    → SecondUp (record c { stage = put c.stage k Apart; making = unmade k c.making; refusals = rs })
-    (put conns k (client_off (conns k)))
+dialog_off_second_up : (c : Client) (conns : ℕ → Conn) (s : Server) (k : ℕ) (rs : List RefusedDialog) → SecondUp c conns → SecondUp (record c { stage = put c.stage k Apart; making = unmade k c.making; refusals = rs }) (put conns k (client_off (conns k)))
 dialog_off_second_up c conns s k rs i_second_up =
     λ j n x. let old = i_second_up j n x in grind (arith, get-push)
 
-dialog_off_tree_connect_up : (c : Client) (conns : ℕ → Conn) (s : Server) (k : ℕ) (rs : List RefusedDialog)
-    → TreeConnectUp c conns → TreeConnectUp (record c {
-      stage = put c.stage k Apart;
-      making = unmade k c.making;
-      refusals = rs;
-    }) (put conns k (client_off (conns k)))
+dialog_off_tree_connect_up : (c : Client) (conns : ℕ → Conn) (s : Server) (k : ℕ) (rs : List RefusedDialog) → TreeConnectUp c conns → TreeConnectUp (record c { stage = put c.stage k Apart; making = unmade k c.making; refusals = rs }) (put conns k (client_off (conns k)))
 dialog_off_tree_connect_up c conns s k rs i_tree_connect_up =
     λ j n x. let old = i_tree_connect_up j n x in grind (arith, get-push)
 
-dialog_off_asked_fresh : (c : Client) (conns : ℕ → Conn) (s : Server) (k : ℕ) (rs : List RefusedDialog)
-    → AskedFresh c conns → AskedFresh (record c {
-      stage = put c.stage k Apart;
-      making = unmade k c.making;
-      refusals = rs;
-    }) (put conns k (client_off (conns k)))
+dialog_off_asked_fresh : (c : Client) (conns : ℕ → Conn) (s : Server) (k : ℕ) (rs : List RefusedDialog) → AskedFresh c conns → AskedFresh (record c { stage = put c.stage k Apart; making = unmade k c.making; refusals = rs }) (put conns k (client_off (conns k)))
 dialog_off_asked_fresh c conns s k rs i_asked_fresh =
     λ p j n x. let old = i_asked_fresh p j n x in grind (arith, get-push)
 
-dialog_off_pending_given : (c : Client) (conns : ℕ → Conn) (s : Server) (k : ℕ) (rs : List RefusedDialog)
-    → PendingGiven c s → PendingGiven (record c {
-      stage = put c.stage k Apart;
-      making = unmade k c.making;
-      refusals = rs;
-    }) s
+dialog_off_pending_given : (c : Client) (conns : ℕ → Conn) (s : Server) (k : ℕ) (rs : List RefusedDialog) → PendingGiven c s → PendingGiven (record c { stage = put c.stage k Apart; making = unmade k c.making; refusals = rs }) s
 dialog_off_pending_given c conns s k rs i_pending_given =
     λ p. let old = i_pending_given p in grind arith
 
-dialog_off_first_reply : (c : Client) (conns : ℕ → Conn) (s : Server) (k : ℕ) (rs : List RefusedDialog)
-    → FirstReply c conns s → FirstReply (record c {
-      stage = put c.stage k Apart;
-      making = unmade k c.making;
-      refusals = rs;
-    }) (put conns k (client_off (conns k))) s
+dialog_off_first_reply : (c : Client) (conns : ℕ → Conn) (s : Server) (k : ℕ) (rs : List RefusedDialog) → FirstReply c conns s → FirstReply (record c { stage = put c.stage k Apart; making = unmade k c.making; refusals = rs }) (put conns k (client_off (conns k))) s
 dialog_off_first_reply c conns s k rs i_first_reply =
     λ j n y. let old = i_first_reply j n y in grind (arith, get-push)
 
-dialog_off_second_reply : (c : Client) (conns : ℕ → Conn) (s : Server) (k : ℕ) (rs : List RefusedDialog)
-    → SecondReply c conns s → SecondReply (record c {
-      stage = put c.stage k Apart;
-      making = unmade k c.making;
-      refusals = rs;
-    }) (put conns k (client_off (conns k))) s
+dialog_off_second_reply : (c : Client) (conns : ℕ → Conn) (s : Server) (k : ℕ) (rs : List RefusedDialog) → SecondReply c conns s → SecondReply (record c { stage = put c.stage k Apart; making = unmade k c.making; refusals = rs }) (put conns k (client_off (conns k))) s
 dialog_off_second_reply c conns s k rs i_second_reply =
     λ j n y. let old = i_second_reply j n y in grind (arith, get-push)
 
-dialog_off_tree_up : (c : Client) (conns : ℕ → Conn) (s : Server) (k : ℕ) (rs : List RefusedDialog) → TreeUp conns s
-    → TreeUp (put conns k (client_off (conns k))) s
+dialog_off_tree_up : (c : Client) (conns : ℕ → Conn) (s : Server) (k : ℕ) (rs : List RefusedDialog) → TreeUp conns s → TreeUp (put conns k (client_off (conns k))) s
 dialog_off_tree_up c conns s k rs i_tree_up =
     λ j n x. let old = i_tree_up j n x in grind (arith, get-push)
 
-dialog_off_tree_reply : (c : Client) (conns : ℕ → Conn) (s : Server) (k : ℕ) (rs : List RefusedDialog)
-    → TreeReply c conns s → TreeReply (record c {
-      stage = put c.stage k Apart;
-      making = unmade k c.making;
-      refusals = rs;
-    }) (put conns k (client_off (conns k))) s
+dialog_off_tree_reply : (c : Client) (conns : ℕ → Conn) (s : Server) (k : ℕ) (rs : List RefusedDialog) → TreeReply c conns s → TreeReply (record c { stage = put c.stage k Apart; making = unmade k c.making; refusals = rs }) (put conns k (client_off (conns k))) s
 dialog_off_tree_reply c conns s k rs i_tree_reply =
     λ j n y. let old = i_tree_reply j n y in grind (arith, get-push)
 
-pub dialog_off_keeps : (c : Client) (conns : ℕ → Conn) (s : Server) (k : ℕ) (rs : List RefusedDialog)
-    → Sessions c conns s → Sessions (record c {
-      stage = put c.stage k Apart;
-      making = unmade k c.making;
-      refusals = rs;
-    }) (put conns k (client_off (conns k))) s
+dialog_off_sent_trees : (c : Client) (conns : ℕ → Conn) (s : Server) (k : ℕ) (rs : List RefusedDialog) → SentTrees c conns → SentTrees (record c { stage = put c.stage k Apart; making = unmade k c.making; refusals = rs }) (put conns k (client_off (conns k)))
+dialog_off_sent_trees c conns s k rs i_sent_trees =
+    λ j n x. let old = i_sent_trees j n x in grind (arith, get-push)
+
+dialog_off_asked_new : (c : Client) (conns : ℕ → Conn) (s : Server) (k : ℕ) (rs : List RefusedDialog) → AskedNew c → AskedNew (record c { stage = put c.stage k Apart; making = unmade k c.making; refusals = rs })
+dialog_off_asked_new c conns s k rs i_asked_new =
+    λ p. let old = i_asked_new p in grind arith
+
+pub dialog_off_keeps : (c : Client) (conns : ℕ → Conn) (s : Server) (k : ℕ) (rs : List RefusedDialog) → Sessions c conns s → Sessions (record c { stage = put c.stage k Apart; making = unmade k c.making; refusals = rs }) (put conns k (client_off (conns k))) s
 dialog_off_keeps c conns s k rs i =
     record {
       live_accepted = dialog_off_live_accepted c conns s k rs i.live_accepted;
@@ -212,4 +135,7 @@ dialog_off_keeps c conns s k rs i =
       tree_up = dialog_off_tree_up c conns s k rs i.tree_up;
       tree_live = i.tree_live;
       tree_reply = dialog_off_tree_reply c conns s k rs i.tree_reply;
+      sent_trees = dialog_off_sent_trees c conns s k rs i.sent_trees;
+      asked_new = dialog_off_asked_new c conns s k rs i.asked_new;
+      open_trees = i.open_trees;
     }

@@ -4,10 +4,7 @@ use Rattle.spec_exchange.specs.State.{Server}
 use Rattle.spec_exchange.specs.Client.{Client, end_session}
 use Rattle.spec_exchange.specs.Network.{Conn, client_off}
 use Rattle.law_sessions.proofs.messages.Lists.{get-push}
-use Rattle.law_sessions.specs.sessions.Sessions.{Sessions, LiveAccepted, Making, PendingAccepted, PendingUnranked}
-use Rattle.law_sessions.specs.sessions.Sessions.{NumberedSessions, CurrentUp, CurrentDown, RankedUp, FromClient, SequencesUp}
-use Rattle.law_sessions.specs.sessions.Sessions.{WorkUp, DialogUp, LogonUp, FirstUp, SecondUp, TreeConnectUp, AskedFresh}
-use Rattle.law_sessions.specs.sessions.Sessions.{PendingGiven, FirstReply, SecondReply, TreeUp, TreeLive, TreeReply}
+use Rattle.law_sessions.specs.sessions.Sessions.{Sessions, LiveAccepted, Making, PendingAccepted, PendingUnranked, NumberedSessions, CurrentUp, CurrentDown, RankedUp, FromClient, SequencesUp, WorkUp, DialogUp, LogonUp, FirstUp, SecondUp, TreeConnectUp, AskedFresh, PendingGiven, FirstReply, SecondReply, TreeUp, TreeLive, TreeReply, SentTrees, AskedNew}
 
 leave_live_accepted : (c : Client) (conns : ℕ → Conn) (s : Server) → LiveAccepted c → LiveAccepted (end_session c)
 leave_live_accepted c conns s i_live_accepted =
@@ -33,8 +30,7 @@ leave_current_up : (c : Client) (conns : ℕ → Conn) (s : Server) → CurrentU
 leave_current_up c conns s i_current_up =
     λ j n x. let old = i_current_up j n x in grind (arith, get-push)
 
-leave_current_down : (c : Client) (conns : ℕ → Conn) (s : Server) → CurrentDown c conns → CurrentDown (end_session c)
-    (λ q. client_off (conns q))
+leave_current_down : (c : Client) (conns : ℕ → Conn) (s : Server) → CurrentDown c conns → CurrentDown (end_session c) (λ q. client_off (conns q))
 leave_current_down c conns s i_current_down =
     λ j n y. let old = i_current_down j n y in grind (arith, get-push)
 
@@ -42,13 +38,11 @@ leave_ranked_up : (c : Client) (conns : ℕ → Conn) (s : Server) → RankedUp 
 leave_ranked_up c conns s i_ranked_up =
     λ j n x. let old = i_ranked_up j n x in grind (arith, get-push)
 
-leave_from_client : (c : Client) (conns : ℕ → Conn) (s : Server) → FromClient c conns → FromClient (end_session c)
-    (λ q. client_off (conns q))
+leave_from_client : (c : Client) (conns : ℕ → Conn) (s : Server) → FromClient c conns → FromClient (end_session c) (λ q. client_off (conns q))
 leave_from_client c conns s i_from_client =
     λ j n x. let old = i_from_client j n x in grind (arith, get-push)
 
-leave_sequences_up : (c : Client) (conns : ℕ → Conn) (s : Server) → SequencesUp c conns → SequencesUp (end_session c)
-    (λ q. client_off (conns q))
+leave_sequences_up : (c : Client) (conns : ℕ → Conn) (s : Server) → SequencesUp c conns → SequencesUp (end_session c) (λ q. client_off (conns q))
 leave_sequences_up c conns s i_sequences_up =
     λ j n x. let old = i_sequences_up j n x in grind (arith, get-push)
 
@@ -72,13 +66,11 @@ leave_second_up : (c : Client) (conns : ℕ → Conn) (s : Server) → SecondUp 
 leave_second_up c conns s i_second_up =
     λ j n x. let old = i_second_up j n x in grind (arith, get-push)
 
-leave_tree_connect_up : (c : Client) (conns : ℕ → Conn) (s : Server) → TreeConnectUp c conns
-    → TreeConnectUp (end_session c) (λ q. client_off (conns q))
+leave_tree_connect_up : (c : Client) (conns : ℕ → Conn) (s : Server) → TreeConnectUp c conns → TreeConnectUp (end_session c) (λ q. client_off (conns q))
 leave_tree_connect_up c conns s i_tree_connect_up =
     λ j n x. let old = i_tree_connect_up j n x in grind (arith, get-push)
 
-leave_asked_fresh : (c : Client) (conns : ℕ → Conn) (s : Server) → AskedFresh c conns → AskedFresh (end_session c)
-    (λ q. client_off (conns q))
+leave_asked_fresh : (c : Client) (conns : ℕ → Conn) (s : Server) → AskedFresh c conns → AskedFresh (end_session c) (λ q. client_off (conns q))
 leave_asked_fresh c conns s i_asked_fresh =
     λ p j n x. let old = i_asked_fresh p j n x in grind (arith, get-push)
 
@@ -86,13 +78,11 @@ leave_pending_given : (c : Client) (conns : ℕ → Conn) (s : Server) → Pendi
 leave_pending_given c conns s i_pending_given =
     λ p. let old = i_pending_given p in grind arith
 
-leave_first_reply : (c : Client) (conns : ℕ → Conn) (s : Server) → FirstReply c conns s → FirstReply (end_session c)
-    (λ q. client_off (conns q)) s
+leave_first_reply : (c : Client) (conns : ℕ → Conn) (s : Server) → FirstReply c conns s → FirstReply (end_session c) (λ q. client_off (conns q)) s
 leave_first_reply c conns s i_first_reply =
     λ j n y. let old = i_first_reply j n y in grind (arith, get-push)
 
-leave_second_reply : (c : Client) (conns : ℕ → Conn) (s : Server) → SecondReply c conns s → SecondReply (end_session c)
-    (λ q. client_off (conns q)) s
+leave_second_reply : (c : Client) (conns : ℕ → Conn) (s : Server) → SecondReply c conns s → SecondReply (end_session c) (λ q. client_off (conns q)) s
 leave_second_reply c conns s i_second_reply =
     λ j n y. let old = i_second_reply j n y in grind (arith, get-push)
 
@@ -104,10 +94,17 @@ leave_tree_live : (c : Client) (conns : ℕ → Conn) (s : Server) → TreeLive 
 leave_tree_live c conns s i_tree_live =
     let old = i_tree_live in grind arith
 
-leave_tree_reply : (c : Client) (conns : ℕ → Conn) (s : Server) → TreeReply c conns s → TreeReply (end_session c)
-    (λ q. client_off (conns q)) s
+leave_tree_reply : (c : Client) (conns : ℕ → Conn) (s : Server) → TreeReply c conns s → TreeReply (end_session c) (λ q. client_off (conns q)) s
 leave_tree_reply c conns s i_tree_reply =
     λ j n y. let old = i_tree_reply j n y in grind (arith, get-push)
+
+leave_sent_trees : (c : Client) (conns : ℕ → Conn) (s : Server) → SentTrees c conns → SentTrees (end_session c) (λ q. client_off (conns q))
+leave_sent_trees c conns s i_sent_trees =
+    λ j n x. let old = i_sent_trees j n x in grind (arith, get-push)
+
+leave_asked_new : (c : Client) (conns : ℕ → Conn) (s : Server) → AskedNew c → AskedNew (end_session c)
+leave_asked_new c conns s i_asked_new =
+    λ p. let old = i_asked_new p in grind arith
 
 pub leave_keeps : (c : Client) (conns : ℕ → Conn) (s : Server) → Sessions c conns s → Sessions (end_session c) (λ q. client_off (conns q)) s
 leave_keeps c conns s i =
@@ -145,4 +142,7 @@ leave_keeps c conns s i =
       tree_up = leave_tree_up c conns s i.tree_up;
       tree_live = leave_tree_live c conns s i.tree_live;
       tree_reply = leave_tree_reply c conns s i.tree_reply;
+      sent_trees = leave_sent_trees c conns s i.sent_trees;
+      asked_new = leave_asked_new c conns s i.asked_new;
+      open_trees = i.open_trees;
     }

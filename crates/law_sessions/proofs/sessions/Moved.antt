@@ -3,13 +3,10 @@ use Rattle.std.proofs.Common.{ℕ, arith}
 use Rattle.spec_exchange.specs.State.{Server}
 use Rattle.spec_exchange.specs.Client.{Client}
 use Rattle.spec_exchange.specs.Network.{Conn}
-use Rattle.law_sessions.specs.sessions.Sessions.{Sessions, LiveAccepted, PendingAccepted, RankedUp, PresentAccepted, RankedGiven}
-use Rattle.law_sessions.specs.sessions.Sessions.{MakingUnranked, SessionUsers, OpenUsers, PendingGiven, FirstReply, SecondReply}
-use Rattle.law_sessions.specs.sessions.Sessions.{TreeUp, TreeLive, TreeReply}
+use Rattle.law_sessions.specs.sessions.Sessions.{Sessions, LiveAccepted, PendingAccepted, RankedUp, PresentAccepted, RankedGiven, MakingUnranked, SessionUsers, OpenUsers, PendingGiven, FirstReply, SecondReply, TreeUp, TreeLive, TreeReply, OpenTrees}
 use Rattle.law_sessions.proofs.sessions.Words.{Moves, moved_unmade}
 
-moved_present_accepted : (c : Client) (conns : ℕ → Conn) (s : Server) (t : Server) → (Moves c s t) → PresentAccepted c s
-    → PresentAccepted c t
+moved_present_accepted : (c : Client) (conns : ℕ → Conn) (s : Server) (t : Server) → (Moves c s t) → PresentAccepted c s → PresentAccepted c t
 moved_present_accepted c conns s t moves i_present_accepted =
     λ p. let old = i_present_accepted p in let q = moves.present p in grind arith
 
@@ -37,33 +34,25 @@ moved_first_reply : (c : Client) (conns : ℕ → Conn) (s : Server) (t : Server
 moved_first_reply c conns s t moves i_first_reply =
     λ p n y. let old = i_first_reply p n y in let q = moves.ids in grind arith
 
-moved_second_reply : (c : Client) (conns : ℕ → Conn) (s : Server) (t : Server) → (Moves c s t) → SecondReply c conns s
-    → PendingGiven c s → SecondReply c conns t
+moved_second_reply : (c : Client) (conns : ℕ → Conn) (s : Server) (t : Server) → (Moves c s t) → SecondReply c conns s → PendingGiven c s → SecondReply c conns t
 moved_second_reply c conns s t moves i_second_reply i_pending_given =
-    λ p n y h o st u. let old = i_second_reply p n y h o st u in let g = i_pending_given p st in
-    let q = moves.present c.accepted in (
-      grind arith,
-      λ j. moved_unmade c.pending (s.making j) (t.making j)
-          (moves.making j c.pending g.1) (old.1 j),
-    )
+    λ p n y h o st u. let old = i_second_reply p n y h o st u in let g = i_pending_given p st in let q = moves.present c.accepted in (grind arith, λ j. moved_unmade c.pending (s.making j) (t.making j) (moves.making j c.pending g.1) (old.1 j))
 
-moved_tree_up : (c : Client) (conns : ℕ → Conn) (s : Server) (t : Server) → (Moves c s t) → TreeUp conns s
-    → RankedUp c conns → TreeUp conns t
+moved_tree_up : (c : Client) (conns : ℕ → Conn) (s : Server) (t : Server) → (Moves c s t) → TreeUp conns s → RankedUp c conns → TreeUp conns t
 moved_tree_up c conns s t moves i_tree_up i_ranked_up =
-    λ j n x h o l. let old = i_tree_up j n x h o in let r = i_ranked_up j n x h o in
-    let q = moves.present x.message.session_id in let tr = moves.trees x.message.session_id x.message.tree_id in
-    grind arith
+    λ j n x h o l. let old = i_tree_up j n x h o in let r = i_ranked_up j n x h o in let q = moves.present x.message.session_id in let tr = moves.trees x.message.session_id x.message.tree_id in grind arith
 
 moved_tree_live : (c : Client) (conns : ℕ → Conn) (s : Server) (t : Server) → (Moves c s t) → TreeLive c s → LiveAccepted c → TreeLive c t
 moved_tree_live c conns s t moves i_tree_live i_live_accepted =
-    let old = i_tree_live in let l = i_live_accepted in let q = moves.present c.session in let tr =
-    moves.trees c.session c.tree in grind arith
+    let old = i_tree_live in let l = i_live_accepted in let q = moves.present c.session in let tr = moves.trees c.session c.tree in grind arith
 
-moved_tree_reply : (c : Client) (conns : ℕ → Conn) (s : Server) (t : Server) → (Moves c s t) → TreeReply c conns s
-    → PendingAccepted c → TreeReply c conns t
+moved_tree_reply : (c : Client) (conns : ℕ → Conn) (s : Server) (t : Server) → (Moves c s t) → TreeReply c conns s → PendingAccepted c → TreeReply c conns t
 moved_tree_reply c conns s t moves i_tree_reply i_pending_accepted =
-    λ j n y h o st u. let old = i_tree_reply j n y h o st u in let r = i_pending_accepted j st in
-    let q = moves.present c.accepted in let tr = moves.trees c.accepted y.reply.tree_id in grind arith
+    λ j n y h o st u. let old = i_tree_reply j n y h o st u in let r = i_pending_accepted j st in let q = moves.present c.accepted in let tr = moves.trees c.accepted y.reply.tree_id in grind arith
+
+moved_open_trees : (c : Client) (conns : ℕ → Conn) (s : Server) (t : Server) → (Moves c s t) → OpenTrees c t
+moved_open_trees c conns s t moves =
+    moves.attached
 
 pub moved_keeps : (c : Client) (conns : ℕ → Conn) (s : Server) (t : Server) → (Moves c s t) → Sessions c conns s → Sessions c conns t
 moved_keeps c conns s t moves i =
@@ -101,4 +90,7 @@ moved_keeps c conns s t moves i =
       tree_up = moved_tree_up c conns s t moves i.tree_up i.ranked_up;
       tree_live = moved_tree_live c conns s t moves i.tree_live i.live_accepted;
       tree_reply = moved_tree_reply c conns s t moves i.tree_reply i.pending_accepted;
+      sent_trees = i.sent_trees;
+      asked_new = i.asked_new;
+      open_trees = moved_open_trees c conns s t moves;
     }

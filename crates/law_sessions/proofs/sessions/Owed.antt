@@ -1,4 +1,5 @@
 -- The records that a step owes: none begins an epoch, and each open in them is this client's.
+use Rattle.spec_exchange.specs.Effects.{opens_of_tree}
 use Rattle.std.proofs.Common.{◌≡◌, ℕ, ◌==◌, nat_le, Bool, true, false, not, ◌&&◌, List, [], ◌∷◌, ◌++◌, ◌⊎◌, inl, inr}
 use Rattle.std.proofs.Common.{refl, sym, subst, ◌∙◌, ap, Option, Some, None, length}
 use Rattle.spec_exchange.specs.Commands.{Command, CreateRequest, Durable, Element, Unreadable, Aside, Setup, Logoff}
@@ -8,11 +9,13 @@ use Rattle.spec_exchange.specs.State.{Server, Message, ServerEvent, Accept, Hear
 use Rattle.spec_exchange.specs.State.{CloseRecord, RemoveRecord}
 use Rattle.spec_exchange.specs.Opens.{leave_open, leave_records, pending_records, shut_records, gone_records, goes}
 use Rattle.spec_exchange.specs.Opens.{drop_open, pending_behind}
+use Rattle.spec_exchange.specs.Opens.{granted}
 use Rattle.spec_exchange.specs.Check.{check}
 use Rattle.spec_exchange.specs.CheckOpen.{file_of}
 use Rattle.spec_exchange.specs.Status.{success}
 use Rattle.spec_exchange.specs.Effects.{apply, create_records, new_open, lock_records, change_records, end_records}
 use Rattle.spec_exchange.specs.Effects.{leave_all_records, records_if_named, is_persistent, plain_of}
+use Rattle.spec_exchange.specs.Effects.{new_file}
 use Rattle.spec_exchange.specs.Records.{origin_at, origin_of, fits}
 use Rattle.spec_exchange.specs.Verdict.{Verdict, Refuse, Give, KeepRefusal, Repeat, Attach, Make, TurnDown, Tell, Show}
 use Rattle.spec_exchange.specs.Verdict.{KeepSlot, PutRanges, Alter, CloseOpen, Challenge, ChallengeBinding, Begin, Join}
@@ -97,11 +100,11 @@ clean_change guid user m f now (PutDeletePending flag) = (tt, tt)
 clean_change guid user m f now (PutPath replaced path) = (tt, tt)
 clean_change guid user m f now PutNothing = tt
 
-own_new : (guid : ℕ) (user : List ℕ) (s : Server) (m : Message) (r : CreateRequest) (o : Option Durable) → m.client_guid
-    ≡ guid → s.user m.session_id ≡ user → OwnOpen guid user (new_open s m r o)
+own_new : (guid : ℕ) (user : List ℕ) (s : Server) (m : Message) (r : CreateRequest) (access : ℕ) (o : Option Durable)
+    → m.client_guid ≡ guid → s.user m.session_id ≡ user → OwnOpen guid user (new_open s m r access o)
 unfolding new_open
-own_new guid user s m r None a b = tt
-own_new guid user s m r (Some d) a b = either (λ n. OwnOpen guid user n) d.persistent (Some _) None (λ _. (a, b)) (λ _. tt)
+own_new guid user s m r access None a b = tt
+own_new guid user s m r access (Some d) a b = either (λ n. OwnOpen guid user n) d.persistent (Some _) None (λ _. (a, b)) (λ _. tt)
 
 clean_create : (guid : ℕ) (user : List ℕ) (s : Server) (m : Message) (r : CreateRequest) (found : Option ℕ)
     (action now : ℕ) → m.client_guid ≡ guid → s.user m.session_id ≡ user
@@ -109,7 +112,7 @@ clean_create : (guid : ℕ) (user : List ℕ) (s : Server) (m : Message) (r : Cr
 unfolding create_records Clean
 clean_create guid user s m r found action now a b =
     either (λ rs. Clean guid user rs) ((action == 1) && not (is_persistent r.durable)) [] _ (λ _. tt)
-    (λ _. (own_new guid user s m r r.durable a b, tt))
+    (λ _. (own_new guid user s m r (granted s (new_file s found) r.access) r.durable a b, tt))
 
 abbrev pub is_make : Verdict → Bool
 is_make (Make r place action) = true
@@ -138,7 +141,7 @@ by_verdict guid user s m now (Begin session its previous r is_quiet) own = clean
 by_verdict guid user s m now (Join session) own = tt
 by_verdict guid user s m now (EndSession session is_quiet) own = clean_ended guid user s (origin_of m) session is_quiet
 by_verdict guid user s m now (AddTree pipes) own = tt
-by_verdict guid user s m now DropTree own = tt
+by_verdict guid user s m now DropTree own = clean_all_left guid user s (origin_of m) (opens_of_tree s m.session_id m.tree_id)
 
 -- ---- every step
 

@@ -43,6 +43,7 @@ bare_anew kind s rs b = λ piped g. let f = (anew g [] s rs (b piped g)).folds i
   present = f.present;
   making = f.making;
   opens = f.opens;
+  attached = f.attached;
 }
 
 two_clients : (n : ℕ) → n ≡ 0 → n ≡ 1 → (P : Type 0) → P

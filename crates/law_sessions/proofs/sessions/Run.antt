@@ -27,7 +27,7 @@ use Rattle.spec_exchange.specs.Network.{behind_reply, restarted, dialog_ended}
 use Rattle.law_sessions.specs.messages.Connections.{Once, Ready, copies}
 use Rattle.law_sessions.proofs.messages.Lists.{front_up, front_down}
 use Rattle.law_server.proofs.tables.Logic.{either, back_of, not_true, none_of, back_off}
-use Rattle.law_server.specs.tables.Fits.{OnPresent, MakingOnce, Begun}
+use Rattle.law_server.specs.tables.Fits.{Attached, OnPresent, MakingOnce, Begun}
 use Rattle.law_sessions.specs.sessions.Sessions.{Sessions, is_ops, is_work, is_dialog, logs_on, logon_user}
 use Rattle.law_sessions.proofs.sessions.Same.{same_keeps}
 use Rattle.law_sessions.proofs.sessions.Moved.{moved_keeps}
@@ -47,6 +47,7 @@ use Rattle.law_sessions.proofs.sessions.Table.{keeps_answered, keeps_joined, kee
 use Rattle.law_sessions.proofs.sessions.Answers.{Facts}
 use Rattle.law_sessions.proofs.sessions.Heard.{answered as answered_by}
 use Rattle.law_sessions.proofs.sessions.Serving.{moves_of, reply_current, reply_first, reply_second, reply_tree, work_keeps, dialog_keeps}
+use Rattle.law_sessions.proofs.sessions.Trees.{ties_answered, open_trees_of}
 use Rattle.law_sessions.proofs.sessions.Written.{Folds, folds_more, anew}
 use Rattle.law_sessions.proofs.sessions.Owed.{clean_answer, clean_accept, clean_end}
 use Rattle.law_sessions.proofs.sessions.Connected.{falls_accept, falls_end, moves_falls, moves_restart}
@@ -69,6 +70,7 @@ pub record Bounds (s : Server) : Type 0 where
   pub on_present : OnPresent s
   pub making_once : MakingOnce s
   pub begun : Begun s
+  pub attached : Attached s
 
 stored_by : (c d : Client) (number : ℕ) (f : Server) → d.who ≡ c.who → Folds c.who.guid (logon_user c.who.logon) number
     f → Folds d.who.guid (logon_user d.who.logon) number f
@@ -122,7 +124,7 @@ opens w k h free =
     let A = step w.server w.moment (Accept k) in let f = falls_accept w.server w.moment k in
     record {
       sits = opens_session w k A (moved_keeps w.client w.conns w.server A.server
-          (moves_falls w.client w.server A.server f h.sits.making_unranked h.sits.session_users h.sits.open_users)
+          (moves_falls w.client w.server A.server f h.sits.making_unranked h.sits.session_users h.sits.open_users h.sits.open_trees)
           h.sits) free;
       stored = subst (λ n. Folds w.client.who.guid (logon_user w.client.who.logon) n (fold (w.records ++ A.records))) (sym f.epoch)
           (folds_more w.client.who.guid (logon_user w.client.who.logon) w.server.epoch w.records A.records
@@ -134,7 +136,7 @@ drops w k h =
     let A = step w.server w.moment (End k) in let f = falls_end w.server w.moment k in
     record {
       sits = server_off_keeps w.client w.conns A.server k (moved_keeps w.client w.conns w.server A.server
-          (moves_falls w.client w.server A.server f h.sits.making_unranked h.sits.session_users h.sits.open_users)
+          (moves_falls w.client w.server A.server f h.sits.making_unranked h.sits.session_users h.sits.open_users h.sits.open_trees)
           h.sits);
       stored = subst (λ n. Folds w.client.who.guid (logon_user w.client.who.logon) n (fold (w.records ++ A.records))) (sym f.epoch)
           (folds_more w.client.who.guid (logon_user w.client.who.logon) w.server.epoch w.records A.records
@@ -239,7 +241,10 @@ hears_front w k x rest is bounds h =
     let i = h.sits in let f0 = front_up (w.conns k).up x rest is in
     moved_keeps w.client w.conns w.server (answer w x).server
     (moves_of w.client w.server x.message (answer w x) (answer_facts w x) i.making_unranked i.ranked_given
-    i.session_users i.open_users bounds.on_present (i.from_client k 0 x f0).0
+    i.session_users i.open_users
+    (open_trees_of w.client w.conns w.server k x (answer w x).server (ties_answered w.server w.moment x.message x.message.command)
+    f0 bounds.on_present i.open_trees i.sent_trees i.ranked_up i.present_accepted i.dialog_up)
+    bounds.on_present (i.from_client k 0 x f0).0
     (keeps_trees x (i.work_up k 0 x f0) (λ e. (i.dialog_up k 0 x f0 e).1)) (i.logon_up k 0 x f0)) i
 
 stored_front : (w : World) (k : ℕ) (x : Sent) (rest : List Sent) → (w.conns k).up ≡ x ∷ rest → Bounds w.server → SessionsHold w
@@ -297,7 +302,7 @@ absorbs w k bounds h (x ∷ rest) is = absorbs_front w k x rest is bounds h
 -- ---- Restart and Crash
 
 renumbered : (guid : ℕ) (user : List ℕ) (number : ℕ) (d : Server) → Folds guid user number d → Folds guid user d.epoch d
-renumbered guid user number d f = record { epoch = refl; present = f.present; making = f.making; opens = f.opens }
+renumbered guid user number d f = record { epoch = refl; present = f.present; making = f.making; opens = f.opens; attached = f.attached }
 
 restarts : (w : World) → w.server.session_ids_given ≤ max_ids → SessionsHold w → SessionsHold (restarted w)
 restarts w low h =
@@ -362,13 +367,13 @@ took w k g asking r place i =
     (λ _. hears w k g asking r place i (heard w.client g asking r)) (λ _. i)
 
 takes_by : (w : World) (k : ℕ) (y : Received) (rest : List Received) → (w.conns k).down ≡ y ∷ rest → Once w.conns
-    → SessionsHold w → (t : Token) → y.token ≡ t → SessionsHold (took_by (behind_reply w k rest) k y.reply y.place t)
-takes_by w k y rest is once i ForDialog e =
+    → Attached w.server → SessionsHold w → (t : Token) → y.token ≡ t → SessionsHold (took_by (behind_reply w k rest) k y.reply y.place t)
+takes_by w k y rest is once there i ForDialog e =
     let j = behind_keeps w.client w.conns w.server k y rest is i.sits in
     dialog_stored (behind_reply w k rest) k y.reply i.stored
     (took_dialog (behind_reply w k rest) k y.reply (subst (λ g. copies g (put w.conns k (take_front (w.conns k) rest) k)
     ≡ 0) (ap op_of e) (front_reply_gone w.conns k y rest is (once k (op_of y.token))))
-    (tells_dialog w k y rest is e i.sits) j (w.client.stage k) refl)
+    (tells_dialog w k y rest is e i.sits) (λ o x h. (there o x h).1) j (w.client.stage k) refl)
   where
     end_stored : (w : World) (k session tree : ℕ) → Stored w → Stored (dialog_ended w k (IsReady k session tree))
     end_stored w k session tree s = ended_well Stored w k session tree (λ _. s) (λ _ _. s) s
@@ -385,21 +390,21 @@ takes_by w k y rest is once i ForDialog e =
         → SessionsFit (dialog_took w k r (dialog_step (w.client.stage k) r.status))
         → SessionsHold (dialog_took w k r (dialog_step (w.client.stage k) r.status))
     dialog_stored w k r s i = step_stored w k r s (dialog_step (w.client.stage k) r.status) i
-takes_by w k y rest is once i (ForOp g) e =
+takes_by w k y rest is once there i (ForOp g) e =
     took (behind_reply w k rest) k g false y.reply y.place (record {
       sits = behind_keeps w.client w.conns w.server k y rest is i.sits;
       stored = i.stored;
     })
-takes_by w k y rest is once i (ForAttach g) e =
+takes_by w k y rest is once there i (ForAttach g) e =
     took (behind_reply w k rest) k g true y.reply y.place (record {
       sits = behind_keeps w.client w.conns w.server k y rest is i.sits;
       stored = i.stored;
     })
 
-takes : (w : World) (k : ℕ) → Once w.conns → SessionsHold w → (ys : List Received) → (w.conns k).down ≡ ys
+takes : (w : World) (k : ℕ) → Once w.conns → Attached w.server → SessionsHold w → (ys : List Received) → (w.conns k).down ≡ ys
     → SessionsHold (take_reply w k ys)
-takes w k once i [] is = i
-takes w k once i (y ∷ rest) is = takes_by w k y rest is once i y.token refl
+takes w k once there i [] is = i
+takes w k once there i (y ∷ rest) is = takes_by w k y rest is once there i y.token refl
 
 -- ---- Cut
 
@@ -466,7 +471,7 @@ keeps w (Push k slotless pick) once ready bounds low i =
     (pushes w k slotless pick r (ready k r).1 i)) (λ _. i)
 keeps w (Serve k) once ready bounds low i = served_open w k bounds i (may_serve w k)
 keeps w (Take k) once ready bounds low i = either SessionsHold ((w.conns k).client_open && is_filled (w.conns k).down) _
-    _ (λ m. later_holds (changed w (Take k)) 1 (takes w k once i (w.conns k).down refl)) (λ _. i)
+    _ (λ m. later_holds (changed w (Take k)) 1 (takes w k once bounds.attached i (w.conns k).down refl)) (λ _. i)
 keeps w (Cut k) once ready bounds low i = either SessionsHold (w.conns k).client_open _ _
     (λ _. later_holds (changed w (Cut k)) 1 (cuts w k i)) (λ _. i)
 keeps w (Drop k) once ready bounds low i = either SessionsHold (w.conns k).server_open _ _

@@ -13,7 +13,7 @@ use Rattle.spec_exchange.specs.Client.{Client, SaidFirst, SaidSecond, AskedTree}
 use Rattle.spec_exchange.specs.Network.{Conn, Sent}
 use Rattle.law_server.specs.tables.Fits.{OnPresent, MakingOnce}
 use Rattle.law_sessions.specs.sessions.Sessions.{is_ops, is_work, is_dialog, is_new_setup, logs_on, user_in, logon_user}
-use Rattle.law_sessions.specs.sessions.Sessions.{MakingUnranked, SessionUsers, OpenUsers, RankedGiven, CurrentUp, WorkUp, FirstUp}
+use Rattle.law_sessions.specs.sessions.Sessions.{MakingUnranked, SessionUsers, OpenUsers, OpenTrees, RankedGiven, CurrentUp, WorkUp, FirstUp}
 use Rattle.law_sessions.specs.sessions.Sessions.{SecondUp, TreeConnectUp, PendingAccepted, LogonUp, FromClient}
 use Rattle.law_sessions.proofs.sessions.Words.{Moves}
 use Rattle.law_sessions.proofs.sessions.Answers.{Facts}
@@ -129,14 +129,15 @@ back_of c s m A f unranked x r p =
     f.present x p (λ b. ranked_other c.rank x m.session_id r (unranked m.connection m.session_id (f.enters b).made))
 
 pub moves_of : (c : Client) (s : Server) (m : Message) (A : Answer) → Facts s m A → MakingUnranked c s → RankedGiven c s
-    → SessionUsers c s → OpenUsers c s → OnPresent s
+    → SessionUsers c s → OpenUsers c s → OpenTrees c A.server → OnPresent s
     → m.client_guid ≡ c.who.guid → m.command ≢ TreeDisconnect → (logs_on m.command ≡ true → user_in m.command
     ≡ logon_user c.who.logon) → Moves c s A.server
-moves_of c s m A f unranked given users opens on client keeps logon =
+moves_of c s m A f unranked given users opens attached on client keeps logon =
     record {
       present = back_of c s m A f unranked;
       users = users_of c s m A f users logon;
       opens = opens_of c s m A f users opens client on;
+      attached = attached;
       making = λ k y l h. f.making k y h (λ _. not_next s.epoch s.session_ids_given y l);
       unranked = unranked_of c s m A f unranked given;
       ids = ids_of s m A f;

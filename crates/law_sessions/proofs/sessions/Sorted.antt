@@ -1,4 +1,6 @@
 -- A step of the server keeps the kind of trees, and makes an open only where the kind isn't that of the pipes.
+use Rattle.spec_exchange.specs.Effects.{opens_of_tree}
+use Rattle.law_server.proofs.tables.Closing.{closed_fewer}
 use Rattle.std.proofs.Common.{◌≡◌, ℕ, ◌==◌, Bool, true, false, not, ◌||◌, if◌then◌else◌, List, [], ◌∷◌, ◌++◌, inl, inr}
 use Rattle.std.proofs.Common.{refl, arith, sym, ◌∙◌, ap, Option, Some, None}
 use Rattle.spec_exchange.specs.Table.{put, is_at}
@@ -195,7 +197,7 @@ sorted_dropped : (kind : Bool) (s : Server) (m : Message) (now : ℕ) → Sorted
 sorted_dropped kind s m now i = (
   put_kind kind s.trees m.session_id (without_tree m.tree_id (s.trees m.session_id))
       (λ id b h. i.0 m.session_id id b (dropped_tree m.tree_id (s.trees m.session_id) id b h)) i.0,
-  i.1,
+  λ o h. i.1 o ((closed_fewer s m.session_id (opens_of_tree s m.session_id m.tree_id)).standing o h),
 )
 
 -- ---- by verdict

@@ -7,7 +7,7 @@ use Rattle.spec_exchange.specs.Client.{Client}
 use Rattle.spec_exchange.specs.Network.{Conn, Sent, Received, Token, ForDialog, ForOp, ForAttach, op_of}
 use Rattle.law_sessions.specs.messages.Connections.{copies, count_up, count_down}
 use Rattle.law_sessions.proofs.messages.Lists.{counted_up, counted_down}
-use Rattle.law_sessions.specs.sessions.Sessions.{is_ops, SessionUsers, OpenUsers, MakingUnranked}
+use Rattle.law_sessions.specs.sessions.Sessions.{is_ops, SessionUsers, OpenUsers, OpenTrees, MakingUnranked}
 
 -- the client's columns of sessions and dialogs are the same
 pub record SameSession (c d : Client) : Type 0 where
@@ -29,6 +29,7 @@ pub record Moves (c : Client) (s t : Server) : Type 0 where
   pub present : (x : ℕ) → 0 < c.rank x → t.present x ≡ true → s.present x ≡ true
   pub users : SessionUsers c t
   pub opens : OpenUsers c t
+  pub attached : OpenTrees c t
   pub making : (k y : ℕ) → y ≤ id_of s.epoch s.session_ids_given → is_new y (t.making k) ≡ true → is_new y (s.making k) ≡ true
   pub unranked : MakingUnranked c t
   pub ids : id_of s.epoch s.session_ids_given ≤ id_of t.epoch t.session_ids_given

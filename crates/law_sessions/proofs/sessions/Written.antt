@@ -2,18 +2,18 @@
 -- are this client's.
 use Rattle.std.proofs.Common.{◌≡◌, ℕ, ◌+◌, ◌==◌, nat_le, nat_lt, Bool, true, false, not, ◌&&◌, ◌||◌, if◌then◌else◌}
 use Rattle.std.proofs.Common.{List, [], ◌∷◌, ◌++◌, refl, arith, sym, subst, ◌∙◌, ap, Option, Some, None, length}
-use Rattle.spec_exchange.specs.Table.{put}
+use Rattle.spec_exchange.specs.Table.{put, put2}
 use Rattle.spec_exchange.specs.Status.{success}
 use Rattle.spec_exchange.specs.Content.{written, ended, is_empty}
-use Rattle.spec_exchange.specs.Commands.{Element, all_lock, all_unlock}
+use Rattle.spec_exchange.specs.Commands.{Element, all_lock, all_unlock, deletes_on_close}
 use Rattle.spec_exchange.specs.State.{Server, Entry, Open, Record, NewOpen, EpochRecord, CreateRecord, WriteRecord}
 use Rattle.spec_exchange.specs.State.{EndRecord, BasicRecord, DeleteRecord, RenameRecord, RemoveRecord, LockRecord}
 use Rattle.spec_exchange.specs.State.{CloseRecord, VersionRecord, ExpireRecord}
 use Rattle.spec_exchange.specs.Files.{root, find, exists, passes_room, make_file, set_content, empty_file}
 use Rattle.spec_exchange.specs.Files.{set_delete_pending, store_basic, remove_file, rename_file}
 use Rattle.spec_exchange.specs.Ranges.{RangeAnswer, Stands, Denied, change_ranges}
-use Rattle.spec_exchange.specs.Opens.{pending_behind, without_gone}
-use Rattle.spec_exchange.specs.CheckOpen.{target_of, file_of}
+use Rattle.spec_exchange.specs.Opens.{pending_behind, without_gone, goes}
+use Rattle.spec_exchange.specs.CheckOpen.{target_of, file_of, is_slot}
 use Rattle.spec_exchange.specs.Effects.{keep_slot, set_ranges}
 use Rattle.spec_exchange.specs.Step.{add_expired_guid, max_expired_guids}
 use Rattle.spec_exchange.specs.Fold.{fold, fold_from, with_record, nothing_yet, begin_epoch, set_version, sweep}
@@ -51,14 +51,68 @@ pub record Folds (guid : ℕ) (user : List ℕ) (number : ℕ) (d : Server) : Ty
   pub present : (x : ℕ) → d.present x ≡ false
   pub making : (k : ℕ) → d.making k ≡ None
   pub opens : (o : ℕ) → d.standing o ≡ true → (d.opened o).user ≡ user × (d.opened o).client_guid ≡ guid
+  pub attached : (o : ℕ) → d.session_of_open o ≡ None
 
-fold_stays : (guid : ℕ) (user : List ℕ) (epoch : ℕ) (d t : Server) → Stays d t → Folds guid user epoch d → Folds guid user epoch t
-fold_stays guid user epoch d t q f =
+-- no open is attached where none was
+abbrev Loose : Server → Server → Type 0
+Loose d t = (o : ℕ) → d.session_of_open o ≡ None → t.session_of_open o ≡ None
+
+put_none : (f : ℕ → Option ℕ) (o p : ℕ) → f p ≡ None → put f o None p ≡ None
+put_none f o p e = grind arith
+
+loose_pending : (d : Server) (o : ℕ) → Loose d (pending_behind d o)
+loose_pending d o = either (λ t. Loose d t) (deletes_on_close (d.opened o).options) (set_delete_pending d (d.opened o).file true) d
+    (λ _ p e. e) (λ _ p e. e)
+
+loose_shut : (d : Server) (o : ℕ) → Loose d (shut_recorded d o)
+loose_shut d o p e = put_none (pending_behind d o).session_of_open o p (loose_pending d o p e)
+
+loose_gone : (d : Server) (f : ℕ) → Loose d (without_gone d f)
+loose_gone d f = either (λ t. Loose d t) (goes d f) (remove_file d f) d (λ _ p e. e) (λ _ p e. e)
+
+loose_swept : (d : Server) (es : List Entry) → Loose d (sweep d es)
+unfolding sweep
+loose_swept d [] p e = e
+loose_swept d (x ∷ es) p e = loose_swept (without_gone d x.file) es p (loose_gone d x.file p e)
+
+loose_version : (d : Server) (number : ℕ) → Loose d (set_version d number)
+loose_version d number = either (λ t. Loose d t) ((number == 2) && (d.version == 1)) (record d { version = 2 }) d (λ _ p e. e) (λ _ p e. e)
+
+loose_created : (d : Server) (action f : ℕ) (path : List ℕ) (attributes : ℕ) (is_dir : Bool) (time : ℕ)
+    → Loose d (created_file d action f path attributes is_dir time)
+loose_created d action f path attributes is_dir time =
+    either (λ t. Loose d t) (action == 2) (make_file d path is_dir attributes time) _ (λ _ p e. e)
+    (λ _. either (λ t. Loose d t) (action == 1) d (empty_file d f attributes time) (λ _ p e. e) (λ _ p e. e))
+
+loose_kept : (d : Server) (o index number status : ℕ) → Loose d (keep_slot d o index number status)
+loose_kept d o index number status = either (λ t. Loose d t) (is_slot index) (record d {
+  lock_sequences = put2 d.lock_sequences o index (Some (record { number = number; status = status }));
+}) d (λ _ p e. e) (λ _ p e. e)
+
+loose_granted : (d : Server) (o index number : ℕ) (r : RangeAnswer) → Loose d (lock_granted d o index number r)
+loose_granted d o index number (Denied status) p e = e
+loose_granted d o index number (Stands ranges) p e = loose_kept (set_ranges d (file_of d o) ranges) o index number success p e
+
+loose_locked : (d : Server) (o index number status : ℕ) (elements : List Element) → Loose d (lock_recorded d o index number status elements)
+loose_locked d o index number status elements =
+    either (λ t. Loose d t) (not (all_lock elements || all_unlock elements)) d _ (λ _ p e. e)
+    (λ _. either (λ t. Loose d t) (status == success)
+    (lock_granted d o index number (change_ranges (d.ranges (file_of d o)) o elements))
+    (keep_slot d o index number status)
+    (λ _. loose_granted d o index number (change_ranges (d.ranges (file_of d o)) o elements)) (λ _. loose_kept d o index number status))
+
+loose_noted : (d : Server) (client : ℕ) (guid : Option ℕ) → Loose d (add_expired_guid d client guid)
+loose_noted d client None p e = e
+loose_noted d client (Some g) p e = e
+
+fold_stays : (guid : ℕ) (user : List ℕ) (epoch : ℕ) (d t : Server) → Stays d t → Loose d t → Folds guid user epoch d → Folds guid user epoch t
+fold_stays guid user epoch d t q l f =
     record {
       epoch = q.epoch ∙ f.epoch;
       present = λ x. ap (λ g. g x) q.present ∙ f.present x;
       making = λ k. ap (λ g. g k) q.making ∙ f.making k;
       opens = λ o h. subst (λ g. (g o).user ≡ user × (g o).client_guid ≡ guid) (sym q.opened) (f.opens o (q.standing o h));
+      attached = λ o. l o (f.attached o);
     }
 
 stays_version : (d : Server) (number : ℕ) → Stays d (set_version d number)
@@ -146,22 +200,24 @@ restored guid user epoch d f action (Some n) own q =
       present = q.present;
       making = q.making;
       opens = restored_open d.standing d.opened n.id (restored_row n f action) guid user q.opens own.1 own.0;
+      attached = λ o. put_none d.session_of_open n.id o (q.attached o);
     }
 
 -- a record that changes nothing of sessions and opens but what leaves
-simply : (guid : ℕ) (user : List ℕ) (epoch : ℕ) (d t : Server) (b : Bool) → Stays d t → Folds guid user epoch d
+simply : (guid : ℕ) (user : List ℕ) (epoch : ℕ) (d t : Server) (b : Bool) → Stays d t → Loose d t → Folds guid user epoch d
     → Folds guid user epoch (if b then t else d)
-simply guid user epoch d t b q f = either (λ x. Folds guid user epoch x) b t d (λ _. fold_stays guid user epoch d t q f) (λ _. f)
+simply guid user epoch d t b q l f = either (λ x. Folds guid user epoch x) b t d (λ _. fold_stays guid user epoch d t q l f) (λ _. f)
 
 one_record : (guid : ℕ) (user : List ℕ) (epoch : ℕ) (d : Server) (r : Record) → OwnRecord guid user r
     → Folds guid user epoch d → Folds guid user epoch (with_record d r)
 one_record guid user epoch d (EpochRecord number) own f = absurd own
-one_record guid user epoch d (VersionRecord number) own f = fold_stays guid user epoch d (set_version d number) (stays_version d number) f
+one_record guid user epoch d (VersionRecord number) own f = fold_stays guid user epoch d (set_version d number) (stays_version d number) (loose_version d number) f
 one_record guid user epoch d (CreateRecord origin action file path attributes is_dir time opened) own f =
     let t = created_file d action file path attributes is_dir time in
     either (λ x. Folds guid user epoch x) (may_create d action file path && may_have_open d opened) (restore t file action opened) d
     (λ _. restored guid user epoch t file action opened own
-    (fold_stays guid user epoch d t (stays_created d action file path attributes is_dir time) f)) (λ _. f)
+    (fold_stays guid user epoch d t (stays_created d action file path attributes is_dir time)
+    (loose_created d action file path attributes is_dir time) f)) (λ _. f)
 one_record guid user epoch d (WriteRecord origin file at time bytes) own f =
     simply guid user epoch d (set_content d file (written at bytes (d.content file)) time)
     (is_file d file && (not (is_empty bytes) && not (passes_room d file (at + length bytes))))
@@ -177,7 +233,7 @@ one_record guid user epoch d (WriteRecord origin file at time bytes) own f =
       session_on = refl;
       opened = refl;
       standing = λ q e. e;
-    }) f
+    }) (λ p e. e) f
 one_record guid user epoch d (EndRecord origin file size time) own f =
     simply guid user epoch d (set_content d file (ended size (d.content file)) time) (is_file d file && not (passes_room d file size))
     (record {
@@ -192,7 +248,7 @@ one_record guid user epoch d (EndRecord origin file size time) own f =
       session_on = refl;
       opened = refl;
       standing = λ q e. e;
-    }) f
+    }) (λ p e. e) f
 one_record guid user epoch d (BasicRecord origin file basic) own f =
     simply guid user epoch d (store_basic d file basic) (exists d file)
     (record {
@@ -207,7 +263,7 @@ one_record guid user epoch d (BasicRecord origin file basic) own f =
       session_on = refl;
       opened = refl;
       standing = λ q e. e;
-    }) f
+    }) (λ p e. e) f
 one_record guid user epoch d (DeleteRecord origin file flag) own f =
     simply guid user epoch d (set_delete_pending d file flag) (exists d file && not (file == root))
     (record {
@@ -222,7 +278,7 @@ one_record guid user epoch d (DeleteRecord origin file flag) own f =
       session_on = refl;
       opened = refl;
       standing = λ q e. e;
-    }) f
+    }) (λ p e. e) f
 one_record guid user epoch d (RenameRecord origin file replaced path) own f =
     simply guid user epoch d (rename_file d file (target_of file (find d path)) path) (may_rename d file replaced path)
     (record {
@@ -237,7 +293,7 @@ one_record guid user epoch d (RenameRecord origin file replaced path) own f =
       session_on = refl;
       opened = refl;
       standing = λ q e. e;
-    }) f
+    }) (λ p e. e) f
 one_record guid user epoch d (RemoveRecord origin file) own f =
     simply guid user epoch d (remove_file d file) (may_remove d file)
     (record {
@@ -252,16 +308,17 @@ one_record guid user epoch d (RemoveRecord origin file) own f =
       session_on = refl;
       opened = refl;
       standing = λ q e. e;
-    }) f
+    }) (λ p e. e) f
 one_record guid user epoch d (LockRecord origin o index number status elements) own f =
     simply guid user epoch d (lock_recorded d o index number status elements) (d.standing o && nat_le index 64)
-    (stays_locked d o index number status elements) f
-one_record guid user epoch d (CloseRecord origin o) own f = simply guid user epoch d (shut_recorded d o) (d.standing o) (stays_shut d o) f
+    (stays_locked d o index number status elements) (loose_locked d o index number status elements) f
+one_record guid user epoch d (CloseRecord origin o) own f = simply guid user epoch d (shut_recorded d o) (d.standing o) (stays_shut d o) (loose_shut d o) f
 one_record guid user epoch d (ExpireRecord origin o) own f =
     simply guid user epoch d (add_expired_guid (shut_recorded d o) (d.opened o).client_guid (d.opened o).create_guid)
     (d.standing o && nat_lt d.expired_count max_expired_guids)
     (stays_so d (shut_recorded d o) _ (stays_shut d o) (stays_noted (shut_recorded d o) (d.opened o).client_guid
-    (d.opened o).create_guid)) f
+    (d.opened o).create_guid))
+    (λ p e. loose_noted (shut_recorded d o) (d.opened o).client_guid (d.opened o).create_guid p (loose_shut d o p e)) f
 
 all_records : (guid : ℕ) (user : List ℕ) (epoch : ℕ) (d : Server) (rs : List Record) → Clean guid user rs
     → Folds guid user epoch d → Folds guid user epoch (fold_from d rs)
@@ -302,8 +359,8 @@ begins_anew guid user epoch d f =
       open_ids_given = 0;
       session_ids_given = 0;
     }) d
-    (λ _. let q = fold_stays guid user epoch d (sweep d d.entries) (stays_swept d d.entries) f in record {
-      folds = record { epoch = refl; present = q.present; making = q.making; opens = q.opens };
+    (λ _. let q = fold_stays guid user epoch d (sweep d d.entries) (stays_swept d d.entries) (loose_swept d d.entries) f in record {
+      folds = record { epoch = refl; present = q.present; making = q.making; opens = q.opens; attached = q.attached };
       session_ids_given = refl;
     })
     (λ n. absurd (no_other epoch d.epoch f.epoch n))
@@ -316,7 +373,7 @@ anew_at : (guid : ℕ) (user : List ℕ) (d : Server) → Folds guid user d.epoc
 unfolding fold_from
 anew_at guid user d f =
     either (λ rs. Anew guid user (d.epoch + 1) (fold_from d rs)) (d.version == 1) _ _
-    (λ _. begins_anew guid user d.epoch (set_version d 2) (fold_stays guid user d.epoch d (set_version d 2) (stays_version d 2) f))
+    (λ _. begins_anew guid user d.epoch (set_version d 2) (fold_stays guid user d.epoch d (set_version d 2) (stays_version d 2) (loose_version d 2) f))
     (λ _. begins_anew guid user d.epoch d f)
 
 anew_from : (guid : ℕ) (user : List ℕ) (epoch : ℕ) (d : Server) → Folds guid user epoch d → Anew guid user (epoch + 1)
@@ -327,6 +384,7 @@ anew_from guid user epoch d f =
       present = f.present;
       making = f.making;
       opens = f.opens;
+      attached = f.attached;
     }))
 
 pub anew : (guid : ℕ) (user : List ℕ) (s : Server) (rs : List Record) → Folds guid user s.epoch (fold rs)
@@ -336,4 +394,4 @@ anew guid user s rs f = subst (λ d. Anew guid user (s.epoch + 1) d)
 
 pub folds_nothing : (guid : ℕ) (user : List ℕ) → Folds guid user 0 (fold [])
 unfolding fold_from
-folds_nothing guid user = record { epoch = refl; present = λ x. refl; making = λ k. refl; opens = λ o h. absurd (cc) }
+folds_nothing guid user = record { epoch = refl; present = λ x. refl; making = λ k. refl; opens = λ o h. absurd (cc); attached = λ o. refl }

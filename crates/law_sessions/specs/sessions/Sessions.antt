@@ -240,6 +240,19 @@ TreeReply c conns s = (k n : ℕ) (y : Received) → slice_get (conns k).down n 
     → c.stage k ≡ AskedTree → y.reply.status ≡ success
     → s.present c.accepted ≡ true → is_some (tree_in (s.trees c.accepted) y.reply.tree_id) ≡ true
 
+-- a message of an operation in the client's session names its tree, and one in the accepted session waits for no accept more
+abbrev pub SentTrees : Client → (ℕ → Conn) → Type 0
+SentTrees c conns = (k n : ℕ) (x : Sent) → slice_get (conns k).up n ≡ Some x → is_ops x.token ≡ true → 0 < c.session_number
+    × (x.message.session_id ≡ c.session → x.message.tree_id ≡ c.tree) × (x.message.session_id ≡ c.accepted → c.session ≡ c.accepted)
+
+-- while TREE_CONNECT is asked, the session that the dialog makes is another than that before it
+abbrev pub AskedNew : Client → Type 0
+AskedNew c = (k : ℕ) → c.stage k ≡ AskedTree → 0 < c.session_number → c.pending ≢ c.session
+
+-- an open that is attached is one of the client's session and its tree
+abbrev pub OpenTrees : Client → Server → Type 0
+OpenTrees c s = (o x : ℕ) → s.session_of_open o ≡ Some x → 0 < c.session_number × x ≡ c.session × s.tree_of_open o ≡ c.tree
+
 pub record Sessions (c : Client) (conns : ℕ → Conn) (s : Server) : Type 0 where
   pub live_accepted : LiveAccepted c
   pub session_ranked : SessionRanked c
@@ -274,3 +287,6 @@ pub record Sessions (c : Client) (conns : ℕ → Conn) (s : Server) : Type 0 wh
   pub tree_up : TreeUp conns s
   pub tree_live : TreeLive c s
   pub tree_reply : TreeReply c conns s
+  pub sent_trees : SentTrees c conns
+  pub asked_new : AskedNew c
+  pub open_trees : OpenTrees c s

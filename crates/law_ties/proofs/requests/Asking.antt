@@ -253,7 +253,7 @@ asked_new z law L n f k token m charge next i asks id sealable keys encrypts gre
     let fault : fault_of f e false x ≡ None = fault_none (owes_nothing x) (is_protected f e x) protected in
     let c = checked_as f e false true x in
     let told = told_of z.server L k f c in
-    let command = i.reads told h t.bytes t.fits t.is refl in
+    let command = i.reads told h t.bytes t.fits t.is refl refl in
     let message : heard_message z.server L k f c ≡ Some m =
     placed_well (is_misplaced c) (message_of told x.header t.bytes) (Some m) (related_not (not e) m.replay)
     (message_is z n k m charge (not e) told t.bytes i refl

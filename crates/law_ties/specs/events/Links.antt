@@ -162,7 +162,7 @@ IsLinkBinding s n x bound = bound ≡ true → (x.header.session ≡ s.session) 
 
 -- the server's logon in the making is that of the client's first token
 abbrev pub IsLinkBegun : Logons → ℕ → Type 0
-IsLinkBegun L k = (fresh : List ℕ) × (now : ℕ) × (length fresh ≡ 8) × (now < 256 ^ 8) × (L.pending k ≡ pending_by first_token fresh now)
+IsLinkBegun L k = (fresh : List ℕ) × (now : ℕ) × (length fresh ≡ 8) × (now < 256 ^ 8) × (L.pending k ≡ pending_by false first_token fresh now)
 
 -- the client's NEGOTIATE
 pub record IsOwnGreeting (z : WorldSettings) (b : List ℕ) : Type 0 where

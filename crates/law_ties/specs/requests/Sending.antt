@@ -18,7 +18,7 @@ use Rattle.law_ties.specs.wire_facts.Lawful.{header_as, IsLawful}
 use Rattle.law_ties.specs.events.Links.{is_operations, Ties, IsTied}
 
 -- The message of an operation's request: this client's on its connection, of the next id, which is paid for; its numbers fit, its body
--- reads back, and it fits a frame.
+-- reads back behind its header, and it fits a frame.
 pub record IsLineMessage (z : WorldSettings) (n : ClientEnd) (k : ℕ) (m : Message) (charge : ℕ) : Type 0 where
   pub connection : m.connection ≡ k
   pub client : m.client_guid ≡ number_of z.client.guid
@@ -34,7 +34,7 @@ pub record IsLineMessage (z : WorldSettings) (n : ClientEnd) (k : ℕ) (m : Mess
   pub short : 64 + length (body_of m.command) ≤ 1114060
   pub reads :
       (t : Told) (h : Header) (b : List ℕ) → IsWritableHeader h → IsMessage h (body_of m.command) b →
-      h.command ≡ number_of_command m.command → command_of t (header_as h b) b ≡ Some m.command
+      h.charge ≡ charge → h.command ≡ number_of_command m.command → command_of t (header_as h b) b ≡ Some m.command
 
 abbrev pub LineSendsAreKept : Type 0
 LineSendsAreKept =

@@ -58,9 +58,9 @@ HasPassword (Some u) password = u.password ≡ password
 
 pub record IsFitting (z : WorldSettings) : Type 0 where
   pub client : IsFittingClient z.client
-  pub users : AreUsers z.server.users
+  pub users : AreUsers z.server.users.list
   pub server_guid : length z.server.guid ≡ 16
-  pub password : HasPassword (user_named (utf16 z.client.user) z.server.users) z.client.password
+  pub password : HasPassword (user_named (utf16 z.client.user) z.server.users.list) z.client.password
   pub share : IsFittingName (host ++ z.share)
   pub plain_share : HasNoBackslash z.share
 

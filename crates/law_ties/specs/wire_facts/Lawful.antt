@@ -7,7 +7,7 @@ use Rattle.spec_wire.specs.messages.Negotiate.{negotiate_response_in}
 use Rattle.spec_exchange.specs.Status.{success}
 use Rattle.spec_exchange.specs.Commands.{Command, Setup, TreeConnect, Logon}
 use Rattle.spec_exchange.specs.State.{Message, Reply, Empty, Connected}
-use Rattle.spec_exchange.specs.Operations.{Op, keeps_limits, is_create, request_of, reconnect_of}
+use Rattle.spec_exchange.specs.Operations.{Op, keeps_limits, is_create, request_of, reconnect_of, weight, charge}
 use Rattle.spec_exchange.specs.Client.{SaidSecond, AskedTree}
 use Rattle.spec_commands.specs.CommandOf.{Told, command_of}
 use Rattle.spec_commands.specs.BodyOf.{body_of, number_of_command}
@@ -65,7 +65,7 @@ pub record AreCommandsLawful : Type 0 where
   pub own : (t : Told) (h : Header) (m : List ℕ) (op : Op) (guid file slot number : ℕ) →
       IsWritableHeader h → IsMessage h (body_of (request_of op guid file slot number)) m → h.command
       ≡ number_of_command (request_of op guid file slot number) →
-      keeps_limits op ≡ true → guid < 256 ^ 16 → file < 256 ^ 8 → slot < 256 ^ 3 → number < 16 →
+      keeps_limits op ≡ true → guid < 256 ^ 16 → file < 256 ^ 8 → slot < 256 ^ 3 → number < 16 → charge (weight op) ≤ h.charge →
       command_of t (header_as h m) m ≡ Some (request_of op guid file slot number)
   pub attach : (t : Told) (h : Header) (m : List ℕ) (op : Op) (guid file : ℕ) →
       IsWritableHeader h → IsMessage h (body_of (reconnect_of op guid file)) m → h.command ≡ number_of_command (reconnect_of op guid file) →
@@ -131,13 +131,13 @@ pub record IsLawfulAnswered (z : WorldSettings) (n : ClientEnd) (p : Option Pend
   pub final_short : length (final_of z.server.users p token) < 256 ^ 2
 
 pub record AreTokensLawful (z : WorldSettings) : Type 0 where
-  pub first : (b : Begun) × (begun_by first_token ≡ Some b)
+  pub first : (b : Begun) × ((bare : Bool) → begun_by bare first_token ≡ Some b)
   pub short : length first_token < 256 ^ 2
   pub challenge : (fresh : List ℕ) (now : ℕ) → length fresh ≡ 8 → now < 256 ^ 8 →
-      length (challenge_of (pending_by first_token fresh now)) < 256 ^ 2
+      length (challenge_of (pending_by false first_token fresh now)) < 256 ^ 2
   pub answer : (n : ClientEnd) (fresh : List ℕ) (now : ℕ) → HasLogon n → length fresh ≡ 8 → now < 256 ^ 8 →
-      (token : List ℕ) × (answer_of z.client n (challenge_of (pending_by first_token fresh now)) ≡ Some token)
-      × IsLawfulAnswered z n (pending_by first_token fresh now) token
+      (token : List ℕ) × (answer_of z.client n (challenge_of (pending_by false first_token fresh now)) ≡ Some token)
+      × IsLawfulAnswered z n (pending_by false first_token fresh now) token
 
 -- ---- all of them
 

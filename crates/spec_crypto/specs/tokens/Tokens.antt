@@ -1,12 +1,15 @@
--- The tokens of one logon as SESSION_SETUP carries them, and what a token shows to a server (MS-SMB2 3.3.5.5.3, RFC 4178 4.2).
-use Rattle.std.specs.Prelude.{ℕ, ◌==◌, Bool, true, false, ◌&&◌, if◌then◌else◌, List, [], Option, Some, None, Result, Ok, Err}
+-- The tokens of one logon as SESSION_SETUP carries them, and what a token shows to a server (MS-SMB2 3.3.5.5.3, RFC 4178 4.2). A
+-- server may also take NTLM's messages alone, without SPNEGO around them (MS-SPNG 3.3.4).
+use Rattle.std.specs.Prelude.{ℕ, ◌==◌, Bool, true, false, ◌&&◌, if◌then◌else◌, List, [], ◌∷◌, take, Option, Some, None, Result}
+use Rattle.std.specs.Prelude.{Ok, Err}
 use Rattle.std.specs.Str.{bytes_eq}
 use Rattle.spec_crypto.specs.declared.tokens.der.DerError.{DerError}
+use Rattle.spec_crypto.specs.declared.tokens.der.DerError.TheVariants.{NoNtlm}
 use Rattle.spec_crypto.specs.declared.tokens.ntlm.NtlmError.{NtlmError}
 use Rattle.spec_crypto.specs.declared.tokens.ntlm.LogonError.{LogonError}
 use Rattle.spec_crypto.specs.declared.tokens.ntlm.Type1.{Type1}
 use Rattle.spec_crypto.specs.tokens.Spnego.{InitValue, RespValue, init_in, resp_in, init_spelling, resp_spelling, ntlm_list}
-use Rattle.spec_crypto.specs.tokens.Messages.{Type2Value, type1_in, type2_in}
+use Rattle.spec_crypto.specs.tokens.Messages.{Type2Value, ntlm_signature, type1_in, type2_in}
 use Rattle.spec_crypto.specs.tokens.Formulas.{mech_list_mic}
 use Rattle.spec_crypto.specs.tokens.Acceptor.{User, LogonValue, challenge, verdict}
 use Rattle.spec_crypto.specs.tokens.Answer.{Credentials, first_message, answered}
@@ -19,7 +22,38 @@ hint_token = init_spelling (record { mech_list = ntlm_list; ntlm_first = true; t
 unfoldable pub first_token : List ℕ
 first_token = init_spelling (record { mech_list = ntlm_list; ntlm_first = true; token = Some first_message; mic = None })
 
+-- ---- who may log on, and how
+
+pub record Users : Type 0 where
+  pub list : List User
+  pub bare : Bool  -- whether NTLM's messages are taken alone too
+
+-- ---- NTLM's messages alone
+
+-- `NTLMSSP` and a zero in front (MS-NLMP 2.2.1)
+unfoldable pub is_bare : List ℕ → Bool
+is_bare token = bytes_eq (take 8 token) ntlm_signature
+
+-- they come with no list of mechanisms, and so with no MIC over one
+abbrev pub bare_init : List ℕ → InitValue
+bare_init token = record { mech_list = []; ntlm_first = true; token = Some token; mic = None }
+
+abbrev pub bare_resp : List ℕ → RespValue
+bare_resp token = record { state = None; ntlm = true; token = Some token; mic = None }
+
+-- a list that SPNEGO's token has is an element, and never empty
+unfoldable pub is_unlisted : List ℕ → Bool
+is_unlisted [] = true
+is_unlisted (byte ∷ list) = false
+
 -- ---- a first token: NTLM comes first, with a type 1
+
+-- as it reads, where NTLM's message alone is taken or not
+abbrev pub first_by : Bool → List ℕ → Result InitValue DerError
+first_by alone token = if alone then Ok (bare_init token) else init_in token
+
+unfoldable pub first_in : Bool → List ℕ → Result InitValue DerError
+first_in bare token = first_by (bare && is_bare token) token
 
 -- what a server keeps of it: the list that a MIC is over, and the type 1
 pub record Begun : Type 0 where
@@ -39,10 +73,10 @@ abbrev pub begun_of : Result InitValue DerError → Option Begun
 begun_of (Ok v) = begun_with v.mech_list v.ntlm_first v.token
 begun_of (Err e) = None
 
-unfoldable pub begun_by : List ℕ → Option Begun
-begun_by token = begun_of (init_in token)
+unfoldable pub begun_by : Bool → List ℕ → Option Begun
+begun_by bare token = begun_of (first_in bare token)
 
--- ---- the interim answer: accept-incomplete 1, NTLMSSP, and a type 2
+-- ---- the interim answer: accept-incomplete 1, NTLMSSP, and a type 2; or the type 2 alone
 
 abbrev pub challenge_resp : List ℕ → List ℕ
 challenge_resp second = resp_spelling (record { state = Some 1; ntlm = true; token = Some second; mic = None })
@@ -55,8 +89,8 @@ second_message (Err e) = []
 unfoldable pub second_of : Begun → List ℕ → ℕ → List ℕ
 second_of b server now = second_message (challenge b.first server now)
 
-unfoldable pub challenge_token : List ℕ → List ℕ
-challenge_token second = challenge_resp second
+unfoldable pub challenge_token : List ℕ → List ℕ → List ℕ
+challenge_token list second = if is_unlisted list then second else challenge_resp second
 
 -- ---- the client's second token: a type 3, and a MIC over the list of mechanisms
 
@@ -91,6 +125,14 @@ pub data Shown : Type 0 where
   Refused : Shown  -- a logon that is refused, or whose MIC over the list is another one
   LoggedOn : (logon : LogonValue) (signs : Bool) → Shown  -- a logon, and whether the token has a MIC, so that the answer owes one
 
+-- a second token as it reads: behind a type 1 alone it is a type 3 alone
+abbrev pub second_by : Bool → Bool → List ℕ → Result RespValue DerError
+second_by false alone token = resp_in token
+second_by true alone token = if alone then Ok (bare_resp token) else Err NoNtlm
+
+unfoldable pub second_in : List ℕ → List ℕ → Result RespValue DerError
+second_in list token = second_by (is_unlisted list) (is_bare token) token
+
 -- what a server keeps of a logon in the making
 pub record Pending : Type 0 where
   pub list : List ℕ
@@ -108,33 +150,36 @@ abbrev pub shown_logon : List ℕ → Option (List ℕ) → Result LogonValue Lo
 shown_logon list code (Ok logon) = shown_with list logon code
 shown_logon list code (Err e) = Refused
 
-abbrev pub shown_message : List User → Pending → Option (List ℕ) → Option (List ℕ) → Shown
+abbrev pub shown_message : Users → Pending → Option (List ℕ) → Option (List ℕ) → Shown
 shown_message users p None code = Bad
-shown_message users p (Some third) code = shown_logon p.list code (verdict users p.server p.first p.second third)
+shown_message users p (Some third) code = shown_logon p.list code (verdict users.list p.server p.first p.second third)
 
-abbrev pub shown_second : List User → Pending → Result RespValue DerError → Shown
+abbrev pub shown_second : Users → Pending → Result RespValue DerError → Shown
 shown_second users p (Ok v) = shown_message users p v.token v.mic
 shown_second users p (Err e) = Bad
 
-abbrev pub shown_by : List User → Option Pending → List ℕ → Shown
+abbrev pub shown_by : Users → Option Pending → List ℕ → Shown
 shown_by users None token = Bad
-shown_by users (Some p) token = shown_second users p (resp_in token)
+shown_by users (Some p) token = shown_second users p (second_in p.list token)
 
 abbrev pub shown_if : Option Begun → Shown → Shown
 shown_if None second = second
 shown_if (Some b) second = Begins
 
-unfoldable pub shown : List User → Option Pending → List ℕ → Shown
-shown users pending token = shown_if (begun_by token) (shown_by users pending token)
+unfoldable pub shown : Users → Option Pending → List ℕ → Shown
+shown users pending token = shown_if (begun_by users.bare token) (shown_by users pending token)
 
--- ---- the final answer: accept-completed 0, with a MIC exactly where the client sent one
+-- ---- the final answer: accept-completed 0, with a MIC exactly where the client sent one; or none, behind messages alone
 
 abbrev pub final_mic : List ℕ → LogonValue → Bool → Option (List ℕ)
 final_mic list logon true = Some (mech_list_mic logon.key false logon.exchanged list)
 final_mic list logon false = None
 
+abbrev pub final_resp : List ℕ → LogonValue → Bool → List ℕ
+final_resp list logon signs = resp_spelling (record { state = Some 0; ntlm = false; token = None; mic = final_mic list logon signs })
+
 unfoldable pub final_token : List ℕ → LogonValue → Bool → List ℕ
-final_token list logon signs = resp_spelling (record { state = Some 0; ntlm = false; token = None; mic = final_mic list logon signs })
+final_token list logon signs = if is_unlisted list then [] else final_resp list logon signs
 
 -- a client takes it where it reads as accept-completed, and its MIC, where there is one, is the server's
 abbrev pub is_final_with : List ℕ → RespValue → Bool

@@ -9,9 +9,10 @@ use Rattle.spec_wire.specs.messages.CreateContexts.{is_persistent, request_due}
 use Rattle.spec_commands.specs.Ids.{file_of, guid_of}
 use Rattle.spec_commands.specs.Text.{units_in, all_there, characters_in, text_in}
 use Rattle.spec_commands.specs.Items.{first_items, items_in}
+use Rattle.spec_commands.specs.Clashes.{has_named, has_twice, clash_in}
 use Rattle.spec_commands.specs.CommandOf.{contexts_in, create_in, command_of}
 use Rattle.examples_world.proofs.commands.create_example.Goals as goal
 
 pub returns-clause-asked : goal.returns-clause-asked
-unfolding utf16_chars encode number_of le bytes_at part_fault is_badly_linked piece is_outside length_fault context_fault first_fault is_named is_persistent request_due file_of guid_of units_in all_there characters_in text_in first_items items_in contexts_in create_in command_of
+unfolding utf16_chars encode number_of le bytes_at part_fault is_badly_linked piece is_outside length_fault context_fault first_fault is_named is_persistent request_due file_of guid_of units_in all_there characters_in text_in first_items items_in contexts_in has_named has_twice clash_in create_in command_of
 returns-clause-asked c = refl

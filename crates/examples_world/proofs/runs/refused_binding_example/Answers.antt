@@ -8,6 +8,7 @@ returns c = record {
   unsigned = refl;
   ill_signed = refl;
   without_the_key = refl;
+  not_told = refl;
   other_client = refl;
   in_the_making = refl;
 }

@@ -14,12 +14,12 @@ use Rattle.law_ties.proofs.wire_facts.commands_law.Goals as goal
 pub returns : goal.returns
 returns c = record {
   lawful = record {
-    own = λ t h m op guid file slot number fit is command limits g f s n. (
+    own = λ t h m op guid file slot number fit is command limits g f s n pays. (
         let x = spelled h (body_of (request_of op guid file slot number)) m fit is in
         let header = header_spelling (with_signature h x.code) in
         ap (command_of t (header_as h m)) (parts h (body_of (request_of op guid file slot number)) m x)
         ∙ c.request_law.ensures.own t (header_as h m) header [] op guid file slot number
-        (c.header_law.ensures.length (with_signature h x.code) x.fits) limits g f s n command);
+        (c.header_law.ensures.length (with_signature h x.code) x.fits) limits g f s n pays command);
     attach = λ t h m op guid file fit is command limits create g f. (
         let x = spelled h (body_of (reconnect_of op guid file)) m fit is in
         let header = header_spelling (with_signature h x.code) in

@@ -12,6 +12,7 @@ use Rattle.spec_commands.specs.BodyOf.{body_of, list_value}
 use Rattle.spec_commands.specs.CommandOf.{list_in, list_of}
 use Rattle.law_commands.proofs.commands.Fields.{file_again, length-file_id}
 use Rattle.law_commands.proofs.commands.ReadBack.{found, read_as}
+use Rattle.law_commands.proofs.commands.Paid.{told_most, paid_is}
 use Rattle.law_commands.proofs.commands.Texts.{text_again}
 use Rattle.law_commands.proofs.commands.parts.list_again.Goals as goal
 
@@ -49,7 +50,7 @@ told_small n = at_most (n == 0) 96
 
 pub returns : goal.returns
 unfolding list_in body_of
-returns c = λ header rest file class restart single pattern room len small low known name fits.
+returns c = λ paid header rest file class restart single pattern room len small low known name fits pays.
     let law = c.query_directory_request_law.ensures in
     let v : QueryDirectoryRequestValue = list_value file class restart single pattern room in
     let m : List ℕ = header ++ (body_of (ListDirectory file class restart single pattern room) ++ rest) in
@@ -74,9 +75,11 @@ returns c = λ header rest file class restart single pattern room len small low 
     } in
     let is = found SpellsQueryDirectoryRequest query_directory_request_fault query_directory_request_in law.one
     law.whole law.given m v (law.again header rest v len fit) in
-    read_as SpellsQueryDirectoryRequest query_directory_request_fault query_directory_request_in of_value m v is
+    let told = ap (λ (r : QueryDirectoryRequestValue). r.output_buffer_length) is.1 in
+    paid_is 14 paid room m (list_in m) (ListDirectory file class restart single pattern room) (told_most m 92 room told) pays
+    (read_as SpellsQueryDirectoryRequest query_directory_request_fault query_directory_request_in of_value m v is
     ∙ ap (list_of v) (text_again pattern name.utf8)
     ∙ ap (λ (o : ℕ). ListDirectory o class (has_bit v.flags 0x1 || has_bit v.flags 0x10) (has_bit v.flags 0x2) pattern
     room) (file_again file small)
     ∙ ap (λ (b : Bool). ListDirectory file class b (has_bit v.flags 0x2) pattern room) (restart_again restart single)
-    ∙ ap (λ (b : Bool). ListDirectory file class restart b pattern room) (single_again restart single)
+    ∙ ap (λ (b : Bool). ListDirectory file class restart b pattern room) (single_again restart single))

@@ -7,6 +7,7 @@ use Rattle.spec_commands.specs.BodyOf.{body_of, read_value}
 use Rattle.spec_commands.specs.CommandOf.{read_in}
 use Rattle.law_commands.proofs.commands.Fields.{file_again, length-file_id}
 use Rattle.law_commands.proofs.commands.ReadBack.{found, read_as}
+use Rattle.law_commands.proofs.commands.Paid.{told_most, paid_is}
 use Rattle.law_commands.proofs.commands.plain.read_again.Goals as goal
 
 abbrev of_value : ReadRequest → Command
@@ -14,7 +15,7 @@ of_value v = Read (file_of v.file_id) v.offset v.length v.minimum_count v.channe
 
 pub returns : goal.returns
 unfolding read_in body_of
-returns c = λ header rest file at size minimum channel len small far long least on.
+returns c = λ paid header rest file at size minimum channel len small far long least on pays.
     let law = c.read_request_law.ensures in
     let v : ReadRequest = read_value file at size minimum channel in
     let m : List ℕ = header ++ (body_of (Read file at size minimum channel) ++ rest) in
@@ -41,5 +42,7 @@ returns c = λ header rest file at size minimum channel len small far long least
         ),
       ),
     )) in
-    read_as SpellsReadRequest read_request_fault read_request_in of_value m v is ∙ ap (λ (o : ℕ). Read o at size minimum
-    channel) (file_again file small)
+    let told = ap (λ (r : ReadRequest). r.length) is.1 in
+    paid_is 8 paid size m (read_in m) (Read file at size minimum channel) (told_most m 68 size told) pays
+    (read_as SpellsReadRequest read_request_fault read_request_in of_value m v is
+    ∙ ap (λ (o : ℕ). Read o at size minimum channel) (file_again file small))

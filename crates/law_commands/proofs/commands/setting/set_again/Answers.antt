@@ -1,6 +1,6 @@
-use Rattle.std.proofs.Common.{◌≡◌, ℕ, ◌^◌, ◌<◌, Bool, true, false, List, [], ◌++◌, length, None, refl, ap, ◌∙◌, arith}
+use Rattle.std.proofs.Common.{◌≡◌, ℕ, ◌^◌, ◌<◌, Bool, true, false, List, ◌++◌, length, None, refl, ap, ◌∙◌, arith}
 use Rattle.std.specs.Prelude.{◌==◌, not}
-use Rattle.spec_wire.specs.messages.Utf16.{utf16}
+use Rattle.spec_wire.specs.messages.Places.{number}
 use Rattle.spec_wire.specs.messages.Classes.{is_set_class}
 use Rattle.spec_wire.specs.messages.SetInfo.{IsWritableSetInfoRequest, SetInfoRequestValue, SpellsSetInfoRequest}
 use Rattle.spec_wire.specs.messages.SetInfo.{set_info_request_fault, set_info_request_in}
@@ -9,17 +9,18 @@ use Rattle.spec_wire.specs.declared.messages.class.FileBasicInformation.{FileBas
 use Rattle.spec_wire.specs.declared.messages.class.FileDispositionInformation.{FileDispositionInformation}
 use Rattle.spec_wire.specs.declared.messages.class.FileAllocationInformation.{FileAllocationInformation}
 use Rattle.spec_wire.specs.declared.messages.class.FileEndOfFileInformation.{FileEndOfFileInformation}
-use Rattle.law_wire.proofs.messages.Rows.{length-with_fields, size_of}
 use Rattle.spec_exchange.specs.Commands.{SetInfo, Setting, SetBasic, Rename, SetDelete, SetAllocation, SetEnd, Basic}
 use Rattle.spec_commands.specs.Text.{text_in}
 use Rattle.spec_commands.specs.Tables.{bit_if}
 use Rattle.spec_commands.specs.BodyOf.{body_of, set_value, setting_bytes, class_of, basic_value}
 use Rattle.spec_commands.specs.CommandOf.{set_in, set_of, setting_of, rename_of, basic_of}
-use Rattle.law_commands.specs.commands.Fitting.{IsSetting, IsFittingName, IsBasic}
+use Rattle.law_commands.specs.commands.Fitting.{IsSetting, IsBasic}
 use Rattle.law_commands.proofs.commands.Fields.{file_again, length-file_id}
 use Rattle.law_commands.proofs.commands.ReadBack.{found, read_as}
+use Rattle.law_commands.proofs.commands.Paid.{told_most, paid_is}
 use Rattle.law_commands.proofs.commands.Texts.{text_again}
 use Rattle.law_commands.proofs.commands.Settings.{alone}
+use Rattle.law_commands.proofs.commands.SettingBytes.{bit_small, rename_value, basic_fits, rename_fits, bytes_few}
 use Rattle.law_commands.proofs.commands.setting.set_again.Goals as goal
 
 class_small : (s : Setting) → class_of s < 256 ^ 1
@@ -37,59 +38,14 @@ class_known (SetDelete delete_pending) = refl
 class_known (SetAllocation size) = refl
 class_known (SetEnd size) = refl
 
-bit_small : (b : Bool) → bit_if b 1 < 256 ^ 1
-unfolding bit_if
-bit_small true = omega arith
-bit_small false = omega arith
-
 flag_again : (b : Bool) → not (bit_if b 1 == 0) ≡ b
 unfolding bit_if
 flag_again true = refl
 flag_again false = refl
 
-abbrev rename_value : Bool → List ℕ → FileClasses.FileRenameInformationValue
-rename_value replace path = record { replace_if_exists = bit_if replace 1; root_directory = 0; name = utf16 path }
-
-basic_fits : (b : Basic) → IsBasic b → FileClasses.IsWritableFileBasicInformation (basic_value b)
-basic_fits b is = (is.created, (is.accessed, (is.written, (is.changed, (is.attributes, tt)))))
-
-rename_fits : (replace : Bool) (path : List ℕ) → IsFittingName path → FileClasses.IsWritableFileRenameInformation
-    (rename_value replace path)
-rename_fits replace path is = (bit_small replace, (omega arith, (omega (arith, is.short), (refl, tt))))
-
-bytes_few : (s : Setting) → IsSetting s → length (setting_bytes s) < 256 ^ 4
-unfolding size_of
-bytes_few (SetBasic basic) is = omega (
-  arith,
-  length-with_fields (FileClasses.file_basic_information_table (basic_value
-      basic)) [] (basic_fits basic is),
-)
-bytes_few (Rename replace path) is = omega (
-  arith,
-  is.short,
-  length-with_fields
-      (FileClasses.file_rename_information_whole (rename_value replace path)) [] (rename_fits replace path is),
-)
-bytes_few (SetDelete delete_pending) is = omega (
-  arith,
-  length-with_fields (FileClasses.file_disposition_information_table
-      (record { delete_pending = bit_if delete_pending 1 })) [] (bit_small delete_pending, tt),
-)
-bytes_few (SetAllocation size) is = omega (
-  arith,
-  length-with_fields (FileClasses.file_allocation_information_table
-      (record { allocation_size = size })) [] (is, tt),
-)
-bytes_few (SetEnd size) is = omega (
-  arith,
-  length-with_fields (FileClasses.file_end_of_file_information_table (record {
-    end_of_file = size;
-  })) [] (is, tt),
-)
-
 pub returns : goal.returns
 unfolding set_in body_of
-returns c = λ header rest file setting len small is.
+returns c = λ paid header rest file setting len small is pays.
     let law = c.set_info_request_law.ensures in
     let v : SetInfoRequestValue = set_value file setting in
     let m : List ℕ = header ++ (body_of (SetInfo file setting) ++ rest) in
@@ -115,11 +71,14 @@ returns c = λ header rest file setting len small is.
       );
       known = class_known setting;
     } in
-    let row = found SpellsSetInfoRequest set_info_request_fault set_info_request_in law.one law.whole law.given m v
-    (law.again header rest v len fit) in
-    read_as SpellsSetInfoRequest set_info_request_fault set_info_request_in set_of m v row
+    let spells : SpellsSetInfoRequest m v = law.again header rest v len fit in
+    let row = found SpellsSetInfoRequest set_info_request_fault set_info_request_in law.one law.whole law.given m v spells in
+    let told : number 4 m 68 ≡ length (setting_bytes setting) = spells.fixed.1.1.1.0 in
+    paid_is 17 paid (length (setting_bytes setting)) m (set_in m) (SetInfo file setting)
+    (told_most m 68 (length (setting_bytes setting)) told) pays
+    (read_as SpellsSetInfoRequest set_info_request_fault set_info_request_in set_of m v row
     ∙ ap (λ (o : ℕ). setting_of o (class_of setting) (setting_bytes setting)) (file_again file small)
-    ∙ by_class setting file is
+    ∙ by_class setting file is)
   where
     basic_is : (b : Basic) → IsBasic b → (FileClasses.file_basic_information_fault
         (FileClasses.file_basic_information_spelling (basic_value b)) ≡ None) × (FileClasses.file_basic_information_in
