@@ -1,3 +1,4 @@
+pub mod Clashing
 pub mod Elements
 pub mod Guids
 pub mod Heard

@@ -1,6 +1,8 @@
 //! From bytes to what a request asks and what a response says.
 
 mod asked;
+mod charges;
+mod clashes;
 mod create;
 mod heard_names;
 mod hearing;

@@ -314,7 +314,7 @@ aside_carries y t u status now s e =
       status = n;
       session = t.header.session;
       tree = t.header.tree;
-      file = related.handed_on (related.file_named t.header.command t.bytes);
+      file = related.file_past y t;
     }) same
 
 pub beside : (z : ServerSettings) (k now : ℕ) (fresh : List ℕ) (s : model.Server) (L : Logons) (f : ServerEnd)

@@ -6,7 +6,7 @@ use Rattle.std.proofs.lemmas.List.{append-nil}
 use Rattle.spec_wire.specs.declared.messages.header.Header.{Header}
 use Rattle.spec_exchange.specs.Commands as asks
 use Rattle.spec_exchange.specs.State as model
-use Rattle.spec_crypto.specs.tokens.Acceptor.{User}
+use Rattle.spec_crypto.specs.tokens.Tokens.{Users}
 use Rattle.spec_world.specs.Settings.{ServerSettings}
 use Rattle.spec_world.specs.Ends.{ServerEnd, Logons}
 use Rattle.spec_world.specs.Hearing as hearing
@@ -180,7 +180,7 @@ answered_here shown z k now fresh s L records f m c t e r bytes shows event same
     (subst (λ (n : ℕ). IsRequestEvent z.users L t c (heard_message z L n f c) (Some e)) same asks) serves
 
 -- what is served is what is asked
-pub is_served : (users : List User) (L : Logons) (t : Told) (c : hearing.Checked) (due : Option model.Message) (e : ServerEvent)
+pub is_served : (users : Users) (L : Logons) (t : Told) (c : hearing.Checked) (due : Option model.Message) (e : ServerEvent)
     → IsRequestEvent users L t c due (Some e) → IsServerServed e
 is_served users L t c None e event = absurd event
 is_served users L t c (Some m) e event = event.0

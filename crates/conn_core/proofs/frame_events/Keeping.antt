@@ -1,7 +1,7 @@
 -- What a message that takes over ids keeps.
 use Rattle.std.proofs.Common.{◌≡◌, ℕ, ◌+◌, ◌==◌, ◌≤◌, Bool, true, false, if◌then◌else◌, List}
 use Rattle.std.proofs.Common.{length, Option, Some, None, refl, sym, ap, subst, ◌∙◌}
-use Rattle.std.proofs.Common.{arith, not, ◌||◌}
+use Rattle.std.proofs.Common.{arith, not, ◌||◌, eqb-true}
 use Rattle.std.specs.Prelude.{is_some}
 use Rattle.spec_wire.specs.declared.messages.header.Header.{Header}
 use Rattle.spec_wire.specs.declared.messages.header.Span.{Span}
@@ -54,6 +54,28 @@ pub goes_keeps : (o : Option Carry) (c t : hearing.Checked) → turn_of o c ≡ 
 unfolding turned
 goes_keeps None c t e = same_keeps c t (ap (λ (x : Turn). turned c x) e)
 goes_keeps (Some y) c t e = keeps_by c.related (can_follow c y) y c t e
+
+-- ---- what fails with a CREATE is no CANCEL
+
+unnamed_follows : (b named succeeded : Bool) (y : Carry) (c : hearing.Checked) (status : ℕ)
+    → (if b then (if not named || succeeded then Goes (with_ids c y) else Fails y.status) else Goes c) ≡ Fails status → named ≡ true
+unnamed_follows true true succeeded y c status e = refl
+unnamed_follows true false succeeded y c status e = absurd cc
+unnamed_follows false named succeeded y c status e = absurd cc
+
+cancel_unnamed : (n : ℕ) (b : Bool) → (n == 12) ≡ b → is_some (file_place n) ≡ true → b ≡ false
+unfolding file_place
+cancel_unnamed n false is named = refl
+cancel_unnamed n true is named =
+    let clash : false ≡ true = subst (λ (k : ℕ). is_some (file_place k) ≡ true) (eqb-true n 12 is) named in
+    absurd cc
+
+pub fails_no_cancel : (o : Option Carry) (c : hearing.Checked) (status : ℕ) → turn_of o c ≡ Fails status
+    → hearing.is_cancel c.header ≡ false
+fails_no_cancel None c status e = absurd cc
+fails_no_cancel (Some y) c status e =
+    cancel_unnamed c.header.command (c.header.command == 12) refl
+    (unnamed_follows c.related (is_some (file_place c.header.command)) (y.status == 0) y c status e)
 
 pub failed_keeps : (o : Option Carry) (c : hearing.Checked) → Keeps c (failed_as o c)
 failed_keeps None c = same_keeps c c refl

@@ -11,7 +11,7 @@ use Rattle.wire_commands.specs.values.Meaning.{message_of, command_of}
 use Rattle.wire_commands.specs.declared.values.request.Message.{Message}
 use Rattle.spec_wire.specs.credits.Window.{granted}
 use Rattle.spec_crypto.specs.declared.sessions.material.Signer.{Signer}
-use Rattle.spec_crypto.specs.tokens.Acceptor.{User}
+use Rattle.spec_crypto.specs.tokens.Tokens.{Users}
 use Rattle.spec_crypto.specs.tokens.Tokens.{Pending}
 use Rattle.spec_world.specs.Settings.{ServerSettings}
 use Rattle.spec_world.specs.Ends.{ServerEnd, Logons, signer_on}
@@ -70,7 +70,7 @@ unfolding answering.said_body
 body_is guid salt now c token command r e =
     ap (λ (b : Bool). if b && (r.status == success) then negotiate_response_body guid salt now c.bytes else reply_body token command r) e
 
-pub no_token : (users : List User) (pending : Option Pending) (token fresh : List ℕ) (now : ℕ) (p : logon.Progress) → p ≡ logon.Stays
+pub no_token : (users : Users) (pending : Option Pending) (token fresh : List ℕ) (now : ℕ) (p : logon.Progress) → p ≡ logon.Stays
     → logon.answer_token_by users pending token fresh now p ≡ []
 unfolding logon.answer_token_by
 no_token users pending token fresh now p e = ap (λ (q : logon.Progress). logon.answer_token_by users pending token fresh now q) e

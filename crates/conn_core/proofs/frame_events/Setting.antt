@@ -11,7 +11,7 @@ use Rattle.spec_crypto.specs.sessions.Chain.{chain}
 use Rattle.spec_crypto.specs.sessions.Derivation.{keys_of, bound_keys}
 use Rattle.spec_crypto.specs.declared.sessions.material.Keys.{Keys}
 use Rattle.spec_crypto.specs.declared.sessions.material.Signer.{Signer}
-use Rattle.spec_crypto.specs.tokens.Acceptor.{User}
+use Rattle.spec_crypto.specs.tokens.Tokens.{Users}
 use Rattle.spec_world.specs.Settings.{ServerSettings}
 use Rattle.spec_world.specs.Ends.{ServerEnd, Logons, chosen_on, signer_on}
 use Rattle.spec_world.specs.Hearing as hearing
@@ -54,7 +54,7 @@ pub record IsSame (f : ServerEnd) (k : ℕ) (fresh : List ℕ) (c : hearing.Chec
 abbrev pub HasToken : hearing.Checked → SetupHeard → logon.Progress → Type 0
 HasToken c q p = (p ≡ logon.Stays) ⊎ (q.form.token.now ≡ logon.token_in c.bytes)
 
-same_keys : (users : List User) (L : Logons) (k : ℕ) (f : ServerEnd) (fresh : List ℕ) (c : hearing.Checked) (q : SetupHeard)
+same_keys : (users : Users) (L : Logons) (k : ℕ) (f : ServerEnd) (fresh : List ℕ) (c : hearing.Checked) (q : SetupHeard)
     → IsSame f k fresh c q → q.form.token.now ≡ logon.token_in c.bytes → (binding : Bool)
     → keys_behind users L q binding ≡ logon.final_keys users L k f c binding
 same_keys users L k f fresh c q is token binding =
@@ -67,20 +67,20 @@ same_keys users L k f fresh c q is token binding =
 
 -- ---- the logons, and the token that answers
 
-logons_by : (users : List User) (L : Logons) (k now : ℕ) (f : ServerEnd) (fresh : List ℕ) (c : hearing.Checked) (q : SetupHeard)
+logons_by : (users : Users) (L : Logons) (k now : ℕ) (f : ServerEnd) (fresh : List ℕ) (c : hearing.Checked) (q : SetupHeard)
     (p : logon.Progress) → IsSame f k fresh c q → q.form.token.now ≡ logon.token_in c.bytes
     → setup_logons users L q now p ≡ logon.logons_behind users L k f c fresh now p
 logons_by users L k now f fresh c q logon.Stays is token = refl
 logons_by users L k now f fresh c q (logon.Interim binding) is token =
     let connection : q.connection ≡ k = is.connection in
     let random : q.fresh ≡ fresh = is.random in
-    λ i. record L { pending = put L.pending (connection i) (logon.pending_by (token i) (random i) now) }
+    λ i. record L { pending = put L.pending (connection i) (logon.pending_by users.bare (token i) (random i) now) }
 logons_by users L k now f fresh c q (logon.Final binding number encrypts) is token =
     let session : q.session_id ≡ c.header.session = is.session in
     let keys = same_keys users L k f fresh c q is token false in
     λ i. if binding then L else record L { keys = put L.keys (session i) (keys i) }
 
-logons_are : (users : List User) (L : Logons) (k now : ℕ) (f : ServerEnd) (fresh : List ℕ) (c : hearing.Checked) (q : SetupHeard)
+logons_are : (users : Users) (L : Logons) (k now : ℕ) (f : ServerEnd) (fresh : List ℕ) (c : hearing.Checked) (q : SetupHeard)
     (p : logon.Progress) → IsSame f k fresh c q → HasToken c q p
     → setup_logons users L q now p ≡ logon.logons_behind users L k f c fresh now p
 logons_are users L k now f fresh c q p is (inl none) =
@@ -88,7 +88,7 @@ logons_are users L k now f fresh c q p is (inl none) =
     ∙ sym (ap (λ (x : logon.Progress). logon.logons_behind users L k f c fresh now x) none)
 logons_are users L k now f fresh c q p is (inr token) = logons_by users L k now f fresh c q p is token
 
-token_is : (users : List User) (L : Logons) (k now : ℕ) (f : ServerEnd) (fresh : List ℕ) (c : hearing.Checked) (q : SetupHeard)
+token_is : (users : Users) (L : Logons) (k now : ℕ) (f : ServerEnd) (fresh : List ℕ) (c : hearing.Checked) (q : SetupHeard)
     (p : logon.Progress) → IsSame f k fresh c q → HasToken c q p
     → logon.answer_token_by users (L.pending q.connection) q.form.token.now q.fresh now p
     ≡ logon.answer_token_by users (L.pending k) (logon.token_in c.bytes) fresh now p
@@ -115,7 +115,7 @@ moves_as (Interim signer) s m = m
 moves_as (Final keys channel encrypts) s m = m
 
 -- a refusal is signed as the server said, who judges a signature by the session's own key
-due_is : (users : List User) (s t : model.Server) (L : Logons) (f : ServerEnd) (c : hearing.Checked) (q : SetupHeard) (status : ℕ)
+due_is : (users : Users) (s t : model.Server) (L : Logons) (f : ServerEnd) (c : hearing.Checked) (q : SetupHeard) (status : ℕ)
     → q.session_id ≡ c.header.session → has_own_signature L q ≡ told_by L q
     → refusal_due users s L q (t.present q.session_id) status (signer_on f.keys)
     ≡ logon.staying_signer t L f c (asks.Setup (setup_of users L q)) status
@@ -125,7 +125,7 @@ due_is users s t L f c q status session own =
     (record (setup_of users L q) { verified = own i }) status
     else signer_on f.keys
 
-record Comes (users : List User) (t : model.Server) (L : Logons) (k : ℕ) (f : ServerEnd) (c : hearing.Checked) (q : SetupHeard)
+record Comes (users : Users) (t : model.Server) (L : Logons) (k : ℕ) (f : ServerEnd) (c : hearing.Checked) (q : SetupHeard)
     (status : ℕ) (keys : Keys) (p : logon.Progress) (x : Progress) : Type 0 where
   pub signer :
       logon.signer_by t users L k f c (asks.Setup (setup_of users L q)) status p ≡ progress_signer x (signer_on f.keys)
@@ -183,7 +183,7 @@ unfolding reply_body
 kind_alone token a b r = refl
 
 -- the server's answer over the definitions' message
-abbrev Over : Showing → List User → model.Server → Logons → List model.Record → ℕ → SetupHeard → Reply → model.Message → model.Answer
+abbrev Over : Showing → Users → model.Server → Logons → List model.Record → ℕ → SetupHeard → Reply → model.Message → model.Answer
     → Type 0
 Over shown users s L records now q r m A =
     let p = logon.setup_progress q.form.binding A.reply in
@@ -226,7 +226,7 @@ setup_over shown z k now fresh s L records f c q r negotiate is own token over =
     }
 
 -- the same, where the reply is lost
-abbrev LostOver : Showing → List User → Logons → List model.Record → ℕ → SetupHeard → Bool → model.Answer → Type 0
+abbrev LostOver : Showing → Users → Logons → List model.Record → ℕ → SetupHeard → Bool → model.Answer → Type 0
 LostOver shown users L records now q acted A =
     (acted ≡ A.acted) × shown A.server (setup_logons users L q now (logon.setup_progress q.form.binding A.reply)) (records ++ A.records)
 
@@ -248,7 +248,7 @@ setup_lost shown z k now fresh s L records f c q acted is token over =
 
 -- ---- the whole of it
 
-is_same : (users : List User) (L : Logons) (f : ServerEnd) (k : ℕ) (fresh : List ℕ) (c : hearing.Checked) (t : Told) (q : SetupHeard)
+is_same : (users : Users) (L : Logons) (f : ServerEnd) (k : ℕ) (fresh : List ℕ) (c : hearing.Checked) (t : Told) (q : SetupHeard)
     (x : model.Message) → t.connection ≡ k → t.fresh ≡ fresh → IsRequestTold f c t → IsRequestHeard users L t c q x → IsSame f k fresh c q
 is_same users L f k fresh c t q x same random told heard = record {
   connection = heard.connection ∙ same;
@@ -274,7 +274,7 @@ is_long bytes m c q shows setup raw =
     let text : q.bytes.now ≡ message_in bytes m = raw ∙ shows.raw (none_named m.header.command number) in
     subst (λ (b : List ℕ). 64 ≤ length b) (sym text) (part_long m.span.start m.span.end bytes shows.whole shows.inside)
 
-left_same : (users : List User) (L : Logons) (s : model.Server) (now : ℕ) (q : SetupHeard) (t : model.Server)
+left_same : (users : Users) (L : Logons) (s : model.Server) (now : ℕ) (q : SetupHeard) (t : model.Server)
     (more : List model.Record) → LeftBy s now (model.Heard (setup_message users L s q)) t more
     → LeftBy s now (model.Heard (message_for users L q)) t more
 left_same users L s now q t more (inl p) = inl p

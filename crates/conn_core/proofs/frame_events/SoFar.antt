@@ -1,18 +1,17 @@
 -- The events of the first messages of a frame, and of one more.
-use Rattle.std.proofs.Common.{◌≡◌, ℕ, ◌+◌, ◌==◌, ◌<◌, Bool, true, false}
-use Rattle.std.proofs.Common.{if◌then◌else◌, List, [], ◌∷◌, ◌++◌, length, take, Option, Some}
+use Rattle.std.proofs.Common.{◌≡◌, ℕ, ◌+◌, ◌==◌, ◌<◌, false}
+use Rattle.std.proofs.Common.{List, [], ◌∷◌, ◌++◌, length, take, Option, Some}
 use Rattle.std.proofs.Common.{None, Result, slice_get, ◌⊎◌, inl, inr, refl}
 use Rattle.std.proofs.Common.{sym, ap, subst, ◌∙◌, append-nil, length-append, arith}
 use Rattle.std.specs.Prelude.{is_some}
 use Rattle.std.proofs.lemmas.Option.{slice_get_within}
 use Rattle.spec_exchange.specs.State as model
-use Rattle.spec_wire.specs.credits.Window.{after_grant}
 use Rattle.spec_world.specs.Settings.{ServerSettings}
 use Rattle.spec_world.specs.Ends.{ServerEnd, Logons}
 use Rattle.spec_world.specs.Hearing as hearing
 use Rattle.spec_world.specs.Answering as answering
 use Rattle.spec_world.specs.Related as related
-use Rattle.spec_world.specs.Related.{failed_as}
+use Rattle.spec_world.specs.Related.{failed_as, turn_of}
 use Rattle.spec_world.specs.Connection.{said_failed}
 use Rattle.spec_world.specs.Mishaps.{Mishap, Owned}
 use Rattle.spec_world.specs.Notes.{has_acted}
@@ -27,8 +26,9 @@ use Rattle.conn_core.specs.message_replies.Replying.{AreMessagesSaid, FailsAt}
 use Rattle.conn_core.specs.frame_events.Dealing.{SameCommands, taken_records}
 use Rattle.conn_core.specs.declared.frame_events.dealing.Dealt.{Dealt}
 use Rattle.conn_core.proofs.frame_events.Lists.{checked_within, going_on, last_checked, last_message, was_there}
-use Rattle.conn_core.proofs.frame_events.Saids.{OneSaid, commands_more, fails_more, of_cancel, of_failed, said_more}
+use Rattle.conn_core.proofs.frame_events.Saids.{OneSaid, commands_more, fails_more, of_failed, said_more}
 use Rattle.conn_core.specs.frame_events.SoFar.{DealtSoFar}
+use Rattle.conn_core.proofs.frame_events.Keeping.{fails_no_cancel}
 use Rattle.conn_core.proofs.frame_events.Turns.{Turns, begins_on, behind_failed, take_more}
 
 -- ---- the message at its place may change
@@ -146,54 +146,25 @@ failed_command : (o : Option related.Carry) (c : hearing.Checked) → (failed_as
 failed_command None c = refl
 failed_command (Some y) c = refl
 
-failed_by : (z : ServerSettings) (k now : ℕ) (fresh : List ℕ) (s : model.Server) (L : Logons) (f : ServerEnd)
-    (cs : List hearing.Checked) (at from : ℕ) (x : CheckedFrame) (n : Checked) (c : hearing.Checked) (d : Dealt)
-    (y : Option related.Carry) (more : List model.Record) (w : Owned) (status : ℕ) (b : Bool)
-    → hearing.is_cancel (failed_as w.dealt.going.carried c).header ≡ b → n.fails ≡ Some status
-    → DealtSoFar z k now fresh s L f cs at from x d y more w
-    → Behind z now f cs at n (failed_as w.dealt.going.carried c) d d y more w (record w {
-      dealt = record w.dealt {
-        going = if b then w.dealt.going
-            else record w.dealt.going {
-              window = after_grant (failed_as w.dealt.going.carried c).header.credits w.dealt.going.window;
-              replies = w.dealt.going.replies ++ said_failed f w.dealt.going.window (failed_as w.dealt.going.carried c) status ∷ [];
-            };
-      };
-    })
-failed_by z k now fresh s L f cs at from x n c d y more w status true cancel fails far = record {
-  goes = far.goes;
-  none_missing = far.none_missing;
-  acted = far.acted;
-  lacked = far.lacked;
-  took = far.took;
-  records_are = far.records_are;
-  carried_is = λ less. far.carried_is (omega (arith, less));
-  answers = [];
-  replies = [];
-  answers_are = sym (append-nil d.replies.items.items);
-  replies_are = sym (append-nil w.dealt.going.replies);
-  said = of_cancel z now f n (failed_as w.dealt.going.carried c) w.dealt.going.window cancel;
-}
-failed_by z k now fresh s L f cs at from x n c d y more w status false cancel fails far = record {
-  goes = far.goes;
-  none_missing = far.none_missing;
-  acted = far.acted;
-  lacked = far.lacked;
-  took = far.took;
-  records_are = far.records_are;
-  carried_is = λ less. far.carried_is (omega (arith, less));
-  answers = [];
-  replies = said_failed f w.dealt.going.window (failed_as w.dealt.going.carried c) status ∷ [];
-  answers_are = sym (append-nil d.replies.items.items);
-  replies_are = refl;
-  said = of_failed z now f n (failed_as w.dealt.going.carried c) w.dealt.going.window status cancel fails;
-}
-
 pub failed : (z : ServerSettings) (k now : ℕ) (fresh : List ℕ) (s : model.Server) (L : Logons) (f : ServerEnd)
     (cs : List hearing.Checked) (at from : ℕ) (x : CheckedFrame) (n : Checked) (c : hearing.Checked) (d : Dealt)
-    (y : Option related.Carry) (more : List model.Record) (w : Owned) (status : ℕ) → n.fails ≡ Some status
-    → DealtSoFar z k now fresh s L f cs at from x d y more w
+    (y : Option related.Carry) (more : List model.Record) (w : Owned) (status : ℕ) → turn_of w.dealt.going.carried c ≡ related.Fails status
+    → n.fails ≡ Some status → DealtSoFar z k now fresh s L f cs at from x d y more w
     → Behind z now f cs at n (failed_as w.dealt.going.carried c) d d y more w (behind_failed z k now fresh f w c status)
-failed z k now fresh s L f cs at from x n c d y more w status fails far =
-    failed_by z k now fresh s L f cs at from x n c d y more w status (hearing.is_cancel c.header)
-    (ap (λ (k : ℕ). k == 12) (failed_command w.dealt.going.carried c)) fails far
+failed z k now fresh s L f cs at from x n c d y more w status turn fails far =
+    let off : hearing.is_cancel (failed_as w.dealt.going.carried c).header ≡ false =
+    ap (λ (k : ℕ). k == 12) (failed_command w.dealt.going.carried c) ∙ fails_no_cancel w.dealt.going.carried c status turn in
+    record {
+      goes = far.goes;
+      none_missing = far.none_missing;
+      acted = far.acted;
+      lacked = far.lacked;
+      took = far.took;
+      records_are = far.records_are;
+      carried_is = λ less. far.carried_is (omega (arith, less));
+      answers = [];
+      replies = said_failed f w.dealt.going.window (failed_as w.dealt.going.carried c) status ∷ [];
+      answers_are = sym (append-nil d.replies.items.items);
+      replies_are = refl;
+      said = of_failed z now f n (failed_as w.dealt.going.carried c) w.dealt.going.window status off fails;
+    }

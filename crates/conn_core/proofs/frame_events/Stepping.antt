@@ -7,14 +7,13 @@ use Rattle.spec_exchange.specs.Commands as asks
 use Rattle.spec_exchange.specs.State as model
 use Rattle.spec_exchange.specs.Network.{answer_to}
 use Rattle.spec_commands.specs.CommandOf.{Told, heard_as}
-use Rattle.spec_wire.specs.credits.Window.{after_grant}
 use Rattle.spec_world.specs.Settings.{ServerSettings}
 use Rattle.spec_world.specs.Ends.{ServerEnd, Logons}
 use Rattle.spec_world.specs.Hearing as hearing
 use Rattle.spec_world.specs.Related as related
 use Rattle.spec_world.specs.Related.{Fails, Goes, failed_as, turn_of}
 use Rattle.spec_world.specs.Connection as connection
-use Rattle.spec_world.specs.Connection.{Going, heard_message, said_failed}
+use Rattle.spec_world.specs.Connection.{heard_message}
 use Rattle.spec_world.specs.Given.{has_event}
 use Rattle.spec_world.specs.Mishaps.{Halts, Lacks, Owned, LeaveAll, owned_all, owning}
 use Rattle.conn_core.specs.declared.served.error.ServeError.{ServeError}
@@ -374,13 +373,6 @@ halted_err shown z k now fresh s L records f cs at x n c t given d e y ends.Memo
 
 -- ---- it fails with a CREATE before it
 
-kept_by : (shown : Showing) (records : List model.Record) (g h : Going) (b : Bool) → h.server ≡ g.server → h.logons ≡ g.logons
-    → shown g.server g.logons records → shown (if b then g else h).server (if b then g else h).logons records
-kept_by shown records g h true server logons state = state
-kept_by shown records g h false server logons state =
-    subst (λ (q : model.Server). shown q h.logons records) (sym server)
-    (subst (λ (q : Logons). shown g.server q records) (sym logons) state)
-
 failing : (status k : ℕ) (o : Option ℕ) → o ≡ Some status → (status ≡ 0 → ⊥) → FailsAt o
 failing status k o e h = subst (λ (q : Option ℕ). FailsAt q) (sym e) h
 
@@ -399,11 +391,8 @@ failed_on shown z k now fresh s L records f cs at x n c status d y more w p fail
       one_more z k now fresh s L f cs at x n c t d d y y more [] more [] w v p.checked p.here p.shows p.command
           (failing status k n.fails is (no_success w.dealt.going.carried c status fails)) (append-nil more)
           (turn_failed z k now fresh f w c status fails)
-          (failed z k now fresh s L f cs at (at + 1) x n c d y more w status is far) far,
-      kept_by shown (records ++ more) w.dealt.going (record w.dealt.going {
-        window = after_grant t.header.credits w.dealt.going.window;
-        replies = w.dealt.going.replies ++ said_failed f w.dealt.going.window t status ∷ [];
-      }) (hearing.is_cancel c.header) refl refl state,
+          (failed z k now fresh s L f cs at (at + 1) x n c d y more w status fails is far) far,
+      state,
     )
 
 -- ---- what becomes of it in code

@@ -16,13 +16,13 @@ by_false false x y e = refl
 by_false true x y e = absurd cc
 
 pub named_there : (m : List ℕ) (place count : ℕ) → count ≡ 16 → place + 16 ≤ length m
-    → take count (drop place m) ≡ related.file_at (Some place) m
+    → take count (drop place m) ≡ related.file_at place m
 unfolding bytes_at
 named_there m place count e room =
     ap (λ (n : ℕ). take n (drop place m)) e
     ∙ by_true (nat_le (place + 16) (length m)) (take 16 (drop place m)) (replicate 16 0) (at_least (place + 16) (length m) room)
 
-pub named_not : (m : List ℕ) (place : ℕ) → length m < place + 16 → replicate 16 0 ≡ related.file_at (Some place) m
+pub named_not : (m : List ℕ) (place : ℕ) → length m < place + 16 → replicate 16 0 ≡ related.file_at place m
 named_not m place short =
     by_false (nat_le (place + 16) (length m)) (bytes_at 16 m place) (replicate 16 0) (too_few (place + 16) (length m) short)
 
@@ -38,10 +38,6 @@ put_not place file m short =
     by_false (nat_le (place + 16) (length m)) (take place m ++ (file ++ drop (place + 16) m)) m (too_few (place + 16) (length m) short)
 
 -- ---- the place of a command
-
-pub by_place : (n : ℕ) (m : List ℕ) (o : Option ℕ) → o ≡ related.file_place n → related.file_at o m ≡ related.file_named n m
-unfolding related.file_named
-by_place n m o e = ap (λ (x : Option ℕ). related.file_at x m) e
 
 pub put_by_place : (n : ℕ) (file m : List ℕ) (o : Option ℕ) → o ≡ related.file_place n
     → related.with_file_at o file m ≡ related.with_file n file m

@@ -1,7 +1,7 @@
 -- The command of a number: NEGOTIATE's, SESSION_SETUP's and ECHO's alone depend on what the connection tells, and any other one
 -- is plain.
 use Rattle.std.proofs.Common.{◌≡◌, ℕ, ◌==◌, Bool, true, false, not, ◌||◌, if◌then◌else◌, List, [], ◌∷◌}
-use Rattle.std.proofs.Common.{Option, Some, None, refl, sym, ap, subst, ◌∙◌, arith}
+use Rattle.std.proofs.Common.{Option, Some, None, is_some, refl, sym, ap, subst, ◌∙◌, arith}
 use Rattle.std.specs.Prelude.{⊤}
 use Rattle.spec_wire.specs.declared.messages.header.Header.{Header}
 use Rattle.spec_wire.specs.declared.messages.error.MessageError.{MessageError}
@@ -25,9 +25,11 @@ use Rattle.spec_wire.specs.messages.FileClasses.{file_rename_information_fault, 
 use Rattle.spec_wire.specs.messages.FileClasses.{file_disposition_information_fault, file_allocation_information_in}
 use Rattle.spec_wire.specs.messages.FileClasses.{file_allocation_information_fault, file_end_of_file_information_in}
 use Rattle.spec_wire.specs.messages.FileClasses.{file_end_of_file_information_fault}
-use Rattle.spec_exchange.specs.Status.{invalid_parameter, not_supported}
+use Rattle.spec_exchange.specs.Status.{invalid_parameter, not_supported, object_name_invalid}
 use Rattle.spec_exchange.specs.Commands as asks
 use Rattle.spec_exchange.specs.Commands.{has_bit}
+use Rattle.spec_commands.specs.Charges.{is_undercharged, paid_for}
+use Rattle.spec_commands.specs.Clashes.{clash_in}
 use Rattle.spec_commands.specs.CommandOf as requests
 use Rattle.spec_commands.specs.CommandOf.{Told, unless, named_command}
 use Rattle.spec_commands.specs.Ids.{file_of}
@@ -137,17 +139,26 @@ tree_disconnect : (m : List ℕ) → IsServerPlain (requests.tree_disconnect_in 
 unfolding requests.tree_disconnect_in
 tree_disconnect m = unless_plain (bare_fault m) asks.TreeDisconnect tt
 
-create_plain : (v : CreateRequestValue) (o : Option (List ℕ)) (c : Option CreateContexts) → IsServerPlain (requests.create_of v o c)
-create_plain v None c = tt
-create_plain v (Some path) None = tt
-create_plain v (Some path) (Some c) = tt
+-- what clashes is refused, and is plain then too
+unclashed_plain : (clashes : Bool) (v : CreateRequestValue) (path : List ℕ) (c : CreateContexts)
+    → IsServerPlain (requests.unclashed clashes (requests.created_of v path c))
+unclashed_plain clashes v path c = plain_if clashes (asks.Unreadable invalid_parameter) (requests.created_of v path c) tt tt
+
+create_plain : (v : CreateRequestValue) (o : Option (List ℕ)) (c : Option CreateContexts) (clashes : Bool)
+    → IsServerPlain (requests.create_of v o c clashes)
+create_plain v None None clashes = tt
+create_plain v None (Some c) clashes =
+    plain_if (is_some c.dh2c) (requests.unclashed clashes (requests.created_of v [] c)) (asks.Unreadable object_name_invalid)
+    (unclashed_plain clashes v [] c) tt
+create_plain v (Some path) None clashes = tt
+create_plain v (Some path) (Some c) clashes = unclashed_plain clashes v path c
 
 create : (m : List ℕ) → IsServerPlain (requests.create_in m)
 unfolding requests.create_in
 create m =
     let v = create_request_in m in
-    unless_plain (create_request_fault m) (requests.create_of v (text_in v.name) (requests.contexts_in v.contexts))
-    (create_plain v (text_in v.name) (requests.contexts_in v.contexts))
+    unless_plain (create_request_fault m) (requests.create_of v (text_in v.name) (requests.contexts_in v.contexts)
+    (clash_in v.contexts)) (create_plain v (text_in v.name) (requests.contexts_in v.contexts) (clash_in v.contexts))
 
 close : (m : List ℕ) → IsServerPlain (requests.close_in m)
 unfolding requests.close_in
@@ -278,38 +289,49 @@ set m =
 
 -- ---- the command of a number
 
-abbrev rows : ℕ → List ℕ → List Row
-rows n m =
+-- where it is paid for, it is plain as its body reads, and else it doesn't read
+paid_plain : (k paid : ℕ) (m : List ℕ) (c : asks.Command) → IsServerPlain c → IsServerPlain (paid_for k paid m c)
+paid_plain k paid m c p = plain_if (is_undercharged k paid m) (asks.Unreadable invalid_parameter) c tt p
+
+abbrev rows : ℕ → ℕ → List ℕ → List Row
+rows n paid m =
     (n == 2, requests.logoff_in m) ∷ (n == 3, requests.tree_connect_in m) ∷ (n == 4, requests.tree_disconnect_in m) ∷
     (n == 5, requests.create_in m)
-    ∷ (n == 6, requests.close_in m) ∷ (n == 7, requests.flush_in m) ∷ (n == 8, requests.read_in m) ∷
-    (n == 9, requests.write_in m) ∷ (n == 10, requests.lock_in m)
-    ∷ (n == 11, requests.ioctl_in m) ∷ []
+    ∷ (n == 6, requests.close_in m) ∷ (n == 7, requests.flush_in m) ∷ (n == 8, paid_for 8 paid m (requests.read_in m)) ∷
+    (n == 9, paid_for 9 paid m (requests.write_in m)) ∷ (n == 10, requests.lock_in m)
+    ∷ (n == 11, paid_for 11 paid m (requests.ioctl_in m)) ∷ []
 
-rows_plain : (n : ℕ) (m : List ℕ) → AllPlain (rows n m)
-rows_plain n m =
-    (logoff m, (tree_connect m, (tree_disconnect m, (create m, (close m, (flush m, (read m, (write m, (lock m, (ioctl m, tt))))))))))
+rows_plain : (n paid : ℕ) (m : List ℕ) → AllPlain (rows n paid m)
+rows_plain n paid m =
+    let reads = paid_plain 8 paid m (requests.read_in m) (read m) in
+    let writes = paid_plain 9 paid m (requests.write_in m) (write m) in
+    let controls = paid_plain 11 paid m (requests.ioctl_in m) (ioctl m) in
+    (logoff m, (tree_connect m, (tree_disconnect m, (create m, (close m, (flush m, (reads, (writes, (lock m, (controls, tt))))))))))
 
-abbrev last_rows : ℕ → List ℕ → List Row
-last_rows n m = (n == 14, requests.list_in m) ∷ (n == 16, requests.query_in m) ∷ (n == 17, requests.set_in m) ∷ []
+abbrev last_rows : ℕ → ℕ → List ℕ → List Row
+last_rows n paid m = (n == 14, paid_for 14 paid m (requests.list_in m)) ∷ (n == 16, paid_for 16 paid m (requests.query_in m)) ∷ (n == 17, paid_for 17 paid m (requests.set_in m)) ∷ []
 
-last_plain : (n : ℕ) (m : List ℕ) → AllPlain (last_rows n m)
-last_plain n m = (listing m, (query m, (set m, tt)))
+last_plain : (n paid : ℕ) (m : List ℕ) → AllPlain (last_rows n paid m)
+last_plain n paid m =
+    let lists = paid_plain 14 paid m (requests.list_in m) (listing m) in
+    let queries = paid_plain 16 paid m (requests.query_in m) (query m) in
+    let sets = paid_plain 17 paid m (requests.set_in m) (set m) in
+    (lists, (queries, (sets, tt)))
 
 other_plain : (n : ℕ) → IsServerPlain (requests.other_of n)
 other_plain n = plain_if ((n == 15) || (n == 18)) (asks.Unreadable not_supported) (asks.Unreadable invalid_parameter) tt tt
 
-abbrev behind_echo : ℕ → List ℕ → asks.Command
-behind_echo n m = picked (last_rows n m) (requests.other_of n)
+abbrev behind_echo : ℕ → ℕ → List ℕ → asks.Command
+behind_echo n paid m = picked (last_rows n paid m) (requests.other_of n)
 
-abbrev behind_rows : ℕ → List ℕ → Told → asks.Command
-behind_rows n m t = if n == 13 then asks.Aside (requests.echo_status t.fault (bare_fault m)) else behind_echo n m
+abbrev behind_rows : ℕ → ℕ → List ℕ → Told → asks.Command
+behind_rows n paid m t = if n == 13 then asks.Aside (requests.echo_status t.fault (bare_fault m)) else behind_echo n paid m
 
-abbrev behind_setup : ℕ → List ℕ → Told → asks.Command
-behind_setup n m t = picked (rows n m) (behind_rows n m t)
+abbrev behind_setup : ℕ → ℕ → List ℕ → Told → asks.Command
+behind_setup n paid m t = picked (rows n paid m) (behind_rows n paid m t)
 
 abbrev behind_negotiate : ℕ → Header → List ℕ → Told → asks.Command
-behind_negotiate n h m t = if n == 1 then requests.setup_in t h m else behind_setup n m t
+behind_negotiate n h m t = if n == 1 then requests.setup_in t h m else behind_setup n h.charge m t
 
 -- ---- what is told, and what isn't
 
@@ -353,12 +375,12 @@ setup_differs h m c e =
 pub named_plain : (n : ℕ) (h : Header) (m : List ℕ) (c : asks.Command) → ((t : Told) → named_command n t h m ≡ c) → IsServerPlain c
 named_plain n h m c e =
     let first = not_met (n == 0) (λ t. asks.Aside t.negotiated) (behind_negotiate n h m) (λ t. c) (negotiate_differs c) e in
-    let second = not_met (n == 1) (λ t. requests.setup_in t h m) (behind_setup n m) (λ t. c) (setup_differs h m c) first in
-    each_picked (rows n m) (behind_rows n m) c (rows_plain n m) second (λ third.
-    let fourth = not_met (n == 13) (λ t. asks.Aside (requests.echo_status t.fault (bare_fault m))) (λ t. behind_echo n m) (λ t. c)
+    let second = not_met (n == 1) (λ t. requests.setup_in t h m) (behind_setup n h.charge m) (λ t. c) (setup_differs h m c) first in
+    each_picked (rows n h.charge m) (behind_rows n h.charge m) c (rows_plain n h.charge m) second (λ third.
+    let fourth = not_met (n == 13) (λ t. asks.Aside (requests.echo_status t.fault (bare_fault m))) (λ t. behind_echo n h.charge m) (λ t. c)
     (echo_differs (bare_fault m) c) third in
     subst (λ (y : asks.Command). IsServerPlain y) (fourth one)
-    (plain_picked (last_rows n m) (requests.other_of n) (last_plain n m) (other_plain n)))
+    (plain_picked (last_rows n h.charge m) (requests.other_of n) (last_plain n h.charge m) (other_plain n)))
 
 not_zero : (b : Bool) (c : asks.Command) (rest : Told → asks.Command)
     → ((t : Told) → (if b then asks.Aside t.negotiated else rest t) ≡ c) → b ≡ false
@@ -380,11 +402,11 @@ aside_no_setup x r is_none is_one e =
 
 setup_if_met : (b : Bool) (n : ℕ) (h : Header) (m : List ℕ) (due : Told → asks.Command) → (due one ≡ due two → ⊥)
     → ((t : Told) → is_setup_command (due t) ≡ true)
-    → ((t : Told) → (if b then requests.setup_in t h m else behind_setup n m t) ≡ due t) → b ≡ true
+    → ((t : Told) → (if b then requests.setup_in t h m else behind_setup n h.charge m t) ≡ due t) → b ≡ true
 setup_if_met true n h m due differs is_one e = refl
 setup_if_met false n h m due differs is_one e =
-    let third = all_picked (rows n m) (behind_rows n m) due differs e in
-    let fourth = not_met (n == 13) (λ t. asks.Aside (requests.echo_status t.fault (bare_fault m))) (λ t. behind_echo n m) due
+    let third = all_picked (rows n h.charge m) (behind_rows n h.charge m) due differs e in
+    let fourth = not_met (n == 13) (λ t. asks.Aside (requests.echo_status t.fault (bare_fault m))) (λ t. behind_echo n h.charge m) due
     (aside_no_setup (λ t. asks.Aside (requests.echo_status t.fault (bare_fault m))) due (λ t. refl) is_one) third in
     absurd (differs (sym (fourth one) ∙ fourth two))
 
@@ -434,11 +456,11 @@ pub named_event : (n : ℕ) (t : Told) (h : Header) (m : List ℕ) → (n == 0) 
     → has_event (named_command n t h m) ≡ true
 unfolding requests.setup_in
 named_event n t h m zero echo =
-    let last : has_event (behind_echo n m) ≡ true =
-    plain_event (behind_echo n m) (plain_picked (last_rows n m) (requests.other_of n) (last_plain n m) (other_plain n)) in
-    let behind : has_event (behind_rows n m t) ≡ true =
-    ap (λ (b : Bool). has_event (if b then asks.Aside (requests.echo_status t.fault (bare_fault m)) else behind_echo n m)) echo ∙ last in
-    let first : has_event (behind_setup n m t) ≡ true = event_picked (rows n m) (behind_rows n m t) (rows_plain n m) behind in
+    let last : has_event (behind_echo n h.charge m) ≡ true =
+    plain_event (behind_echo n h.charge m) (plain_picked (last_rows n h.charge m) (requests.other_of n) (last_plain n h.charge m) (other_plain n)) in
+    let behind : has_event (behind_rows n h.charge m t) ≡ true =
+    ap (λ (b : Bool). has_event (if b then asks.Aside (requests.echo_status t.fault (bare_fault m)) else behind_echo n h.charge m)) echo ∙ last in
+    let first : has_event (behind_setup n h.charge m t) ≡ true = event_picked (rows n h.charge m) (behind_rows n h.charge m t) (rows_plain n h.charge m) behind in
     ap (λ (b : Bool). has_event (if b then asks.Aside t.negotiated else behind_negotiate n h m t)) zero
-    ∙ event_if (n == 1) (requests.setup_in t h m) (behind_setup n m t)
+    ∙ event_if (n == 1) (requests.setup_in t h m) (behind_setup n h.charge m t)
     (setup_event t h (session_setup_request_fault m) (session_setup_request_in m)) first

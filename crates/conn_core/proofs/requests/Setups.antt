@@ -1,12 +1,12 @@
 -- A SESSION_SETUP as the server hears it and as the definitions do: a signature counts where its session is live, and else the step
 -- is the same whether it counts or not.
-use Rattle.std.proofs.Common.{◌≡◌, ℕ, ◌≤◌, nat_le, Bool, true, false, ◌&&◌, List, length, refl, sym, ap, arith}
+use Rattle.std.proofs.Common.{◌≡◌, ℕ, ◌≤◌, nat_le, Bool, true, false, ◌&&◌, length, refl, sym, ap, arith}
 use Rattle.std.proofs.lemmas.Bool.Decides.{nat_tests}
 use Rattle.spec_exchange.specs.State as model
 use Rattle.spec_exchange.specs.Network.{answer_to}
 use Rattle.spec_exchange.specs.Step.{step}
 use Rattle.spec_crypto.specs.sessions.Signing.{verifies}
-use Rattle.spec_crypto.specs.tokens.Acceptor.{User}
+use Rattle.spec_crypto.specs.tokens.Tokens.{Users}
 use Rattle.spec_world.specs.Ends.{Logons}
 use Rattle.server_checks.specs.setups.Setups.{request_of, setup_message, verified_by, with_verified}
 use Rattle.server_checks.specs.declared.setups.setup.SetupHeard.{SetupHeard}
@@ -27,7 +27,7 @@ own_same L q whole =
     let long : nat_le 64 (length q.bytes.now) ≡ true = grind (arith, nat_tests) in
     behind_length q.form.signed (nat_le 64 (length q.bytes.now)) (verifies (L.keys q.session_id).signing q.bytes.now) long
 
-with_told : (users : List User) (L : Logons) (s : model.Server) (q : SetupHeard)
+with_told : (users : Users) (L : Logons) (s : model.Server) (q : SetupHeard)
     → message_for users L q ≡ with_verified (setup_message users L s q) (request_of users L s q) (told_by L q)
 with_told users L s q = refl
 
@@ -36,7 +36,7 @@ same_live a true v true e f = refl
 same_live a true v false e f = absurd cc
 same_live a false v w e f = absurd cc
 
-live : (users : List User) (L : Logons) (s : model.Server) (q : SetupHeard) → 64 ≤ length q.bytes.now → s.present q.session_id ≡ true
+live : (users : Users) (L : Logons) (s : model.Server) (q : SetupHeard) → 64 ≤ length q.bytes.now → s.present q.session_id ≡ true
     → setup_message users L s q ≡ message_for users L q
 live users L s q whole is =
     let long : nat_le 64 (length q.bytes.now) ≡ true = grind (arith, nat_tests) in
@@ -45,14 +45,14 @@ live users L s q whole is =
     is long in
     ap (λ (v : Bool). with_verified (setup_message users L s q) (request_of users L s q) v) same
 
-by_present : (users : List User) (L : Logons) (s : model.Server) (now : ℕ) (q : SetupHeard) (b : Bool) → 64 ≤ length q.bytes.now
+by_present : (users : Users) (L : Logons) (s : model.Server) (now : ℕ) (q : SetupHeard) (b : Bool) → 64 ≤ length q.bytes.now
     → s.present q.session_id ≡ b
     → step s now (model.Heard (message_for users L q)) ≡ step s now (model.Heard (setup_message users L s q))
 by_present users L s now q true whole is = ap (λ (m : model.Message). step s now (model.Heard m)) (sym (live users L s q whole is))
 by_present users L s now q false whole is = absent s now (setup_message users L s q) (request_of users L s q) (told_by L q) refl is
 
 -- the answer is the same
-pub same_answer : (users : List User) (L : Logons) (s : model.Server) (now : ℕ) (q : SetupHeard) → 64 ≤ length q.bytes.now
+pub same_answer : (users : Users) (L : Logons) (s : model.Server) (now : ℕ) (q : SetupHeard) → 64 ≤ length q.bytes.now
     → answer_to s now (message_for users L q) (message_for users L q).command
     ≡ answer_to s now (setup_message users L s q) (setup_message users L s q).command
 same_answer users L s now q whole = by_present users L s now q (s.present q.session_id) whole refl

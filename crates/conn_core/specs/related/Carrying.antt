@@ -34,9 +34,14 @@ abbrev pub is_broken : hearing.Checked → Bool
 is_broken c = not (is_some c.fault) && hearing.is_misplaced c
 
 -- the FileId behind a message by the open that its answer tells
-abbrev pub file_told : hearing.Checked → Option ℕ → List ℕ
-file_told c (Some id) = file_id id
-file_told c None = related.handed_on (related.file_named c.header.command c.bytes)
+abbrev pub file_told : Option related.Carry → hearing.Checked → Option ℕ → List ℕ
+file_told before c (Some id) = file_id id
+file_told before c None = related.file_past before c
+
+-- the FileId that was handed to a message in its chain
+abbrev pub handed_before : Option Carry → Checked → List ℕ
+handed_before None m = related.no_file_id
+handed_before (Some y) m = if m.related then y.file else related.no_file_id
 
 -- the status of the last CREATE in front of a message in its chain
 abbrev pub status_before : Option Carry → Checked → ℕ

@@ -1,7 +1,7 @@
 -- What a message asks of the server in code.
 use Rattle.std.specs.Prelude.{◌≡◌, ◌%◌, true, ◌&&◌, ℕ, List, Option, Some, None, ⊤}
 use Rattle.spec_crypto.specs.sessions.Chain.{chain}
-use Rattle.spec_crypto.specs.tokens.Acceptor.{User}
+use Rattle.spec_crypto.specs.tokens.Tokens.{Users}
 use Rattle.spec_exchange.specs.Commands as asks
 use Rattle.spec_exchange.specs.State as model
 use Rattle.wire_commands.specs.values.Meaning
@@ -35,7 +35,7 @@ IsAside (Some m) = IsRequestOwn m.command
 
 -- ---- the message that a SESSION_SETUP is to the definitions: its signature is that of its session, live or not
 
-abbrev pub setup_of : List User → Logons → SetupHeard → asks.SetupRequest
+abbrev pub setup_of : Users → Logons → SetupHeard → asks.SetupRequest
 setup_of users L q = record {
   readable = q.form.readable;
   binding = q.form.binding;
@@ -47,7 +47,7 @@ setup_of users L q = record {
   shows = token_shows users (L.pending q.connection) q.form.token.now;
 }
 
-abbrev pub message_for : List User → Logons → SetupHeard → model.Message
+abbrev pub message_for : Users → Logons → SetupHeard → model.Message
 message_for users L q = record {
   connection = q.connection;
   client_guid = q.client_guid;
@@ -78,7 +78,7 @@ pub record IsFormed (t : Told) (m : Checked) (form : SetupForm) (bytes : List �
 
 -- It is handed on with its bytes as they were heard, its chain, and what was told; with its token, where it reads: of a body that
 -- doesn't read there is none, and its answer asks for none.
-pub record IsRequestHeard (users : List User) (L : Logons) (t : Told) (c : hearing.Checked) (q : SetupHeard)
+pub record IsRequestHeard (users : Users) (L : Logons) (t : Told) (c : hearing.Checked) (q : SetupHeard)
     (m : model.Message) : Type 0 where
   pub message : message_for users L q ≡ m
   pub setup : hearing.is_setup c.header ≡ true
@@ -90,12 +90,12 @@ pub record IsRequestHeard (users : List User) (L : Logons) (t : Told) (c : heari
   pub chosen : q.chosen ≡ t.chosen
   pub fresh : q.fresh ≡ t.fresh
 
-abbrev pub RequestAsks : List User → Logons → Told → hearing.Checked → ServerEvent → model.Message → Type 0
+abbrev pub RequestAsks : Users → Logons → Told → hearing.Checked → ServerEvent → model.Message → Type 0
 RequestAsks users L t c (events.Message message) m = Meaning.message_of message ≡ m
 RequestAsks users L t c (events.Setup setup) m = IsRequestHeard users L t c setup m
 RequestAsks users L t c _ m = ⊥
 
-abbrev pub IsRequestEvent : List User → Logons → Told → hearing.Checked → Option model.Message → Option ServerEvent → Type 0
+abbrev pub IsRequestEvent : Users → Logons → Told → hearing.Checked → Option model.Message → Option ServerEvent → Type 0
 IsRequestEvent users L t c due None = IsAside due
 IsRequestEvent users L t c (Some m) (Some event) = IsServerServed event × RequestAsks users L t c event m
 IsRequestEvent users L t c None (Some event) = ⊥

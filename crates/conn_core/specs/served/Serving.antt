@@ -2,7 +2,7 @@
 use Rattle.std.specs.Prelude.{◌≡◌, ◌⊎◌, ℕ, ◌≤◌, nat_le, Bool, ◌&&◌, if◌then◌else◌, List, [], ◌++◌, length, Option, Some, None, Result, Ok, Err, ⊤}
 use Rattle.spec_crypto.specs.declared.sessions.material.Signer.{Signer}
 use Rattle.spec_crypto.specs.sessions.Signing.{verifies}
-use Rattle.spec_crypto.specs.tokens.Acceptor.{User}
+use Rattle.spec_crypto.specs.tokens.Tokens.{Users}
 use Rattle.spec_exchange.specs.Commands as asks
 use Rattle.spec_exchange.specs.State as model
 use Rattle.spec_exchange.specs.Network.{answer_to}
@@ -42,7 +42,7 @@ abbrev pub has_own_signature : Logons → SetupHeard → Bool
 has_own_signature L q = q.form.signed && (nat_le 64 (length q.bytes.now) && verifies (L.keys q.session_id).signing q.bytes.now)
 
 -- who signs where it is refused, by whether its session is live and by the status; own signs for the connection
-abbrev pub refusal_due : List User → model.Server → Logons → SetupHeard → Bool → ℕ → Option Signer → Option Signer
+abbrev pub refusal_due : Users → model.Server → Logons → SetupHeard → Bool → ℕ → Option Signer → Option Signer
 refusal_due users s L q live status own =
     if q.form.binding then logon.binding_signer live (L.keys q.session_id) own (record (request_of users L s q) { verified = has_own_signature L q }) status
     else own
@@ -52,7 +52,7 @@ RefusesBy Stays own due = due ≡ own
 RefusesBy (Refused signer) own due = due ≡ signer
 RefusesBy _ own due = ⊥
 
-abbrev pub IsProgress : List User → model.Server → Logons → SetupHeard → Bool → ℕ → logon.Progress → Progress → Type 0
+abbrev pub IsProgress : Users → model.Server → Logons → SetupHeard → Bool → ℕ → logon.Progress → Progress → Type 0
 IsProgress users s L q live status logon.Stays p = (own : Option Signer) → RefusesBy p own (refusal_due users s L q live status own)
 IsProgress users s L q live status (logon.Interim binding) (Interim signer) =
     signer ≡ (if binding then Some (L.keys q.session_id).signing else None)
@@ -86,7 +86,7 @@ RepliesHeard shown s L records now m r =
     let A = answer_to s now m m.command in
     ServerAnswers m [] A r × ServerStands r.progress × shown A.server L (records ++ A.records)
 
-abbrev pub RepliesSetup : Showing → List User → model.Server → Logons → List model.Record → ℕ → SetupHeard → Reply → Type 0
+abbrev pub RepliesSetup : Showing → Users → model.Server → Logons → List model.Record → ℕ → SetupHeard → Reply → Type 0
 RepliesSetup shown users s L records now q r =
     let m = setup_message users L s q in
     let A = answer_to s now m m.command in
@@ -100,7 +100,7 @@ RepliesOther shown s L records now e r =
     let A = step s now e in
     (r.status ≡ A.reply.status) × (r.acted ≡ A.acted) × shown A.server L (records ++ A.records)
 
-abbrev pub ServerReplies : Showing → List User → model.Server → Logons → List model.Record → ℕ → ServerEvent → Reply → Type 0
+abbrev pub ServerReplies : Showing → Users → model.Server → Logons → List model.Record → ℕ → ServerEvent → Reply → Type 0
 ServerReplies shown users s L records now (events.Message message) r =
     RepliesHeard shown s L records now (Meaning.message_of message) r
 ServerReplies shown users s L records now (events.Setup setup) r = RepliesSetup shown users s L records now setup r
@@ -116,13 +116,13 @@ IsLost shown A L records acted = (acted ≡ A.acted) × shown A.server L (record
 abbrev pub LosesHeard : Showing → model.Server → Logons → List model.Record → ℕ → model.Message → Bool → Type 0
 LosesHeard shown s L records now m acted = IsLost shown (answer_to s now m m.command) L records acted
 
-abbrev pub LosesSetup : Showing → List User → model.Server → Logons → List model.Record → ℕ → SetupHeard → Bool → Type 0
+abbrev pub LosesSetup : Showing → Users → model.Server → Logons → List model.Record → ℕ → SetupHeard → Bool → Type 0
 LosesSetup shown users s L records now q acted =
     let m = setup_message users L s q in
     let A = answer_to s now m m.command in
     IsLost shown A (setup_logons users L q now (logon.progress m.command A.reply)) records acted
 
-abbrev pub ServerLoses : Showing → List User → model.Server → Logons → List model.Record → ℕ → ServerEvent → Bool → Type 0
+abbrev pub ServerLoses : Showing → Users → model.Server → Logons → List model.Record → ℕ → ServerEvent → Bool → Type 0
 ServerLoses shown users s L records now (events.Message message) acted =
     LosesHeard shown s L records now (Meaning.message_of message) acted
 ServerLoses shown users s L records now (events.Setup setup) acted = LosesSetup shown users s L records now setup acted
@@ -149,14 +149,14 @@ abbrev pub LeftBy : model.Server → ℕ → model.ServerEvent → model.Server 
 LeftBy s now e t more =
     ((t ≡ s) × (more ≡ [])) ⊎ ((o : ℕ) × Expires s now e t o × (more ≡ alone_records s now e o))
 
-abbrev pub ServerLacks : List User → model.Server → Logons → ℕ → ServerEvent → model.Server → List model.Record → Type 0
+abbrev pub ServerLacks : Users → model.Server → Logons → ℕ → ServerEvent → model.Server → List model.Record → Type 0
 ServerLacks users s L now (events.Message message) t more = LeftBy s now (model.Heard (Meaning.message_of message)) t more
 ServerLacks users s L now (events.Setup setup) t more = LeftBy s now (model.Heard (setup_message users L s setup)) t more
 ServerLacks users s L now (events.Accept connection) t more = LeftBy s now (model.Accept connection) t more
 ServerLacks users s L now (events.End connection) t more = LeftBy s now (model.End connection) t more
 ServerLacks users s L now events.Stop t more = LeftBy s now model.Stop t more
 
-abbrev pub ServerServes : Showing → List User → model.Server → Logons → List model.Record → ℕ → ServerEvent
+abbrev pub ServerServes : Showing → Users → model.Server → Logons → List model.Record → ℕ → ServerEvent
     → Result Reply ServeError → Type 0
 ServerServes shown users s L records now event (Ok r) = ServerReplies shown users s L records now event r
 ServerServes shown users s L records now event (Err Memory) =

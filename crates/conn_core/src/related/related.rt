@@ -6,7 +6,7 @@ ghost use Rattle.spec_commands.specs.CommandOf;
 ghost use Rattle.spec_world.specs.Hearing as hearing;
 ghost use Rattle.spec_world.specs.Related as related;
 ghost use Rattle.conn_core.specs.related.Carrying as carrying;
-ghost use Rattle.conn_core.specs.related.Carrying.{carry_of, file_told, follows, status_before, IsCarried, RelatedCarries};
+ghost use Rattle.conn_core.specs.related.Carrying.{carry_of, file_told, handed_before, follows, status_before, IsCarried, RelatedCarries};
 
 use crate::served::{Reply, ServeError};
 use conn_ends::Checked;
@@ -68,7 +68,7 @@ fn file_place(command: u16) -> Option<usize>
 #[tactic(auto, using(crate::proofs::related::Files::named_there, crate::proofs::related::Files::named_not))]
 fn file_at(message: &[u8], place: usize) -> [u8; 16]
     requires { place ≤ 88 }
-    ensures { result ≡ related.file_at (Some place) message.now }
+    ensures { result ≡ related.file_at place message.now }
 {
     if message.len() < place + 16 {
         return [0; 16];
@@ -76,16 +76,6 @@ fn file_at(message: &[u8], place: usize) -> [u8; 16]
     let mut file = [0; 16];
     file.copy_from_slice(&message[place..place + 16]);
     file
-}
-
-/// The FileId that a request names, 16 zeros where it has none.
-fn file_named(command: u16, message: &[u8]) -> [u8; 16]
-    ensures { result ≡ related.file_named command message.now }
-{
-    match file_place(command) {
-        Some(place) => file_at(message, place),
-        None => [0; 16],
-    }
 }
 
 /// Only an unrelated request names no open by 16 bytes FF: a related one is handed zeros.
@@ -149,6 +139,33 @@ fn create_behind(before: &Option<Carry>, checked: &Checked, status: u32) -> u32
     }
 }
 
+/// The FileId that was handed to a message in its chain, 16 zeros where none was.
+fn file_before(before: &Option<Carry>, checked: &Checked) -> [u8; 16]
+    ensures { result ≡ handed_before before.now checked.now }
+{
+    match before {
+        None => [0; 16],
+        Some(before) => {
+            if checked.related {
+                before.file
+            } else {
+                [0; 16]
+            }
+        }
+    }
+}
+
+/// The FileId that a request names; of one that can name none, as an ECHO, the one that was handed to it.
+fn file_past(before: &Option<Carry>, checked: &Checked, message: &[u8]) -> [u8; 16]
+    ensures { (c : hearing.Checked) → IsCarried checked.now message.now c
+        → result ≡ related.file_past (option_map carry_of before.now) c }
+{
+    match file_place(checked.header.command) {
+        Some(place) => handed_on(file_at(message, place)),
+        None => file_before(before, checked),
+    }
+}
+
 /// Behind a message that has no ids of its own, of this status.
 fn carried_past(before: &Option<Carry>, checked: &Checked, message: &[u8], status: u32) -> Carry
     ensures { (c : hearing.Checked) → IsCarried checked.now message.now c
@@ -158,7 +175,7 @@ fn carried_past(before: &Option<Carry>, checked: &Checked, message: &[u8], statu
         status: create_behind(before, checked, status),
         session: checked.header.session,
         tree: checked.header.tree,
-        file: handed_on(file_named(checked.header.command, message)),
+        file: file_past(before, checked, message),
     }
 }
 
@@ -195,13 +212,19 @@ pub(crate) fn behind_none(before: &Option<Carry>, checked: &Checked, message: &[
     carried_past(before, checked, message, SUCCESS)
 }
 
-/// The FileId behind an answer: of the open that it tells, else the one that the request names.
-fn file_behind(checked: &Checked, message: &[u8], file: Option<u64>) -> [u8; 16]
-    ensures { (c : hearing.Checked) → IsCarried checked.now message.now c → result ≡ file_told c file }
+/// The FileId behind an answer: of the open that it tells, else as behind a message without one.
+fn file_behind(
+    before: &Option<Carry>,
+    checked: &Checked,
+    message: &[u8],
+    file: Option<u64>,
+) -> [u8; 16]
+    ensures { (c : hearing.Checked) → IsCarried checked.now message.now c
+        → result ≡ file_told (option_map carry_of before.now) c file }
 {
     match file {
         Some(file) => file_id(file),
-        None => handed_on(file_named(checked.header.command, message)),
+        None => file_past(before, checked, message),
     }
 }
 
@@ -214,7 +237,7 @@ fn behind_reply(before: &Option<Carry>, checked: &Checked, message: &[u8], reply
         status: create_behind(before, checked, reply.status),
         session: reply.session,
         tree: reply.tree,
-        file: file_behind(checked, message, reply.file),
+        file: file_behind(before, checked, message, reply.file),
     }
 }
 

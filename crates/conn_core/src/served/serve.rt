@@ -47,14 +47,14 @@ impl Reply {
 /// A server that takes one event at a time.
 pub trait Serve {
     ghost use Rattle.std.specs.Prelude.{◌≡◌, ℕ, List, Option, Some, Err, IfOk};
-    ghost use Rattle.spec_crypto.specs.tokens.Acceptor.{User};
+    ghost use Rattle.spec_crypto.specs.tokens.Tokens.{Users};
     ghost use Rattle.spec_exchange.specs.State.{Record, Server};
     ghost use Rattle.spec_world.specs.Ends.{Logons};
     ghost use Rattle.conn_core.specs.served.Serving.{Halts, IsServerServed, IsServerShort, ServerServes};
     ghost use Rattle.conn_core.specs.declared.served.error.ServeError.TheVariants as errors;
 
     /// With these users it shows a state of the model, logons, and the records that were written.
-    ghost shows: { Self → List User → Server → Logons → List Record → Type 0 };
+    ghost shows: { Self → Users → Server → Logons → List Record → Type 0 };
 
     /// The count of the disk's faults at which it stopped.
     ghost stopped: { Self → Option ℕ };
@@ -64,10 +64,10 @@ pub trait Serve {
     /// where its disk fails; from then on each event answers `Stopped` with that count, and of what it shows nothing is told.
     fn event(&mut self, now: u64, event: ServerEvent<'_>) -> Result<Reply, ServeError>
         ensures short { IfOk result (λ r. IsServerShort r) }
-        ensures serves { (users : List User) (s : Server) (L : Logons) (records : List Record)
+        ensures serves { (users : Users) (s : Server) (L : Logons) (records : List Record)
             → shows self.old users s L records → IsServerServed event.entry
             → ServerServes (shows self.new users) users s L records now event.entry result }
-        ensures halts { (users : List User) (s : Server) (L : Logons) (records : List Record)
+        ensures halts { (users : Users) (s : Server) (L : Logons) (records : List Record)
             → shows self.old users s L records → Halts (stopped self.old) (stopped self.new) result }
         ensures halted { (count : ℕ) → stopped self.old ≡ Some count
             → (result ≡ Err (errors.Stopped count)) × (stopped self.new ≡ Some count) }

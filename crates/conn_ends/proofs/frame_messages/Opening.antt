@@ -10,7 +10,6 @@ use Rattle.spec_crypto.specs.sessions.Sealing.{tag_is_right, key_for, shown}
 use Rattle.std.specs.Str.{bytes_eq}
 use Rattle.spec_wire.specs.messages.Places.{bytes_at}
 use Rattle.crypto_sessions.specs.session_keys.Unsealing.{UnsealsInPlace}
-use Rattle.spec_world.specs.Ends.{Unsealable}
 use Rattle.spec_world.specs.Hearing.{opened_by, is_encrypted}
 use Rattle.conn_ends.specs.declared.end.ConnEnd.{ConnEnd}
 use Rattle.conn_ends.specs.declared.end.ConnEnd.TheVariants as ends

@@ -1,5 +1,5 @@
 -- One message more in front of what is due of the rest.
-use Rattle.std.proofs.Common.{◌≡◌, Bool, true, false, ◌||◌, List, [], ◌∷◌, ◌++◌, Option, Some, None}
+use Rattle.std.proofs.Common.{◌≡◌, Bool, true, false, List, [], ◌∷◌, ◌++◌, Option, Some, None}
 use Rattle.std.proofs.Common.{Result, Ok, Err, refl, ap}
 use Rattle.spec_world.specs.Ends as ends
 use Rattle.spec_world.specs.Messages.{HeardMessage}

@@ -5,7 +5,6 @@ use Rattle.std.proofs.Common.{refl, sym, ap, subst, ◌∙◌, arith, is_some}
 use Rattle.std.proofs.lemmas.List.{append-nil, drop-drop, drop_more, length-take}
 use Rattle.std.proofs.Math.Nat.{min-le_left}
 use Rattle.std.proofs.Math.ListN.{drop_of_length-le}
-use Rattle.spec_wire.specs.declared.messages.header.Header.{Header}
 use Rattle.spec_wire.specs.declared.messages.header.Span.{Span}
 use Rattle.spec_exchange.specs.Status.{access_denied}
 use Rattle.spec_world.specs.Ends as ends

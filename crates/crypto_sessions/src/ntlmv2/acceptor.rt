@@ -376,7 +376,7 @@ impl Acceptor {
     /// The logon that a type 3 proves, or the first of `NotAscii`, `UnknownUser`, `WrongProof` and `WrongMic` that
     /// applies; a type 3 that doesn't read is `WrongProof`.
     pub fn check(&self, alloc: Global, users: &Users, t3: &[u8]) -> Result<Logon, LogonError>
-        ensures { Judges result (verdict users.now self.now.server self.now.first self.now.second t3.now) }
+        ensures { Judges result (verdict users.now.list self.now.server self.now.first self.now.second t3.now) }
     {
         let m = match read_type3(t3) {
             Err(_break) => return Err(LogonError::WrongProof),

@@ -4,15 +4,15 @@ ghost use Rattle.spec_commands.specs.CommandOf;
 ghost use Rattle.spec_commands.specs.CommandOf.{Told};
 ghost use Rattle.wire_commands.specs.values.Meaning;
 
+use crate::reading::charges::{paid_for, paid_list, paid_setting};
 use crate::reading::create::create_in;
 use crate::reading::ids::has_bit;
 use crate::reading::lock::lock_in;
 use crate::reading::plain::{
     close_in, flush_in, ioctl_in, logoff_in, read_in, tree_disconnect_in, write_in,
 };
-use crate::reading::query::{list_in, query_in};
+use crate::reading::query::query_in;
 use crate::reading::session::{echo_form, setup_in, tree_connect_in};
-use crate::reading::setting::set_in;
 use crate::reading::status::{INVALID_PARAMETER, NOT_SUPPORTED};
 use crate::values::{Command, Message, Request};
 use spec_wire::Header;
@@ -33,9 +33,10 @@ fn other_of<'a>(number: u16) -> Command<'a>
 }
 
 // The command of a message that needs nothing of its connection.
-fn command_in(alloc: Global, number: u16, m: &[u8]) -> Result<Command<'_>, AllocError>
+fn command_in(alloc: Global, number: u16, charge: u16, m: &[u8]) -> Result<Command<'_>, AllocError>
     requires { Meaning.IsValueOwn number }
-    ensures { (t : Told) (h : Header) → IfOk result (λ c. Meaning.command_of c ≡ CommandOf.named_command number t h m.now) }
+    ensures { (t : Told) (h : Header) → h.charge ≡ charge
+        → IfOk result (λ c. Meaning.command_of c ≡ CommandOf.named_command number t h m.now) }
 {
     match number {
         2 => Ok(logoff_in(m)),
@@ -44,19 +45,19 @@ fn command_in(alloc: Global, number: u16, m: &[u8]) -> Result<Command<'_>, Alloc
         5 => create_in(alloc, m),
         6 => Ok(close_in(m)),
         7 => Ok(flush_in(m)),
-        8 => Ok(read_in(m)),
-        9 => Ok(write_in(m)),
+        8 => Ok(paid_for(8, charge, m, read_in(m))),
+        9 => Ok(paid_for(9, charge, m, write_in(m))),
         10 => lock_in(alloc, m),
-        11 => Ok(ioctl_in(m)),
-        14 => list_in(alloc, m),
-        16 => Ok(query_in(m)),
-        17 => set_in(alloc, m),
+        11 => Ok(paid_for(11, charge, m, ioctl_in(m))),
+        14 => paid_list(alloc, charge, m),
+        16 => Ok(paid_for(16, charge, m, query_in(m))),
+        17 => paid_setting(alloc, charge, m),
         _ => Ok(other_of(number)),
     }
 }
 
 /// What the message `m` of this header asks (MS-SMB2 2.2.1, 2.2.3 to 2.2.40): `None` exactly for a CANCEL. `m`
-/// begins with the header. A body that doesn't read, an information class that isn't known and what isn't
+/// begins with the header. What its charge doesn't pay for, a body that doesn't read, an information class that isn't known and what isn't
 /// supported are `Unreadable`, with the status that answers it. Only what a WRITE and a SESSION_SETUP carry is
 /// borrowed; texts and the elements of a LOCK take memory.
 #[tactic(auto, unfolding(spec_commands::specs::CommandOf::command_of))]
@@ -72,7 +73,7 @@ pub fn request_of<'a>(
         1 => Ok(Some(Request::Setup(setup_in(header, m)))),
         12 => Ok(None),
         13 => Ok(Some(Request::Echo { form: echo_form(m) })),
-        number => match command_in(alloc, number, m) {
+        number => match command_in(alloc, number, header.charge, m) {
             Ok(command) => Ok(Some(Request::Command(command))),
             Err(error) => Err(error),
         },

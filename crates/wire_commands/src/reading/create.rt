@@ -1,10 +1,12 @@
 //! CREATE.
-ghost use Rattle.std.specs.Prelude.{◌≡◌, IfOk, option_map};
+ghost use Rattle.std.specs.Prelude.{◌≡◌, IfOk, None, Some, option_map};
+ghost use Rattle.spec_commands.specs.Clashes.{clash_in};
 ghost use Rattle.spec_commands.specs.CommandOf;
 ghost use Rattle.spec_commands.specs.Text.{text_in};
 ghost use Rattle.wire_commands.specs.values.Meaning;
 ghost use Rattle.wire_messages.specs.file_messages.Views.{message_create_request};
 
+use crate::reading::clashes::clash_in;
 use crate::reading::ids::{file_of, guid_of};
 use crate::reading::status::{INVALID_PARAMETER, OBJECT_NAME_INVALID, unreadable};
 use crate::reading::texts::text_in;
@@ -52,12 +54,8 @@ fn reconnect_of(asked: Option<Dh2c>) -> Option<Reconnect>
 }
 
 // The command of a name and of contexts that read.
-fn named_create<'a>(
-    v: &wire_messages::CreateRequest<'_>,
-    path: Text,
-    c: &CreateContexts,
-) -> Command<'a>
-    ensures { Meaning.command_of result ≡ CommandOf.create_of (message_create_request v.now) (Some path) (Some c.now) }
+fn created<'a>(v: &wire_messages::CreateRequest<'_>, path: Text, c: &CreateContexts) -> Command<'a>
+    ensures { Meaning.command_of result ≡ CommandOf.created_of (message_create_request v.now) path c.now }
 {
     Command::Create(CreateRequest {
         path,
@@ -73,23 +71,86 @@ fn named_create<'a>(
     })
 }
 
+// The command of a name and of contexts that read, where these don't clash.
+fn unclashed<'a>(
+    alloc: Global,
+    v: &wire_messages::CreateRequest<'_>,
+    path: Text,
+    contexts: &CreateContexts,
+) -> Result<Command<'a>, AllocError>
+    requires { CommandOf.contexts_in v.now.contexts.now ≡ Some contexts.now }
+    ensures { IfOk result (λ c. Meaning.command_of c ≡ CommandOf.unclashed (clash_in v.now.contexts.now)
+        (CommandOf.created_of (message_create_request v.now) path contexts.now)) }
+{
+    if clash_in(alloc, v.contexts)? {
+        return Ok(Command::Unreadable {
+            status: INVALID_PARAMETER,
+        });
+    }
+    Ok(created(v, path, contexts))
+}
+
+// What asks to attach, whose name isn't judged (3.3.5.9.12).
+fn nameless<'a>(
+    alloc: Global,
+    v: &wire_messages::CreateRequest<'_>,
+    contexts: &CreateContexts,
+) -> Result<Command<'a>, AllocError>
+    requires { CommandOf.contexts_in v.now.contexts.now ≡ Some contexts.now }
+    ensures { IfOk result (λ c. Meaning.command_of c ≡ CommandOf.create_of (message_create_request v.now) None (Some contexts.now)
+        (clash_in v.now.contexts.now)) }
+{
+    if contexts.dh2c.is_none() {
+        return Ok(Command::Unreadable {
+            status: OBJECT_NAME_INVALID,
+        });
+    }
+    unclashed(alloc, v, Text::new(alloc), contexts)
+}
+
+// Of a name that is no text.
+fn create_without_text<'a>(
+    alloc: Global,
+    v: &wire_messages::CreateRequest<'_>,
+) -> Result<Command<'a>, AllocError>
+    ensures { IfOk result (λ c. Meaning.command_of c ≡ CommandOf.create_of (message_create_request v.now) None
+        (CommandOf.contexts_in v.now.contexts.now) (clash_in v.now.contexts.now)) }
+{
+    match contexts_in(v.contexts) {
+        Some(contexts) => nameless(alloc, v, &contexts),
+        None => Ok(Command::Unreadable {
+            status: OBJECT_NAME_INVALID,
+        }),
+    }
+}
+
+// Of a name that is text.
+fn create_with_text<'a>(
+    alloc: Global,
+    v: &wire_messages::CreateRequest<'_>,
+    path: Text,
+) -> Result<Command<'a>, AllocError>
+    ensures { IfOk result (λ c. Meaning.command_of c ≡ CommandOf.create_of (message_create_request v.now) (Some path)
+        (CommandOf.contexts_in v.now.contexts.now) (clash_in v.now.contexts.now)) }
+{
+    match contexts_in(v.contexts) {
+        Some(contexts) => unclashed(alloc, v, path, &contexts),
+        None => Ok(Command::Unreadable {
+            status: INVALID_PARAMETER,
+        }),
+    }
+}
+
 fn create_of<'a>(
     alloc: Global,
     v: &wire_messages::CreateRequest<'_>,
 ) -> Result<Command<'a>, AllocError>
     ensures { IfOk result (λ c. Meaning.command_of c ≡ CommandOf.create_of (message_create_request v.now) (text_in v.now.name.now)
-        (CommandOf.contexts_in v.now.contexts.now)) }
+        (CommandOf.contexts_in v.now.contexts.now) (clash_in v.now.contexts.now)) }
 {
     match text_in(alloc, v.name) {
-        Ok(Some(path)) => match contexts_in(v.contexts) {
-            Some(contexts) => Ok(named_create(v, path, &contexts)),
-            None => Ok(Command::Unreadable {
-                status: INVALID_PARAMETER,
-            }),
-        },
-        Ok(None) => Ok(Command::Unreadable {
-            status: OBJECT_NAME_INVALID,
-        }),
+        Ok(Some(path)) => create_with_text(alloc, v, path),
+        Ok(None) => create_without_text(alloc, v),
         Err(error) => Err(error),
     }
 }

@@ -1,4 +1,4 @@
-use Rattle.std.proofs.Common.{◌+◌, ◌-◌, length, arith}
+use Rattle.std.proofs.Common.{◌+◌, length, arith}
 use Rattle.conn_ends.proofs.reply_sealing.Placing.{placed_is, room_behind}
 use Rattle.conn_ends.proofs.reply_sealing.frames.Frames.place.Goals as goal
 
