@@ -11,7 +11,7 @@ use Rattle.spec_exchange.specs.Check.{command_check, on_open, tree_command, with
 use Rattle.spec_exchange.specs.CheckOpen.{free_ioctl_check, ioctl_check}
 use Rattle.spec_exchange.specs.Commands as asks
 use Rattle.spec_exchange.specs.Commands.{form, is_setup, no_file}
-use Rattle.spec_exchange.specs.Opens.{is_of_session}
+use Rattle.spec_exchange.specs.Opens.{is_of_tree}
 use Rattle.spec_exchange.specs.State.{Server, Message}
 use Rattle.spec_exchange.specs.Status.{file_closed}
 use Rattle.spec_exchange.specs.Verdict.{Verdict, Refuse}
@@ -102,9 +102,9 @@ pub short_of : (c : Command) (f p : ℕ) (bytes : Bor (List ℕ)) (channel : ℕ
     → IsListingShort p bytes.now
 short_of c f p bytes channel e g = short_write p bytes.now channel (sym (ap (λ (z : Command). form (command_of z)) e) ∙ g)
 
-pub on_this : (s : Server) (m : Message) (o : ℕ) (v : Verdict) → is_of_session s o m.session_id ≡ true → v ≡ on_open s m o v
+pub on_this : (s : Server) (m : Message) (o : ℕ) (v : Verdict) → is_of_tree s o m.session_id m.tree_id ≡ true → v ≡ on_open s m o v
 on_this s m o v e = ap (λ (z : Bool). if z then v else Refuse file_closed) (sym e)
 
-pub not_this : (s : Server) (m : Message) (o : ℕ) (v : Verdict) → is_of_session s o m.session_id ≡ false
+pub not_this : (s : Server) (m : Message) (o : ℕ) (v : Verdict) → is_of_tree s o m.session_id m.tree_id ≡ false
     → Refuse file_closed ≡ on_open s m o v
 not_this s m o v e = ap (λ (z : Bool). if z then v else Refuse file_closed) (sym e)

@@ -4,14 +4,13 @@ ghost use Rattle.wire_commands.specs.values.Meaning.{command_of, message_of};
 ghost use Rattle.spec_exchange.specs.Check.{check, command_check, formed, has_session, on_open, owed};
 ghost use Rattle.spec_exchange.specs.Check.{tree_command, with_tree};
 ghost use Rattle.spec_exchange.specs.Commands.{Ioctl, form, is_setup, no_file};
-ghost use Rattle.spec_exchange.specs.Opens.{is_of_session};
 ghost use Rattle.spec_exchange.specs.State.{Server};
 ghost use Rattle.server_checks.specs.Looks.{HasItsSession, IsOnOpen, open_command};
 ghost use Rattle.server_checks.specs.Shown.{TablesShown};
 ghost use Rattle.law_server.specs.tables.Fits.{Fits};
 ghost use Rattle.server_checks.specs.verdicts.Views.{verdict_of};
 
-use crate::tables::{Tables, is_at};
+use crate::tables::Tables;
 use crate::verdicts::status::{
     FILE_CLOSED, NETWORK_NAME_DELETED, NOT_SUPPORTED, USER_SESSION_DELETED,
 };
@@ -149,25 +148,17 @@ impl Tables {
         }
     }
 
-    // The open stands in this session.
+    // The open stands in this session, as one of this tree.
     fn check_open_of(&self, m: &Message<'_>, id: u64) -> Result<Verdict, AllocError>
         ensures { (s : Server) → Fits s → TablesShown self.now s → form (command_of m.now.command) ≡ None
             → IfOk result (λ v. verdict_of (command_of m.now.command) v
             ≡ on_open s (message_of m.now) id (open_command s (message_of m.now) id (command_of m.now.command))) }
     {
-        if self.is_of_session(id, m.session_id) {
+        let is_of_tree = self.opens.is_of_tree(id, m.session_id, m.tree_id);
+        if is_of_tree {
             return self.check_on_open(m, id);
         }
         Ok(refuse(FILE_CLOSED))
-    }
-
-    fn is_of_session(&self, id: u64, session: u64) -> bool
-        ensures { (s : Server) → TablesShown self.now s → result ≡ is_of_session s id session }
-    {
-        match self.opens.row(id) {
-            Some(row) => is_at(session, row.session),
-            None => false,
-        }
     }
 
     fn check_on_open(&self, m: &Message<'_>, id: u64) -> Result<Verdict, AllocError>

@@ -1,15 +1,16 @@
 //! The checks of CREATE (MS-SMB2 3.3.5.9, 3.3.5.9.10, 3.3.5.9.12; MS-FSA 2.1.5.1).
-ghost use Rattle.std.specs.Prelude.{◌≡◌, ◌&&◌, ◌||◌, not, is_some, length, nat_le, nat_lt, if◌then◌else◌, true, None, Some};
+ghost use Rattle.std.specs.Prelude.{◌≡◌, ◌<◌, ◌&&◌, ◌||◌, not, is_some, length, nat_le, nat_lt, if◌then◌else◌, true, None, Some};
 ghost use Rattle.wire_commands.specs.values.Meaning.{create_of, durable_of, message_of, reconnect_of};
 ghost use Rattle.spec_exchange.specs.CheckCreate.{after_names, create_check, durable_check, found_names, guid_check, is_counted_out};
 ghost use Rattle.spec_exchange.specs.CheckCreate.{keeps_guid, last_file, live_check, max_files, max_guids, max_opens};
-ghost use Rattle.spec_exchange.specs.CheckCreate.{missing_names, names, new_check};
+ghost use Rattle.spec_exchange.specs.CheckCreate.{missing_attributes, missing_names, names, new_check};
+ghost use Rattle.spec_exchange.specs.CheckCreate.{drops_bit, empties, found_attributes, first_refusal};
 ghost use Rattle.spec_exchange.specs.CheckCreate.{reconnect_check, shares};
 ghost use Rattle.spec_exchange.specs.Commands as asks;
 ghost use Rattle.spec_exchange.specs.Commands.{Command, Create, deletes_on_close};
 ghost use Rattle.spec_exchange.specs.Files.{exists, find};
 ghost use Rattle.spec_exchange.specs.State.{Server};
-ghost use Rattle.spec_exchange.specs.Opens.{deletes, mapped, max_ids};
+ghost use Rattle.spec_exchange.specs.Opens.{deletes, granted, mapped, max_ids, writes};
 ghost use Rattle.spec_exchange.specs.Status.{duplicate_objectid};
 ghost use Rattle.spec_exchange.specs.Verdict.{Refuse};
 ghost use Rattle.server_checks.specs.Looks.{row_check};
@@ -17,15 +18,16 @@ ghost use Rattle.server_checks.specs.Shown.{TablesShown};
 ghost use Rattle.law_server.specs.tables.Fits.{Fits};
 ghost use Rattle.server_checks.specs.verdicts.Views.{verdict_of};
 
+use crate::attributes::{attributes_of, granted, is_read_only};
 use crate::tables::{Tables, is_at};
 use crate::verdicts::status::{
-    ACCESS_DENIED, DELETE_PENDING, DUPLICATE_OBJECTID, FILE_IS_A_DIRECTORY, INSUFFICIENT_RESOURCES,
-    INVALID_PARAMETER, NOT_A_DIRECTORY, OBJECT_NAME_COLLISION, OBJECT_NAME_NOT_FOUND,
-    OBJECT_PATH_NOT_FOUND, SHARING_VIOLATION,
+    ACCESS_DENIED, CANNOT_DELETE, DELETE_PENDING, DUPLICATE_OBJECTID, FILE_IS_A_DIRECTORY,
+    INSUFFICIENT_RESOURCES, INVALID_PARAMETER, NOT_A_DIRECTORY, OBJECT_NAME_COLLISION,
+    OBJECT_NAME_NOT_FOUND, OBJECT_PATH_NOT_FOUND, SHARING_VIOLATION,
 };
 use crate::verdicts::{
     Verdict, action_of, deletes_on_close, empties, has_bit, makes_file, makes_missing, mapped,
-    refuse, refused_create, shared_access,
+    refuse, refused_create, shared_access, writes,
 };
 use store_opens::{KeptCreate, Row, same_name};
 use wire_commands::{CreateRequest, Durable, Message, Reconnect};
@@ -251,7 +253,7 @@ impl Tables {
             → result ≡ names s (create_of request.now) found }
     {
         match found {
-            Some(file) => self.found_names(request, file),
+            Some(file) => self.found_refusal(request, file),
             None => self.absent_names(request),
         }
     }
@@ -261,9 +263,55 @@ impl Tables {
         ensures { (s : Server) → TablesShown self.now s → result ≡ names s (create_of request.now) None }
     {
         if self.tree.has_parent(request.path.as_str()) {
-            return missing_names(request);
+            return missing_refusal(request);
         }
         Some(OBJECT_PATH_NOT_FOUND)
+    }
+
+    // What is there: its names and kind, and behind them its attributes.
+    fn found_refusal(&self, request: &CreateRequest, file: u64) -> Option<u32>
+        ensures { (s : Server) → TablesShown self.now s → exists s file ≡ true
+            → result ≡ first_refusal (found_names s (create_of request.now) file) (found_attributes s (create_of request.now) file) }
+    {
+        match self.found_names(request, file) {
+            Some(status) => Some(status),
+            None => self.found_attributes(request, file),
+        }
+    }
+
+    // What the attributes of a file forbid (MS-FSA 2.1.5.1.2, 2.1.5.1.2.1).
+    #[tactic(auto, unfolding(spec_exchange::specs::CheckCreate::found_attributes))]
+    fn found_attributes(&self, request: &CreateRequest, file: u64) -> Option<u32>
+        ensures { (s : Server) → TablesShown self.now s → exists s file ≡ true
+            → result ≡ found_attributes s (create_of request.now) file }
+    {
+        if empties(request.disposition) && self.drops_bits(request, file) {
+            return Some(ACCESS_DENIED);
+        }
+        let read_only = is_read_only(&self.tree, file);
+        if read_only && self.asks_to_write(request, file) {
+            return Some(ACCESS_DENIED);
+        }
+        if read_only && deletes_on_close(request.options) {
+            return Some(CANNOT_DELETE);
+        }
+        None
+    }
+
+    // HIDDEN or SYSTEM, which the file has, isn't asked for.
+    fn drops_bits(&self, request: &CreateRequest, file: u64) -> bool
+        ensures { (s : Server) → TablesShown self.now s → exists s file ≡ true
+            → result ≡ (drops_bit s (create_of request.now) file 0x2 || drops_bit s (create_of request.now) file 0x4) }
+    {
+        let kept = attributes_of(&self.tree, file);
+        drops_bit(kept, request.attributes, 0x2) || drops_bit(kept, request.attributes, 0x4)
+    }
+
+    fn asks_to_write(&self, request: &CreateRequest, file: u64) -> bool
+        ensures { (s : Server) → TablesShown self.now s
+            → result ≡ (empties request.now.disposition || writes (granted s file request.now.access)) }
+    {
+        empties(request.disposition) || writes(granted(&self.tree, file, request.access))
     }
 
     // What is there: the status of the first rule that it breaks.
@@ -298,12 +346,56 @@ impl Tables {
         ensures { (s : Server) → TablesShown self.now s → result ≡ shares s (create_of request.now) found }
     {
         match found {
-            Some(file) => self
-                .opens
-                .admits(file, shared_access(request), request.share),
+            Some(file) => self.admits(request, file),
             None => true,
         }
     }
+
+    fn admits(&self, request: &CreateRequest, file: u64) -> bool
+        ensures { (s : Server) → TablesShown self.now s → result ≡ shares s (create_of request.now) (Some file) }
+    {
+        let access = granted(&self.tree, file, request.access);
+        self.opens.admits(
+            file,
+            shared_access(request.disposition, access),
+            request.share,
+        )
+    }
+}
+
+fn drops_bit(kept: u32, asked: u32, bit: u32) -> bool
+    requires { 0 < bit }
+    ensures { result ≡ (asks.has_bit kept bit && not (asks.has_bit asked bit)) }
+{
+    has_bit(kept, bit) && !has_bit(asked, bit)
+}
+
+// Of what is missing: its name, and behind it the attributes with which it would be made.
+fn missing_refusal(request: &CreateRequest) -> Option<u32>
+    ensures { result ≡ first_refusal (missing_names (create_of request.now)) (missing_attributes (create_of request.now)) }
+{
+    match missing_names(request) {
+        Some(status) => Some(status),
+        None => missing_attributes(request),
+    }
+}
+
+#[tactic(auto, unfolding(spec_exchange::specs::CheckCreate::missing_attributes))]
+fn missing_attributes(request: &CreateRequest) -> Option<u32>
+    ensures { result ≡ missing_attributes (create_of request.now) }
+{
+    if deletes_on_close(request.options) && makes_read_only(request) {
+        Some(CANNOT_DELETE)
+    } else {
+        None
+    }
+}
+
+// The file that is made, no directory, would be read-only.
+fn makes_read_only(request: &CreateRequest) -> bool
+    ensures { result ≡ (not (asks.asks_directory (create_of request.now)) && asks.has_bit request.now.attributes 0x1) }
+{
+    !has_bit(request.options, 0x1) && has_bit(request.attributes, 0x1)
 }
 
 #[tactic(auto, unfolding(spec_exchange::specs::CheckCreate::missing_names))]

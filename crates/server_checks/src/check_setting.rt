@@ -1,11 +1,12 @@
 //! The checks of SET_INFO (MS-SMB2 3.3.5.21, MS-FSA 2.1.5.15).
 ghost use Rattle.std.specs.Prelude.{◌≡◌, ◌==◌, ◌&&◌, ◌||◌, ℕ, List, true, IfOk, length};
 ghost use Rattle.wire_commands.specs.values.Meaning.{command_of, message_of, setting_of};
-ghost use Rattle.spec_exchange.specs.CheckOpen.{allocation_change, changes_nothing, delete_names, file_of, open_below};
+ghost use Rattle.spec_exchange.specs.CheckOpen.{allocation_change, basic_names, changes_nothing, delete_names, file_of, open_below};
 ghost use Rattle.spec_exchange.specs.CheckOpen.{rename_names, set_check, setting_check, size_change, target_of, target_refused};
 ghost use Rattle.spec_exchange.specs.Commands.{Command, Rename, SetAllocation, SetBasic, SetDelete, SetEnd};
 ghost use Rattle.spec_exchange.specs.Content.{same_bytes};
-ghost use Rattle.spec_exchange.specs.Files.{allocated, exists, find, is_directory, path_of, same_basic};
+ghost use Rattle.spec_exchange.specs.Files.{allocated, exists, find, is_directory, may_set_attributes, may_set_times};
+ghost use Rattle.spec_exchange.specs.Files.{path_of, same_basic};
 ghost use Rattle.spec_exchange.specs.Opens.{file_has_open};
 ghost use Rattle.spec_exchange.specs.State.{Server};
 ghost use Rattle.spec_exchange.specs.Verdict.{PutDeletePending, PutPath};
@@ -14,12 +15,16 @@ ghost use Rattle.server_checks.specs.Shown.{TablesShown};
 ghost use Rattle.law_server.specs.tables.Fits.{Fits};
 ghost use Rattle.server_checks.specs.verdicts.Views.{change_of, path_in, path_in_setting, verdict_of};
 
+use crate::attributes::is_read_only;
 use crate::tables::Tables;
 use crate::verdicts::status::{
-    ACCESS_DENIED, DIRECTORY_NOT_EMPTY, DISK_FULL, FILE_NOT_AVAILABLE, INVALID_DEVICE_REQUEST,
-    INVALID_PARAMETER, OBJECT_NAME_COLLISION, OBJECT_PATH_NOT_FOUND,
+    ACCESS_DENIED, CANNOT_DELETE, DIRECTORY_NOT_EMPTY, DISK_FULL, FILE_NOT_AVAILABLE,
+    INVALID_DEVICE_REQUEST, INVALID_PARAMETER, OBJECT_NAME_COLLISION, OBJECT_PATH_NOT_FOUND,
 };
-use crate::verdicts::{Change, Verdict, altered, refuse, set_basic, target_of, told, turn_down};
+use crate::verdicts::{
+    Change, Verdict, altered, may_set_attributes, may_set_times, refuse, set_basic, target_of,
+    told, turn_down,
+};
 use std::alloc::AllocError;
 use wire_commands::{Basic, Message, Setting};
 
@@ -118,12 +123,35 @@ impl Tables {
         if !self.has_access(id, 0x100) {
             return turn_down(id, ACCESS_DENIED);
         }
-        let old = self.basic(self.file_of(id));
+        let file = self.file_of(id);
+        let old = self.basic(file);
         let basic = set_basic(&old, asked);
         if m.replay && same_basic(&basic, &old) {
             return told(id);
         }
-        altered(id, Change::PutBasic { basic })
+        match self.basic_names(file, asked) {
+            Some(status) => turn_down(id, status),
+            None => altered(id, Change::PutBasic { basic }),
+        }
+    }
+
+    // What no file of this kind can be told (MS-FSA 2.1.5.15.2).
+    #[tactic(auto, unfolding(spec_exchange::specs::CheckOpen::basic_names))]
+    fn basic_names(&self, file: u64, asked: &Basic) -> Option<u32>
+        ensures { (s : Server) → TablesShown self.now s → exists s file ≡ true → result ≡ basic_names s file asked.now }
+    {
+        if self.may_set(file, asked) {
+            None
+        } else {
+            Some(INVALID_PARAMETER)
+        }
+    }
+
+    fn may_set(&self, file: u64, asked: &Basic) -> bool
+        ensures { (s : Server) → TablesShown self.now s → exists s file ≡ true
+            → result ≡ (may_set_attributes (is_directory s file) asked.now.attributes && may_set_times asked.now) }
+    {
+        may_set_attributes(self.tree.is_directory(file), asked.attributes) && may_set_times(asked)
     }
 
     // ---- delete pending
@@ -170,6 +198,9 @@ impl Tables {
         }
         if self.tree.is_full(file) {
             return Some(DIRECTORY_NOT_EMPTY);
+        }
+        if is_read_only(&self.tree, file) {
+            return Some(CANNOT_DELETE);
         }
         None
     }

@@ -4,6 +4,7 @@
 //! What the server's tables say of a request: the ordered checks (MS-SMB2 3.3.5), which change nothing.
 #![tactic(auto)]
 
+mod attributes;
 mod check;
 mod check_create;
 mod check_open;
@@ -15,6 +16,7 @@ pub mod setups;
 mod tables;
 mod verdicts;
 
+pub use attributes::{file_attributes, granted, kept_attributes, made_attributes};
 pub use event_heard::{Asked, LogonPart, ServerEvent, hear};
 pub use session_table::{
     Begun, InMaking, Link, Purpose, SessionRow, TokenShown, Tree, challenge_for, final_for,

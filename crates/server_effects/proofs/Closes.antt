@@ -80,7 +80,7 @@ kept_file : (v : Server) (x g f : ℕ) (b : Bool)
 kept_file v x g f true = refl
 kept_file v x g f false = refl
 
-gone_after : (v : Server) (x : ℕ) (g : Option ℕ) (f : ℕ) → without_gone (keep_closed v x g) f ≡ keep_closed (without_gone v f) x g
+pub gone_after : (v : Server) (x : ℕ) (g : Option ℕ) (f : ℕ) → without_gone (keep_closed v x g) f ≡ keep_closed (without_gone v f) x g
 unfolding goes exists file_has_open is_full_directory is_directory path_of
 gone_after v x None f = refl
 gone_after v x (Some g) f = kept_file v x g f (goes v f)

@@ -5,7 +5,9 @@ use Rattle.std.proofs.lemmas.Bool.Decides.{nat_tests}
 use Rattle.spec_exchange.specs.CheckCreate.{empties}
 use Rattle.spec_exchange.specs.Commands.{CreateRequest, Durable, asks_directory}
 use Rattle.spec_exchange.specs.Effects.{file_made, guid_of, guids_after, make_open, new_file, next_open, open_row}
+use Rattle.spec_exchange.specs.Effects.{made_attributes}
 use Rattle.spec_exchange.specs.Files.{empty_file, exists, make_file}
+use Rattle.spec_exchange.specs.Files.{file_attributes}
 use Rattle.spec_exchange.specs.Opens.{add_open}
 use Rattle.spec_exchange.specs.State as model
 use Rattle.spec_exchange.specs.State.{Message, Server, Range}
@@ -34,20 +36,20 @@ found_is_file s r None action a = tt
 found_is_file s r (Some f) action a = a
 
 pub file_new : (s : Server) (r : CreateRequest) (found : Option ℕ) (now : ℕ) (w : Tree) → found ≡ None
-    → ShowsFiles w (make_file s r.path (asks_directory r) r.attributes now) → ShowsFiles w (file_made s r found now)
+    → ShowsFiles w (make_file s r.path (asks_directory r) (made_attributes r) now) → ShowsFiles w (file_made s r found now)
 file_new s r found now w e h = subst (λ (o : Option ℕ). ShowsFiles w (file_made s r o now)) (sym e) h
 
 pub file_emptied : (s : Server) (r : CreateRequest) (found : Option ℕ) (f attributes now : ℕ) (w : Tree) → found ≡ Some f
-    → attributes ≡ r.attributes → empties r.disposition ≡ true → ShowsFiles w (empty_file s f attributes now)
+    → attributes ≡ file_attributes r.attributes → empties r.disposition ≡ true → ShowsFiles w (empty_file s f attributes now)
     → ShowsFiles w (file_made s r found now)
 file_emptied s r found f attributes now w e a b h = subst (λ (o : Option ℕ). ShowsFiles w (file_made s r o now)) (sym e)
-    (subst (λ (x : Bool). ShowsFiles w (if x then empty_file s f r.attributes now else s)) (sym b)
+    (subst (λ (x : Bool). ShowsFiles w (if x then empty_file s f (file_attributes r.attributes) now else s)) (sym b)
     (subst (λ (z : ℕ). ShowsFiles w (empty_file s f z now)) a h))
 
 pub file_left : (s : Server) (r : CreateRequest) (found : Option ℕ) (f now : ℕ) (w : Tree) → found ≡ Some f
     → empties r.disposition ≡ false → ShowsFiles w s → ShowsFiles w (file_made s r found now)
 file_left s r found f now w e b h = subst (λ (o : Option ℕ). ShowsFiles w (file_made s r o now)) (sym e)
-    (subst (λ (x : Bool). ShowsFiles w (if x then empty_file s f r.attributes now else s)) (sym b) h)
+    (subst (λ (x : Bool). ShowsFiles w (if x then empty_file s f (file_attributes r.attributes) now else s)) (sym b) h)
 
 pub file_there : (s : Server) (r : CreateRequest) (f : ℕ) (found : Option ℕ) → found ≡ Some f
     → FoundIsFile s r found → FoundIsFile s r (Some f)
@@ -57,7 +59,11 @@ file_there s r f found e h = subst (λ (o : Option ℕ). FoundIsFile s r o) e h
 
 abbrev pub with_open : Server → Server → Message → CreateRequest → Option ℕ → ℕ → Server
 with_open s v m r found action = record (add_open v (next_open s) (open_row s m r (new_file s found) action) (Some m.session_id)
-    m.channel_sequence) { open_ids_given = s.open_ids_given + 1; guids = guids_after s m.session_id r.durable }
+    m.channel_sequence) {
+      open_ids_given = s.open_ids_given + 1;
+      tree_of_open = put s.tree_of_open (next_open s) m.tree_id;
+      guids = guids_after s m.session_id r.durable;
+    }
 
 -- no range stands of a file that isn't there yet
 number_is_new : (s : Server) → Fits s → exists s s.next_file ≡ false
@@ -89,6 +95,7 @@ other_ranges u v ranges e h = record {
   given_is = h.given_is;
   count_is = h.count_is;
   rows_are = h.rows_are;
+  trees_are = h.trees_are;
   guids_are = h.guids_are;
   files_are = λ f. rw (e f) (h.files_are f);
   sessions_are = h.sessions_are;
@@ -106,16 +113,17 @@ opens_made : (u : Opens) (s : Server) (m : Message) (r : CreateRequest) (found :
 opens_made u s m r None action now f h = other_ranges u (with_open s s m r None action) (put s.ranges s.next_file [])
     (λ g. same_ranges s g f) h
 opens_made u s m r (Some g) action now f h = either (λ v. ShowsOpens u (with_open s v m r (Some g) action)) (empties r.disposition)
-    (empty_file s g r.attributes now) s (λ _. h) (λ _. h)
+    (empty_file s g (file_attributes r.attributes) now) s (λ _. h) (λ _. h)
 
 guids_same : (s : Server) (x : ℕ) (d : Option Durable) → guids_with (Some x) (guid_of d) s.guids ≡ guids_after s x d
 guids_same s x None = refl
 guids_same s x (Some d) = refl
 
 -- the open of a row
-abbrev of_row : Server → model.Open → Option ℕ → ℕ → Server
-of_row s o session sequence = record (add_open s (next_open s) o session sequence) {
+abbrev of_row : Server → model.Open → Option ℕ → ℕ → ℕ → Server
+of_row s o session tree sequence = record (add_open s (next_open s) o session sequence) {
   open_ids_given = s.open_ids_given + 1;
+  tree_of_open = put s.tree_of_open (next_open s) tree;
   guids = guids_with session o.create_guid s.guids;
 }
 
@@ -123,11 +131,15 @@ row_opens : (u : Opens) (s : Server) (m : Message) (r : CreateRequest) (found : 
     → RowFor s m r found action row → ShowsOpens u (created s (parts_of row) row.user) → ShowsOpens u (with_open s s m r found action)
 row_opens u s m r found action row i h =
     let o = open_row s m r (new_file s found) action in
-    subst (λ (g : ℕ → ℕ). ShowsOpens u (record (add_open s (next_open s) o (Some m.session_id) m.channel_sequence)
-    { open_ids_given = s.open_ids_given + 1; guids = g })) (guids_same s m.session_id r.durable)
-    (subst (λ (n : ℕ). ShowsOpens u (of_row s o (Some m.session_id) n)) i.sequence_is
-    (subst (λ (x : Option ℕ). ShowsOpens u (of_row s o x row.sequence)) i.session_is
-    (subst (λ (p : model.Open). ShowsOpens u (of_row s p row.session row.sequence)) i.opened_is h)))
+    subst (λ (g : ℕ → ℕ). ShowsOpens u (record (add_open s (next_open s) o (Some m.session_id) m.channel_sequence) {
+      open_ids_given = s.open_ids_given + 1;
+      tree_of_open = put s.tree_of_open (next_open s) m.tree_id;
+      guids = g;
+    })) (guids_same s m.session_id r.durable)
+    (subst (λ (n : ℕ). ShowsOpens u (of_row s o (Some m.session_id) m.tree_id n)) i.sequence_is
+    (subst (λ (n : ℕ). ShowsOpens u (of_row s o (Some m.session_id) n row.sequence)) i.tree_is
+    (subst (λ (x : Option ℕ). ShowsOpens u (of_row s o x row.tree row.sequence)) i.session_is
+    (subst (λ (p : model.Open). ShowsOpens u (of_row s p row.session row.tree row.sequence)) i.opened_is h))))
 
 pub made_tables : (t : Tables) (w : Tree) (u : Opens) (s : Server) (m : Message) (r : CreateRequest) (found : Option ℕ) (action now : ℕ)
     (row : Row) → Fits s → OthersShown t s → RowFor s m r found action row → ShowsFiles w (file_made s r found now)
@@ -149,7 +161,7 @@ made_tables t w u s m r None action now row f h i files opens =
 made_tables t w u s m r (Some g) action now row f h i files opens =
     let k = row_opens u s m r (Some g) action row i opens in
     either (λ v. ShowsFiles w v → TablesShown (record t { tree = w; opens = u }) (with_open s v m r (Some g) action))
-    (empties r.disposition) (empty_file s g r.attributes now) s
+    (empties r.disposition) (empty_file s g (file_attributes r.attributes) now) s
     (λ _ x. record {
       opens = k;
       files = x;
@@ -194,7 +206,7 @@ unfolding exists
 new_there s m r None action now a = let e = exists-pushed s.entries (record { file = s.next_file; path = r.path }) s.next_file in
     grind (arith, nat_tests)
 new_there s m r (Some f) action now a = either (λ v. exists (with_open s v m r (Some f) action) f ≡ true) (empties r.disposition)
-    (empty_file s f r.attributes now) s (λ _. a.0) (λ _. a.0)
+    (empty_file s f (file_attributes r.attributes) now) s (λ _. a.0) (λ _. a.0)
 
 pub made_there : (s : Server) (m : Message) (r : CreateRequest) (found : Option ℕ) (action now id : ℕ) → AbleToMake s r found action
     → id ≡ next_open s → exists (make_open s m r found action now) ((make_open s m r found action now).opened id).file ≡ true

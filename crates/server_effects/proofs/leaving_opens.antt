@@ -1,4 +1,4 @@
 mod Files
-mod Each
+pub mod Each
 mod Lost
 mod Steps

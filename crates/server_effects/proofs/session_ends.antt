@@ -1,4 +1,4 @@
-mod Columns
+pub mod Columns
 mod Ended
 mod Left
 mod Opens

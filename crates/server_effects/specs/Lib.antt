@@ -2,6 +2,7 @@ pub mod leaving_opens
 pub mod expiry
 pub mod Able
 pub mod Carried
+pub mod Closed
 pub mod Asked
 pub mod Making
 pub mod Ready

@@ -11,6 +11,7 @@ ghost use Rattle.spec_exchange.specs.Verdict.{CloseOpen};
 ghost use Rattle.server_checks.specs.session_table.Logons.{LogonsStay};
 ghost use Rattle.server_checks.specs.Shown.{TablesShown};
 ghost use Rattle.server_effects.specs.Carried.{EffectCarries, IsEffectBare};
+ghost use Rattle.server_effects.specs.Closed.{closed_one};
 ghost use Rattle.law_server.specs.tables.Fits.{Fits};
 
 use crate::answering::{Answer, acting};
@@ -24,12 +25,22 @@ pub fn close_open(t: &mut Tables, m: &Message<'_>, id: u64, body: Body) -> Answe
     ensures config { t.new.config ≡ t.old.config }
     ensures logons { LogonsStay t.old.sessions t.new.sessions }
 {
+    close_one(t, id);
+    acting(t.alloc, m, body)
+}
+
+/// The same, without an answer.
+pub fn close_one(t: &mut Tables, id: u64)
+    ensures shows { (s : Server) (session : ℕ) → Fits s → TablesShown t.old s → s.standing id ≡ true → s.session_of_open id ≡ Some session
+        → TablesShown t.new (closed_one s session id) }
+    ensures config { t.new.config ≡ t.old.config }
+    ensures logons { LogonsStay t.old.sessions t.new.sessions }
+{
     let file = t.opens.file_of(id);
     // In this order: the open's row tells whether it deletes on close, and its file goes only when no open is left.
     mark_behind(t, id);
     shut(t, id);
     drop_gone(t, file);
-    acting(t.alloc, m, body)
 }
 
 /// An open that deletes on close makes its file delete pending where it leaves.

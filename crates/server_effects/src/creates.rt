@@ -76,7 +76,8 @@ fn take_up(t: &mut Tables, m: &Message<'_>, id: u64)
         → TablesShown t.new (effects.attached s (message_of m.now) id) }
     ensures kept { t.new ≡ record t.old { opens = t.new.opens } }
 {
-    t.opens.put_attached(id, m.session_id, m.channel_sequence);
+    t.opens
+        .put_attached(id, m.session_id, m.tree_id, m.channel_sequence);
 }
 
 fn action_of(t: &Tables, id: u64) -> u32

@@ -9,4 +9,4 @@ mod step;
 pub use connections::all_end_records;
 pub use expired::{expire_records, goes_with};
 pub use leaving::Leaving;
-pub use records::{end_in, leave_in};
+pub use records::{end_in, leave_each, leave_in};

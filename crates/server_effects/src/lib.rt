@@ -26,12 +26,14 @@ mod verdict_effects;
 
 pub use answering::{Answer, acting, answer_with, quiet, reply};
 pub use changing::{ChangeReady, alter, bytes_of};
-pub use closing::{close_open, drop_gone, mark_behind};
+pub use closing::{close_one, close_open, drop_gone, mark_behind};
 pub use creates::{Asks, attach, create_reply, keep_refusal, repeat};
 pub use event_effects::carry_event;
 pub use expiry::{Expired, due, give_up, put_back, take_expired};
 pub use laws::able_law;
-pub use leaving_opens::{Leaving, all_end_records, end_in, expire_records, goes_with, leave_in};
+pub use leaving_opens::{
+    Leaving, all_end_records, end_in, expire_records, goes_with, leave_each, leave_in,
+};
 pub use locks::{keep_slot, put_ranges};
 pub use logons::{begin, challenge, challenge_binding, join};
 pub use lost_connections::{take_all_out, take_out};

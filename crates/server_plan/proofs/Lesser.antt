@@ -8,7 +8,7 @@ use Rattle.spec_exchange.specs.State.{Message, Origin, Record, Server}
 use Rattle.spec_exchange.specs.Status.{disk_full}
 use Rattle.spec_exchange.specs.Step.{Ruling, Says, TakesAllOut, TakesIn, TakesOut, TurnsAway, carried_out, ends_with}
 use Rattle.spec_exchange.specs.Step.{ruling_without_room, take_all_records, take_out, without_room}
-use Rattle.spec_exchange.specs.Verdict.{Alter, Begin, CloseOpen, EndSession, KeepSlot, Make, PutRanges, Verdict}
+use Rattle.spec_exchange.specs.Verdict.{Alter, Begin, CloseOpen, DropTree, EndSession, KeepSlot, Make, PutRanges, Verdict}
 use Rattle.server_plan.specs.owed_records.Owing.{may_owe}
 use Rattle.server_plan.specs.Plans.{may_owe_by}
 
@@ -52,6 +52,7 @@ verdict_owes s m now (Alter o change body) h = absurd (true_not h)
 verdict_owes s m now (CloseOpen o body) h = absurd (true_not h)
 verdict_owes s m now (Begin session user previous r q) h = begin_owes s (origin_of m) previous q h
 verdict_owes s m now (EndSession session q) h = end_owes s (origin_of m) session q h
+verdict_owes s m now DropTree h = absurd (true_not h)
 verdict_owes s m now _ h = refl
 
 pub none_owed : (s : Server) (now : ℕ) (r : Ruling) → may_owe_by r ≡ false → (carried_out s now r).records ≡ []

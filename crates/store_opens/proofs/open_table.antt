@@ -9,6 +9,7 @@ pub mod Least
 pub mod DueDated
 pub mod Names
 pub mod PlainLemmas
+pub mod TreeLemmas
 pub mod Back
 pub mod Same
 pub mod Changed

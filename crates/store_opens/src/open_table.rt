@@ -2,7 +2,7 @@
 //! their sessions keep of each CreateGuid, what they hold of each file, and when those without a session expire.
 //!
 //! A call that needs memory takes it first: `reserve` and its kin leave what is shown as it was, and what they made room
-//! for can't fail. No call but those at a session's end is linear in the opens.
+//! for can't fail. No call but those at a session's or a tree's end is linear in the opens.
 
 mod attach;
 mod change;
@@ -13,6 +13,7 @@ mod expired;
 mod leave;
 mod look;
 mod made;
+mod of_tree;
 mod row;
 mod rows;
 mod table;

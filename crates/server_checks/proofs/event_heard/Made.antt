@@ -6,7 +6,7 @@ use Rattle.spec_exchange.specs.Commands as asks
 use Rattle.spec_exchange.specs.State as says
 use Rattle.spec_crypto.specs.declared.sessions.material.Keys.{Keys}
 use Rattle.spec_crypto.specs.sessions.Signing.{verifies}
-use Rattle.spec_crypto.specs.tokens.Acceptor.{User}
+use Rattle.spec_crypto.specs.tokens.Tokens.{Users}
 use Rattle.spec_crypto.specs.tokens.Tokens.{Pending, Shown, shown}
 use Rattle.spec_world.specs.Ends.{Logons}
 use Rattle.spec_world.specs.Logon as logon
@@ -56,13 +56,13 @@ request_with h verified shows = record {
   shows = shows;
 }
 
-pub request_told : (users : List User) (L : Logons) (s : says.Server) (h : SetupHeard) (verified : Bool) (a b : asks.Shows)
+pub request_told : (users : Users) (L : Logons) (s : says.Server) (h : SetupHeard) (verified : Bool) (a b : asks.Shows)
     → verified ≡ verified_by L s h → a ≡ b → request_with h verified a ≡ record (request_of users L s h) { shows = b }
 request_told users L s h verified a b e f =
     ap (λ (v : Bool). request_with h v a) e ∙ ap (λ (v : asks.Shows). request_with h (verified_by L s h) v) f
 
 -- the message of a SESSION_SETUP, whose request was made of what its token shows behind what is in the making
-pub same_message : (users : List User) (L : Logons) (s : says.Server) (h : SetupHeard) (r : asks.SetupRequest) (v : Shown)
+pub same_message : (users : Users) (L : Logons) (s : says.Server) (h : SetupHeard) (r : asks.SetupRequest) (v : Shown)
     → r ≡ record (request_of users L s h) {
       shows = logon.shows_of v;
     } → v ≡ shown users ((in_the_making s L).pending h.connection) h.form.token.now

@@ -5,7 +5,8 @@ use Rattle.spec_crypto.specs.declared.tokens.der.DerError.TheVariants as der
 use Rattle.spec_crypto.specs.declared.tokens.ntlm.LogonError.{LogonError}
 use Rattle.spec_crypto.specs.declared.tokens.ntlm.LogonError.TheVariants as refusals
 use Rattle.spec_crypto.specs.tokens.Spnego.{InitValue, RespValue}
-use Rattle.spec_crypto.specs.tokens.Acceptor.{User, LogonValue}
+use Rattle.spec_crypto.specs.tokens.Acceptor.{LogonValue}
+use Rattle.spec_crypto.specs.tokens.Tokens.{Users}
 use Rattle.spec_crypto.specs.tokens.Tokens as tokens
 use Rattle.crypto_sessions.specs.spnego.Views.{init_view, resp_view, TokenReads}
 use Rattle.crypto_sessions.specs.ntlmv2.Views.{Judges}
@@ -20,7 +21,7 @@ init_broken (der.BadLength at) due b h = ap (λ (v : Result InitValue DerError).
 init_broken (der.Trailing at) due b h = ap (λ (v : Result InitValue DerError). tokens.begun_of v) (sym h)
 init_broken der.NoNtlm due b h = ap (λ (v : Result InitValue DerError). tokens.begun_of v) (sym h)
 
-pub resp_broken : (e : DerError) (due : Result RespValue DerError) (users : List User) (p : tokens.Pending) → IsBreak e
+pub resp_broken : (e : DerError) (due : Result RespValue DerError) (users : Users) (p : tokens.Pending) → IsBreak e
     → TokenReads resp_view (Err e) due → tokens.Bad ≡ tokens.shown_second users p due
 resp_broken der.Memory due users p b h = absurd b
 resp_broken (der.Truncated at) due users p b h = ap (λ (v : Result RespValue DerError). tokens.shown_second users p v) (sym h)

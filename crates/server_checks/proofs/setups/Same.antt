@@ -12,7 +12,7 @@ use Rattle.spec_exchange.specs.Effects.{apply}
 use Rattle.spec_exchange.specs.Step.{without_room, with_deadlines, expire, add_expired_guid, expire_records}
 use Rattle.spec_exchange.specs.Step.{event_answer, expiring, written_down, step, due, max_expired_guids}
 use Rattle.law_server.proofs.tables.Logic.{either}
-use Rattle.law_server.proofs.tables.Applied.{left_present}
+use Rattle.law_server.proofs.tables.Closing.{left_present}
 
 -- ---- an expiry leaves sessions, and what is in the making, as they are
 

@@ -3,9 +3,10 @@ use Rattle.std.proofs.Common.{Bool, true, false, if◌then◌else◌, List, ℕ,
 use Rattle.std.specs.Str.{bytes_eq}
 use Rattle.spec_crypto.specs.declared.tokens.der.DerError.{DerError}
 use Rattle.spec_crypto.specs.declared.tokens.ntlm.LogonError.{LogonError}
-use Rattle.spec_crypto.specs.tokens.Spnego.{RespValue, resp_in}
+use Rattle.spec_crypto.specs.tokens.Spnego.{RespValue}
 use Rattle.spec_crypto.specs.tokens.Formulas.{mech_list_mic}
-use Rattle.spec_crypto.specs.tokens.Acceptor.{User, LogonValue, verdict}
+use Rattle.spec_crypto.specs.tokens.Acceptor.{LogonValue, verdict}
+use Rattle.spec_crypto.specs.tokens.Tokens.{Users}
 use Rattle.spec_crypto.specs.tokens.Tokens as tokens
 use Rattle.spec_world.specs.Logon.{shows_of, token_shows}
 use Rattle.server_checks.proofs.setups.Checks.{Unmade}
@@ -27,17 +28,17 @@ later_logon : (list : List ℕ) (code : Option (List ℕ)) (v : Result LogonValu
 later_logon list code (Ok logon) = later_with list logon code
 later_logon list code (Err e) = tt
 
-later_message : (users : List User) (p : tokens.Pending) (third code : Option (List ℕ)) → IsLater (tokens.shown_message users p third code)
+later_message : (users : Users) (p : tokens.Pending) (third code : Option (List ℕ)) → IsLater (tokens.shown_message users p third code)
 later_message users p None code = tt
-later_message users p (Some third) code = later_logon p.list code (verdict users p.server p.first p.second third)
+later_message users p (Some third) code = later_logon p.list code (verdict users.list p.server p.first p.second third)
 
-later_second : (users : List User) (p : tokens.Pending) (v : Result RespValue DerError) → IsLater (tokens.shown_second users p v)
+later_second : (users : Users) (p : tokens.Pending) (v : Result RespValue DerError) → IsLater (tokens.shown_second users p v)
 later_second users p (Ok v) = later_message users p v.token v.mic
 later_second users p (Err e) = tt
 
-later : (users : List User) (p : Option tokens.Pending) (token : List ℕ) → IsLater (tokens.shown_by users p token)
+later : (users : Users) (p : Option tokens.Pending) (token : List ℕ) → IsLater (tokens.shown_by users p token)
 later users None token = tt
-later users (Some p) token = later_second users p (resp_in token)
+later users (Some p) token = later_second users p (tokens.second_in p.list token)
 
 alike : (b : Option tokens.Begun) (x : tokens.Shown) → IsLater x → Unmade (shows_of (tokens.shown_if b tokens.Bad))
     (shows_of (tokens.shown_if b x))
@@ -47,7 +48,7 @@ alike None tokens.Bad l = tt
 alike None tokens.Refused l = tt
 alike None (tokens.LoggedOn logon signs) l = tt
 
-pub unmade_shown : (users : List User) (p : Option tokens.Pending) (token : List ℕ)
+pub unmade_shown : (users : Users) (p : Option tokens.Pending) (token : List ℕ)
     → Unmade (token_shows users None token) (token_shows users p token)
 unfolding tokens.shown
-unmade_shown users p token = alike (tokens.begun_by token) (tokens.shown_by users p token) (later users p token)
+unmade_shown users p token = alike (tokens.begun_by users.bare token) (tokens.shown_by users p token) (later users p token)

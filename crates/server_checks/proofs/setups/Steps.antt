@@ -1,10 +1,10 @@
 -- The two laws on what of a SESSION_SETUP counts.
-use Rattle.std.proofs.Common.{◌≡◌, ℕ, Bool, true, false, if◌then◌else◌, List, refl, sym, ap, ◌∙◌, Option, None, is_some}
+use Rattle.std.proofs.Common.{◌≡◌, ℕ, Bool, true, false, if◌then◌else◌, refl, sym, ap, ◌∙◌, Option, None, is_some}
 use Rattle.spec_exchange.specs.Commands.{Command, Setup, SetupRequest}
 use Rattle.spec_exchange.specs.State.{Server, Message, Heard, Making}
 use Rattle.spec_exchange.specs.Step.{step}
 use Rattle.law_server.proofs.tables.Logic.{none_of}
-use Rattle.spec_crypto.specs.tokens.Acceptor.{User}
+use Rattle.spec_crypto.specs.tokens.Tokens.{Users}
 use Rattle.spec_world.specs.Ends.{Logons}
 use Rattle.spec_world.specs.Logon.{token_shows}
 use Rattle.server_checks.specs.setups.Setups.{in_the_making, setup_message, request_of, with_verified}
@@ -20,7 +20,7 @@ absent s now m r verified e gone =
     (λ t p n. absent_alike t m r verified (ap (λ (f : ℕ → Bool). f m.session_id) p ∙ gone))
     ∙ ap (λ (c : Command). step s now (Heard (record m { command = c }))) (sym e)
 
-pub unmade : (users : List User) (s : Server) (L : Logons) (now : ℕ) (h : SetupHeard)
+pub unmade : (users : Users) (s : Server) (L : Logons) (now : ℕ) (h : SetupHeard)
     → step s now (Heard (setup_message users (in_the_making s L) s h)) ≡ step s now (Heard (setup_message users L s h))
 unmade users s L now h = by (is_some (s.making h.connection)) refl
   where

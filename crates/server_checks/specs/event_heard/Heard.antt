@@ -1,8 +1,8 @@
 -- The model's event of what the server hears, and what of a SESSION_SETUP stands beside it (MS-SMB2 3.3.5.5).
-use Rattle.std.specs.Prelude.{◌≡◌, Bool, true, false, List, Option, Some, None, ⊤}
+use Rattle.std.specs.Prelude.{◌≡◌, Bool, true, false, Option, Some, None, ⊤}
 use Rattle.spec_exchange.specs.Commands as asks
 use Rattle.spec_exchange.specs.State as says
-use Rattle.spec_crypto.specs.tokens.Acceptor.{User}
+use Rattle.spec_crypto.specs.tokens.Tokens.{Users}
 use Rattle.spec_crypto.specs.tokens.Tokens.{shown, begun_by}
 use Rattle.spec_world.specs.Ends.{Logons}
 use Rattle.spec_world.specs.Logon as logon
@@ -27,7 +27,7 @@ is_setup_heard (events.Setup setup) = true
 is_setup_heard _ = false
 
 -- the model's event of one that the server hears
-abbrev pub heard_event : List User → Logons → says.Server → ServerEvent → says.ServerEvent
+abbrev pub heard_event : Users → Logons → says.Server → ServerEvent → says.ServerEvent
 heard_event users L s (events.Accept connection) = says.Accept connection
 heard_event users L s (events.Message message) = says.Heard (record (message_of message) {
   command = without_token (command_of message.command);
@@ -44,12 +44,12 @@ event_of askings.Stop = says.Stop
 
 -- What a SESSION_SETUP's token shows, a first one also what it begins, with what keys and challenges are made of; of any other event
 -- there is none.
-abbrev pub PartOf : List User → Logons → SetupHeard → Option LogonPart → Type 0
+abbrev pub PartOf : Users → Logons → SetupHeard → Option LogonPart → Type 0
 PartOf users L h None = ⊥
 PartOf users L h (Some p) = (shown_of p.shown ≡ shown users (L.pending h.connection) h.form.token.now)
-    × (begun_in p.shown ≡ begun_by h.form.token.now) × (p.chosen ≡ h.chosen) × (p.chain ≡ h.chain) × (p.fresh ≡ h.fresh)
+    × (begun_in p.shown ≡ begun_by users.bare h.form.token.now) × (p.chosen ≡ h.chosen) × (p.chain ≡ h.chain) × (p.fresh ≡ h.fresh)
 
-abbrev pub HeardLogonIs : List User → Logons → ServerEvent → Option LogonPart → Type 0
+abbrev pub HeardLogonIs : Users → Logons → ServerEvent → Option LogonPart → Type 0
 HeardLogonIs users L (events.Setup h) p = PartOf users L h p
 HeardLogonIs users L _ p = p ≡ None
 
@@ -57,7 +57,7 @@ abbrev pub part_in : Asked → Option LogonPart
 part_in (askings.Says message logon) = logon
 part_in _ = None
 
-abbrev pub LogonFor : List User → Logons → ServerEvent → Asked → Type 0
+abbrev pub LogonFor : Users → Logons → ServerEvent → Asked → Type 0
 LogonFor users L e a = HeardLogonIs users L e (part_in a)
 
 -- the SESSION_SETUP in a command, of any other one that doesn't read

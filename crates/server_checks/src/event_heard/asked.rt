@@ -1,4 +1,4 @@
-ghost use Rattle.std.specs.Prelude.{◌≡◌, ◌<◌, ◌^◌, ◌&&◌, IfOk, IsOk, List, false, length, nat_le};
+ghost use Rattle.std.specs.Prelude.{◌≡◌, ◌<◌, ◌^◌, ◌&&◌, IfOk, IsOk, false, length, nat_le};
 ghost use Rattle.wire_commands.specs.values.Meaning.{command_of, message_of, setup_of, shows_of};
 ghost use Rattle.spec_exchange.specs.State.{Heard, Server};
 ghost use Rattle.spec_exchange.specs.Step.{connection_of};
@@ -8,7 +8,6 @@ ghost use Rattle.server_checks.specs.setups.Setups.{in_the_making, request_of, s
 ghost use Rattle.server_checks.specs.session_table.Logons.{LogonsShown, begun_in, shown_of};
 ghost use Rattle.server_checks.specs.session_table.Shown.{ShowsSessions};
 ghost use Rattle.spec_crypto.specs.sessions.Signing.{verifies};
-ghost use Rattle.spec_crypto.specs.tokens.Acceptor.{User};
 ghost use Rattle.spec_crypto.specs.tokens.Tokens as tokens;
 ghost use Rattle.spec_world.specs.Ends.{Logons};
 ghost use Rattle.spec_world.specs.Logon as logon;
@@ -134,7 +133,7 @@ fn setup_shown(
 ) -> Result<TokenShown, AllocError>
     ensures shown { IfOk result (λ v. (s : Server) (L : Logons) → ShowsSessions sessions.now s → LogonsShown sessions.now L.keys L.pending
         → shown_of v ≡ tokens.shown users.now ((in_the_making s L).pending setup.now.connection) setup.now.form.token.now) }
-    ensures begun { IfOk result (λ v. begun_in v ≡ tokens.begun_by setup.now.form.token.now) }
+    ensures begun { IfOk result (λ v. begun_in v ≡ tokens.begun_by users.now.bare setup.now.form.token.now) }
 {
     let making = sessions.making(setup.connection);
     token_shown(alloc, users, making, setup.form.token)
@@ -148,7 +147,7 @@ fn setup_request(
     ensures agrees { IfOk result (λ r. (shows_of r.shows ≡ logon.shows_of (shown_of shown.now)) × (r.cipher ≡ setup.now.chosen.cipher)
         × (r.signing ≡ setup.now.chosen.signing)) }
     ensures request { IfOk result (λ r. (s : Server) (L : Logons) → ShowsSessions sessions.now s → LogonsShown sessions.now L.keys L.pending
-        → (users : List User) → setup_of r ≡ record (request_of users L s setup.now) { shows = logon.shows_of (shown_of shown.now) }) }
+        → (users : tokens.Users) → setup_of r ≡ record (request_of users L s setup.now) { shows = logon.shows_of (shown_of shown.now) }) }
 {
     let verified = is_verified(sessions, setup)?;
     let shows = shows_of(shown)?;

@@ -30,7 +30,7 @@ pub enum Purpose {
     Binding(u64),
 }
 
-/// A logon in the making: the list of mechanisms of its first token, and the challenge.
+/// A logon in the making: the list of mechanisms of its first token, empty where that was a type 1 alone, and the challenge.
 #[derive(Drop, Debug)]
 pub struct InMaking {
     pub purpose: Purpose,

@@ -1,10 +1,12 @@
-//! The tokens of a logon (MS-SMB2 3.3.5.5.3): what one shows, and those that answer it.
-ghost use Rattle.std.specs.Prelude.{◌≡◌, IfOk, OnOk, None, Some, option_map, option_copied};
-ghost use Rattle.spec_crypto.specs.tokens.Tokens.{begun_by, begun_by_message, begun_with, shown, shown_by, shown_message};
-ghost use Rattle.spec_crypto.specs.tokens.Tokens.{shown_with, challenge_token, second_of, final_mic, final_token};
+//! The tokens of a logon (MS-SMB2 3.3.5.5.3): what one shows, and those that answer it. A token is SPNEGO's, or NTLM's message
+//! alone where the server takes it.
+ghost use Rattle.std.specs.Prelude.{◌≡◌, IfOk, OnOk, Ok, None, Some, option_map, option_copied};
+ghost use Rattle.spec_crypto.specs.tokens.Tokens.{bare_init, bare_resp, begun_by, begun_by_message, begun_with, first_in, is_bare};
+ghost use Rattle.spec_crypto.specs.tokens.Tokens.{is_unlisted, second_in, shown, shown_by, shown_message, shown_with};
+ghost use Rattle.spec_crypto.specs.tokens.Tokens.{challenge_resp, challenge_token, final_resp, second_of, final_mic, final_token};
 ghost use Rattle.spec_crypto.specs.tokens.Messages.{type1_in};
 ghost use Rattle.spec_crypto.specs.tokens.Spnego.{resp_spelling};
-ghost use Rattle.crypto_sessions.specs.spnego.Views.{resp_view};
+ghost use Rattle.crypto_sessions.specs.spnego.Views.{TokenReads, init_view, resp_view};
 ghost use Rattle.server_checks.specs.session_table.Logons.{begun_in, begun_of, pending_for, pending_made, pending_of, shown_of};
 ghost use Rattle.server_checks.specs.session_table.Logons.{logon_of, IsBreak, IsRefusal};
 
@@ -17,7 +19,10 @@ use spec_crypto::{DerError, LogonError};
 use std::alloc::{AllocError, Global};
 use wire_bytes::Bytes;
 
-/// What a first token begins: its list of mechanisms, and its type 1.
+/// What NTLM's messages begin with (MS-NLMP 2.2.1).
+const SIGNATURE: [u8; 8] = *b"NTLMSSP\0";
+
+/// What a first token begins: its list of mechanisms, which is empty where it is a type 1 alone, and its type 1.
 #[derive(Drop, Debug)]
 pub struct Begun {
     pub list: Bytes,
@@ -44,9 +49,9 @@ pub fn token_shown(
     token: &[u8],
 ) -> Result<TokenShown, AllocError>
     ensures shown { IfOk result (λ v. shown_of v ≡ shown users.now (option_map pending_of (option_copied making.entry)) token.now) }
-    ensures begun { IfOk result (λ v. begun_in v ≡ begun_by token.now) }
+    ensures begun { IfOk result (λ v. begun_in v ≡ begun_by users.now.bare token.now) }
 {
-    if let Some(begun) = begun_in(alloc, token)? {
+    if let Some(begun) = begun_in(alloc, users.is_bare(), token)? {
         return Ok(TokenShown::Begins(begun));
     }
     match making {
@@ -57,16 +62,85 @@ pub fn token_shown(
 
 // What a first token begins, where it is one.
 #[tactic(auto, unfolding(spec_crypto::specs::tokens::Tokens::begun_by))]
-fn begun_in(alloc: Global, token: &[u8]) -> Result<Option<Begun>, AllocError>
-    ensures { IfOk result (λ b. option_map begun_of b ≡ begun_by token.now) }
+fn begun_in(alloc: Global, bare: bool, token: &[u8]) -> Result<Option<Begun>, AllocError>
+    ensures { IfOk result (λ b. option_map begun_of b ≡ begun_by bare token.now) }
 {
-    match read_init(alloc, token) {
+    match read_first(alloc, bare, token) {
         Ok(init) => Ok(begun_with(init)),
         Err(error) => {
             check_break(error)?;
             Ok(None)
         }
     }
+}
+
+// Whether a token is NTLM's message alone.
+#[tactic(auto, unfolding(spec_crypto::specs::tokens::Tokens::is_bare))]
+fn is_bare(token: &[u8]) -> bool
+    ensures { result ≡ is_bare token.now }
+{
+    token.starts_with(&SIGNATURE)
+}
+
+// Whether a logon has no list of mechanisms, because its first token was a type 1 alone.
+#[tactic(auto, unfolding(spec_crypto::specs::tokens::Tokens::is_unlisted))]
+fn is_unlisted(list: &[u8]) -> bool
+    ensures { result ≡ is_unlisted list.now }
+{
+    list.is_empty()
+}
+
+// A first token as it reads.
+#[tactic(auto, unfolding(spec_crypto::specs::tokens::Tokens::first_in))]
+fn read_first(alloc: Global, bare: bool, token: &[u8]) -> Result<InitToken, DerError>
+    ensures { TokenReads init_view result (first_in bare token.now) }
+{
+    let alone = bare && is_bare(token);
+    if alone {
+        alone_init(alloc, token)
+    } else {
+        read_init(alloc, token)
+    }
+}
+
+// A type 1 alone, as SPNEGO's token with no list would have it.
+fn alone_init(alloc: Global, token: &[u8]) -> Result<InitToken, DerError>
+    ensures { TokenReads init_view result (Ok (bare_init token.now)) }
+{
+    let first = Bytes::from_slice(alloc, token)?;
+    Ok(InitToken {
+        mech_list: Bytes::new(alloc),
+        ntlm_first: true,
+        token: Some(first),
+        mic: None,
+    })
+}
+
+// A second token as it reads, behind a first one with this list.
+#[tactic(auto, unfolding(spec_crypto::specs::tokens::Tokens::second_in))]
+fn read_second(alloc: Global, list: &[u8], token: &[u8]) -> Result<RespToken, DerError>
+    ensures { TokenReads resp_view result (second_in list.now token.now) }
+{
+    if !is_unlisted(list) {
+        return read_resp(alloc, token);
+    }
+    if !is_bare(token) {
+        return Err(DerError::NoNtlm);
+    }
+    alone_resp(alloc, token)
+}
+
+// A type 3 alone, as SPNEGO's token without a MIC would have it.
+fn alone_resp(alloc: Global, token: &[u8]) -> Result<RespToken, DerError>
+    ensures { TokenReads resp_view result (Ok (bare_resp token.now)) }
+{
+    let third = Bytes::from_slice(alloc, token)?;
+    Ok(RespToken {
+        state: None,
+        ntlm: true,
+        token: Some(third),
+        mic: None,
+    })
 }
 
 // Memory that ran out is no break of a token.
@@ -116,7 +190,7 @@ fn second_shown(
     ensures shown { IfOk result (λ v. shown_of v ≡ shown_by users.now (Some (pending_of making.now)) token.now) }
     ensures begun { IfOk result (λ v. begun_in v ≡ None) }
 {
-    match read_resp(alloc, token) {
+    match read_second(alloc, making.list.as_slice(), token) {
         Ok(resp) => third_shown(alloc, users, making, resp),
         Err(error) => {
             check_break(error)?;
@@ -180,31 +254,48 @@ fn logon_shown(making: &InMaking, logon: Logon, mic: Option<Bytes>) -> TokenShow
 }
 
 /// The challenge to what a first token begins, of 8 random bytes and a moment, and the token that carries it.
-#[tactic(auto, unfolding(spec_crypto::specs::tokens::Tokens::second_of, spec_crypto::specs::tokens::Tokens::challenge_token))]
+#[tactic(auto, unfolding(spec_crypto::specs::tokens::Tokens::second_of))]
 pub fn challenge_for(
     alloc: Global,
     begun: &Begun,
     fresh: [u8; 8],
     now: u64,
 ) -> Result<(Acceptor, Bytes), AllocError>
-    ensures token { IfOk result (λ r. r.1 ≡ challenge_token (second_of (begun_of begun.now) fresh now)) }
+    ensures token { IfOk result (λ r. r.1 ≡ challenge_token begun.now.list (second_of (begun_of begun.now) fresh now)) }
     ensures kept { IfOk result (λ r. pending_made begun.now.list r.0 ≡ pending_for (begun_of begun.now) fresh now) }
 {
     let Ok((acceptor, second)) = Acceptor::challenge(alloc, begun.first.as_slice(), fresh, now)
     else {
         return Err(AllocError);
     };
+    let token = challenge_with(alloc, begun.list.as_slice(), second)?;
+    Ok((acceptor, token))
+}
+
+// A type 2 as the token that carries it: itself, where the logon has no list.
+#[tactic(auto, unfolding(spec_crypto::specs::tokens::Tokens::challenge_token))]
+fn challenge_with(alloc: Global, list: &[u8], second: Bytes) -> Result<Bytes, AllocError>
+    ensures { IfOk result (λ b. b ≡ challenge_token list.now second) }
+{
+    if is_unlisted(list) {
+        return Ok(second);
+    }
+    challenge_answer(alloc, second)
+}
+
+fn challenge_answer(alloc: Global, second: Bytes) -> Result<Bytes, AllocError>
+    ensures { IfOk result (λ b. b ≡ challenge_resp second) }
+{
     let answer = RespToken {
         state: Some(1),
         ntlm: true,
         token: Some(second),
         mic: None,
     };
-    let token = written(alloc, &answer)?;
-    Ok((acceptor, token))
+    written(alloc, &answer)
 }
 
-/// The token that ends a logon, with a MIC exactly where the client sent one.
+/// The token that ends a logon, with a MIC exactly where the client sent one; an empty one, where the logon has no list.
 #[tactic(auto, unfolding(spec_crypto::specs::tokens::Tokens::final_token))]
 pub fn final_for(
     alloc: Global,
@@ -213,6 +304,15 @@ pub fn final_for(
     signs: bool,
 ) -> Result<Bytes, AllocError>
     ensures { IfOk result (λ b. b ≡ final_token list.now (logon_of logon.now) signs) }
+{
+    if is_unlisted(list) {
+        return Ok(Bytes::new(alloc));
+    }
+    final_answer(alloc, list, logon, signs)
+}
+
+fn final_answer(alloc: Global, list: &[u8], logon: &Logon, signs: bool) -> Result<Bytes, AllocError>
+    ensures { IfOk result (λ b. b ≡ final_resp list.now (logon_of logon.now) signs) }
 {
     let mic = mic_for(alloc, list, logon, signs)?;
     let answer = RespToken {

@@ -3,8 +3,7 @@ ghost use Rattle.std.specs.Prelude.{◌≡◌, ℕ, Bool, false};
 ghost use Rattle.spec_exchange.specs.Commands.{Setup, SetupRequest};
 ghost use Rattle.spec_exchange.specs.State.{Heard, Message, Server};
 ghost use Rattle.spec_exchange.specs.Step.{step};
-ghost use Rattle.std.specs.Prelude.{List};
-ghost use Rattle.spec_crypto.specs.tokens.Acceptor.{User};
+ghost use Rattle.spec_crypto.specs.tokens.Tokens.{Users};
 ghost use Rattle.spec_world.specs.Ends.{Logons};
 ghost use Rattle.server_checks.specs.setups.Setups.{in_the_making, setup_message, with_verified};
 ghost use Rattle.server_checks.specs.declared.setups.setup.SetupHeard.{SetupHeard};
@@ -19,6 +18,6 @@ pub fn absent_law()
 /// Where nothing is in the making on its connection, it is the same whatever its token would show of what was.
 /// So a server may forget a challenge as soon as nothing is in the making.
 pub fn unmade_law()
-    ensures { (users : List User) (s : Server) (L : Logons) (now : ℕ) (h : SetupHeard)
+    ensures { (users : Users) (s : Server) (L : Logons) (now : ℕ) (h : SetupHeard)
         → step s now (Heard (setup_message users (in_the_making s L) s h)) ≡ step s now (Heard (setup_message users L s h)) }
 {}

@@ -1,8 +1,8 @@
 //! Numbers of a request that are made of bits, and what its disposition asks (MS-SMB2 2.2.13).
-ghost use Rattle.std.specs.Prelude.{◌≡◌, ◌<◌, ◌||◌};
-ghost use Rattle.spec_exchange.specs.CheckCreate.{action_of, action_on_found, empties, makes_file, makes_missing, shared_access};
+ghost use Rattle.std.specs.Prelude.{◌≡◌, ◌<◌, ◌||◌, bit_or, if◌then◌else◌};
+ghost use Rattle.spec_exchange.specs.CheckCreate.{action_of, action_on_found, empties, makes_file, makes_missing};
 ghost use Rattle.spec_exchange.specs.Commands.{deletes_on_close, has_bit};
-ghost use Rattle.spec_exchange.specs.Opens.{bits_if, mapped};
+ghost use Rattle.spec_exchange.specs.Opens.{bits_if, mapped, writes};
 ghost use Rattle.wire_commands.specs.values.Meaning.{create_of};
 
 use wire_commands::CreateRequest;
@@ -50,6 +50,14 @@ fn bits_if(is_set: bool, bits: u32) -> u32
     if is_set { bits } else { 0 }
 }
 
+/// An access to write (MS-SMB2 2.2.13.1.1): FILE_WRITE_DATA or FILE_APPEND_DATA.
+#[tactic(auto, unfolding(spec_exchange::specs::Opens::writes))]
+pub fn writes(access: u32) -> bool
+    ensures { result ≡ writes access }
+{
+    has_bit(access, 0x2) || has_bit(access, 0x4)
+}
+
 /// A create of this disposition empties what it finds.
 pub fn empties(disposition: u32) -> bool
     ensures { result ≡ empties disposition }
@@ -75,11 +83,10 @@ pub fn makes_file(request: &CreateRequest, found: Option<u64>) -> bool
 }
 
 /// The access that sharing looks at: a create that empties a file asks for write access too.
-pub fn shared_access(request: &CreateRequest) -> u32
-    ensures { result ≡ shared_access (create_of request.now) }
+pub fn shared_access(disposition: u32, access: u32) -> u32
+    ensures { result ≡ (if empties disposition then bit_or access 0x2 else access) }
 {
-    let access = mapped(request.access);
-    if empties(request.disposition) {
+    if empties(disposition) {
         access | 0x2
     } else {
         access

@@ -56,6 +56,8 @@ pub const DIRECTORY_NOT_EMPTY: u32 = 0xc000_0101;
 
 pub const NOT_A_DIRECTORY: u32 = 0xc000_0103;
 
+pub const CANNOT_DELETE: u32 = 0xc000_0121;
+
 pub const FILE_CLOSED: u32 = 0xc000_0128;
 
 pub const FS_DRIVER_REQUIRED: u32 = 0xc000_019c;

@@ -154,6 +154,7 @@ pub fn without_room(m: &Message<'_>, verdict: Verdict) -> Verdict
             session,
             quiet: true,
         },
+        Verdict::DropTree => Verdict::Refuse { status: DISK_FULL },
         other => other,
     }
 }

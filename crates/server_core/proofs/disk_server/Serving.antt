@@ -44,7 +44,7 @@ use Rattle.server_recovery.specs.journaled_tables.Holds.{EventRefused, ExpiredAl
 use Rattle.server_recovery.specs.declared.journaled_tables.state.ServerState.{ServerState}
 use Rattle.spec_crypto.specs.declared.sessions.material.Keys.{Keys}
 use Rattle.spec_crypto.specs.declared.sessions.material.Signer.{Signer}
-use Rattle.spec_crypto.specs.tokens.Acceptor.{User}
+use Rattle.spec_crypto.specs.tokens.Tokens.{Users}
 use Rattle.spec_world.specs.Ends.{Logons}
 use Rattle.spec_world.specs.Lacking.{alone_records}
 use Rattle.spec_world.specs.Logon as logon
@@ -92,7 +92,7 @@ plain_answer s now m (asks.SetInfo file setting) h = refl
 plain_answer s now m (asks.Aside status) h = absurd h
 plain_answer s now m (asks.Setup request) h = absurd h
 
-plain_event : (users : List User) (L : Logons) (s : model.Server) (message : Message) → IsServerPlain (command_of message.command)
+plain_event : (users : Users) (L : Logons) (s : model.Server) (message : Message) → IsServerPlain (command_of message.command)
     → heard_event users L s (events.Message message) ≡ model.Heard (message_of message)
 plain_event users L s message h =
     ap (λ (c : asks.Command). model.Heard (record (message_of message) { command = c })) (plain_command (command_of message.command) h)
@@ -164,7 +164,7 @@ refused_gone_as false deleted own = refl
 refused_gone_as true true own = refl
 refused_gone_as true false own = refl
 
-refused_as : (users : List User) (s : model.Server) (L : Logons) (q : SetupHeard) (l : Logon) (status : ℕ) (present : Bool)
+refused_as : (users : Users) (s : model.Server) (L : Logons) (q : SetupHeard) (l : Logon) (status : ℕ) (present : Bool)
     → s.present q.session_id ≡ present → IsBookLogon s L q l → (own : Option Signer)
     → RefusesBy (refused_progress l status) own (refusal_due users s L q present status own)
 refused_as users s L q l status true e known own =
@@ -196,7 +196,7 @@ refused_as users s L q l status false e known own =
     subst (λ (x : Progress). RefusesBy x own (refusal_due users s L q false status own)) (sym told)
     (refused_gone_as q.form.binding (status == user_session_deleted) own)
 
-told_progress : (users : List User) (s : model.Server) (L : Logons) (q : SetupHeard) (now : ℕ) (l : Logon) (a : Answer) (p : Progress)
+told_progress : (users : Users) (s : model.Server) (L : Logons) (q : SetupHeard) (now : ℕ) (l : Logon) (a : Answer) (p : Progress)
     (interim done : Bool) (body : model.Body) (live : Bool) (status : ℕ) → IsBookLogon s L q l → body_of a.reply.body ≡ body
     → a.reply.status ≡ status → (by_tests interim done q.form.binding body ≡ logon.Stays → live ≡ s.present q.session_id)
     → SetupAnswers users L q now (by_tests interim done q.form.binding body) a.token a.keys a.channel
@@ -223,7 +223,7 @@ told_progress users s L q now l a p false false body live status known same word
     (subst (λ (b : Bool). RefusesBy (refused_progress l status) own (refusal_due users s L q b status own)) (sym (kept refl))
     (refused_as users s L q l status (s.present q.session_id) refl known own))
 
-token_is : (users : List User) (L : Logons) (q : SetupHeard) (now : ℕ) (p : logon.Progress) (token : List ℕ) (keys : Option Keys)
+token_is : (users : Users) (L : Logons) (q : SetupHeard) (now : ℕ) (p : logon.Progress) (token : List ℕ) (keys : Option Keys)
     (channel : Option ℕ) → SetupAnswers users L q now p token keys channel
     → token ≡ answer_token_by users (L.pending q.connection) q.form.token.now q.fresh now p
 unfolding answer_token_by
@@ -233,7 +233,7 @@ token_is users L q now (logon.Final binding number encrypts) token keys channel 
 
 module _ {D : Type 0} (told : Type 0) (seen : D → List ℕ) (may_leave : D → List ℕ → Type 0) where
   -- what `StepAnswers` says, of the users that the event is heard with and of those of the tables
-  abbrev Mixed : List User → List User → ServerState D → model.Server → Logons → List model.Record → ℕ → ServerEvent → Answer → Type 0
+  abbrev Mixed : Users → Users → ServerState D → model.Server → Logons → List model.Record → ℕ → ServerEvent → Answer → Type 0
   Mixed w v c s L records now e a =
       let A = step s now (heard_event v L s e) in
       let p = progress_of (heard_event w L s e) A.reply in
@@ -243,7 +243,7 @@ module _ {D : Type 0} (told : Type 0) (seen : D → List ℕ) (may_leave : D →
   abbrev Shows : Showing → ServerState D → Type 0
   Shows shown c = (t : model.Server) (M : Logons) (rs : List model.Record) → JournaledHolds told seen may_leave c t M rs → shown t M rs
 
-  replied : (shown : Showing) (c : ServerState D) → Shows shown c → (users : List User) (s : model.Server) (L : Logons)
+  replied : (shown : Showing) (c : ServerState D) → Shows shown c → (users : Users) (s : model.Server) (L : Logons)
       (records : List model.Record) (now : ℕ) (event : ServerEvent) (d : Command) (l : Option Logon) (a : Answer) (r : Reply)
       → IsServerServed event → HasShape event d → BookLogonIs s L event l → Mixed users users c s L records now event a → IsBookTold d l a r
       → ServerReplies shown users s L records now event r
@@ -309,7 +309,7 @@ module _ {D : Type 0} (told : Type 0) (seen : D → List ℕ) (may_leave : D →
 
   -- ---- where the reply is lost
 
-  lost : (shown : Showing) (c : ServerState D) → Shows shown c → (users : List User) (s : model.Server) (L : Logons)
+  lost : (shown : Showing) (c : ServerState D) → Shows shown c → (users : Users) (s : model.Server) (L : Logons)
       (records : List model.Record) (now : ℕ) (event : ServerEvent) (a : Answer) (acted : Bool) → IsServerServed event
       → Mixed users users c s L records now event a → acted ≡ a.acted → ServerLoses shown users s L records now event acted
   lost shown c show users s L records now (events.Accept connection) a acted served k same = (same ∙ k.2, show _ L _ k.4)
@@ -340,7 +340,7 @@ module _ {D : Type 0} (told : Type 0) (seen : D → List ℕ) (may_leave : D →
 
   -- ---- where no memory was found
 
-  as_before : (users : List User) (s : model.Server) (L : Logons) (now : ℕ) (event : ServerEvent) → IsServerServed event
+  as_before : (users : Users) (s : model.Server) (L : Logons) (now : ℕ) (event : ServerEvent) → IsServerServed event
       → ServerLacks users s L now event s []
   as_before users s L now (events.Accept connection) served = inl (refl, refl)
   as_before users s L now (events.End connection) served = inl (refl, refl)
@@ -348,7 +348,7 @@ module _ {D : Type 0} (told : Type 0) (seen : D → List ℕ) (may_leave : D →
   as_before users s L now (events.Message message) served = inl (refl, refl)
   as_before users s L now (events.Setup q) served = inl (refl, refl)
 
-  pub unchanged : (shown : Showing) (c : ServerState D) → Shows shown c → (users : List User) (s : model.Server) (L : Logons)
+  pub unchanged : (shown : Showing) (c : ServerState D) → Shows shown c → (users : Users) (s : model.Server) (L : Logons)
       (records : List model.Record) (now : ℕ) (event : ServerEvent) → IsServerServed event → JournaledHolds told seen
       may_leave c s L records
       → ServerServes shown users s L records now event (Err errors.Memory)
@@ -360,7 +360,7 @@ module _ {D : Type 0} (told : Type 0) (seen : D → List ℕ) (may_leave : D →
         (subst (λ (rs : List model.Record). JournaledHolds told seen may_leave c s L rs) (sym (append-nil records)) h),
   )
 
-  expired_alone : (shown : Showing) (c : ServerState D) → Shows shown c → (users : List User) (s : model.Server) (L : Logons)
+  expired_alone : (shown : Showing) (c : ServerState D) → Shows shown c → (users : Users) (s : model.Server) (L : Logons)
       (records : List model.Record) (now : ℕ) (event : ServerEvent) → IsServerServed event
       → ExpiredAlone told seen may_leave c s L records now (heard_event users L s event)
       → ServerServes shown users s L records now event (Err errors.Memory)
@@ -397,14 +397,14 @@ module _ {D : Type 0} (told : Type 0) (seen : D → List ℕ) (may_leave : D →
     show x.1 L (records ++ alone_records s now (model.Heard (setup_message users L s q)) x.0) x.3,
   )
 
-  lacking : (shown : Showing) (c : ServerState D) → Shows shown c → (users : List User) (s : model.Server) (L : Logons)
+  lacking : (shown : Showing) (c : ServerState D) → Shows shown c → (users : Users) (s : model.Server) (L : Logons)
       (records : List model.Record) (now : ℕ) (event : ServerEvent) → IsServerServed event
       → JournaledHolds told seen may_leave c s L records ⊎ ExpiredAlone told seen may_leave c s L records now (heard_event users L s event)
       → ServerServes shown users s L records now event (Err errors.Memory)
   lacking shown c show users s L records now event served (inl h) = unchanged shown c show users s L records now event served h
   lacking shown c show users s L records now event served (inr x) = expired_alone shown c show users s L records now event served x
 
-  refusing_as : (faults : D → ℕ) (shown : Showing) (old c : ServerState D) → Shows shown c → (users : List User) (s : model.Server)
+  refusing_as : (faults : D → ℕ) (shown : Showing) (old c : ServerState D) → Shows shown c → (users : Users) (s : model.Server)
       (L : Logons) (records : List model.Record) (now : ℕ) (event : ServerEvent) (M : Logons) (x : EventError) (y : ServeError)
       → IsServerServed event → y ≡ refusal c.stopped
       → EventRefused told seen may_leave faults x old c s L records now (heard_event users L s event) M
@@ -419,37 +419,37 @@ module _ {D : Type 0} (told : Type 0) (seen : D → List ℕ) (may_leave : D →
       subst (λ (e : ServeError). ServerServes shown users s L records now event (Err e))
       (sym (is ∙ ap (λ (o : Option ℕ). refusal o) (ap (λ (d : ServerState D). d.stopped) k.1 ∙ k.0))) tt
 
-  pub refusing : (faults : D → ℕ) (shown : Showing) (old c : ServerState D) → Shows shown c → (users v : List User) (s : model.Server)
+  pub refusing : (faults : D → ℕ) (shown : Showing) (old c : ServerState D) → Shows shown c → (users v : Users) (s : model.Server)
       (L : Logons) (records : List model.Record) (now : ℕ) (event : ServerEvent) (M : Logons) (x : EventError) (y : ServeError)
       → v ≡ users → IsServerServed event → y ≡ refusal c.stopped
       → EventRefused told seen may_leave faults x old c s L records now (heard_event v L s event) M
       → ServerServes shown users s L records now event (Err y)
   refusing faults shown old c show users v s L records now event M x y same served is k =
       refusing_as faults shown old c show users s L records now event M x y served is
-      (subst (λ (w : List User). EventRefused told seen may_leave faults x old c s L records now (heard_event w L s event) M) same k)
+      (subst (λ (w : Users). EventRefused told seen may_leave faults x old c s L records now (heard_event w L s event) M) same k)
 
-  pub answering : (shown : Showing) (c : ServerState D) → Shows shown c → (users v : List User) (s : model.Server) (L : Logons)
+  pub answering : (shown : Showing) (c : ServerState D) → Shows shown c → (users v : Users) (s : model.Server) (L : Logons)
       (records : List model.Record) (now : ℕ) (event : ServerEvent) (d : Command) (l : Option Logon) (a : Answer)
       (x : Result Reply ServeError) → v ≡ users → c.tables.config.users ≡ users → IsServerServed event → HasShape event d
       → BookLogonIs s L event l → StepAnswers told seen may_leave c s L records now event a (step s now (heard_event v L s event))
       → TellsAnswer d l a x → ServerServes shown users s L records now event x
   answering shown c show users v s L records now event d l a (Ok r) same config served shape known k t =
       replied shown c show users s L records now event d l a r served shape known
-      (subst (λ (w : List User). Mixed w users c s L records now event a) config
-      (subst (λ (w : List User). Mixed c.tables.config.users w c s L records now event a) same k)) t
+      (subst (λ (w : Users). Mixed w users c s L records now event a) config
+      (subst (λ (w : Users). Mixed c.tables.config.users w c s L records now event a) same k)) t
   answering shown c show users v s L records now event d l a (Err errors.Memory) same config served shape known k t = absurd t
   answering shown c show users v s L records now event d l a (Err (errors.Unanswered acted)) same config served shape known k t =
       lost shown c show users s L records now event a acted served
-      (subst (λ (w : List User). Mixed w users c s L records now event a) config
-      (subst (λ (w : List User). Mixed c.tables.config.users w c s L records now event a) same k)) t
+      (subst (λ (w : Users). Mixed w users c s L records now event a) config
+      (subst (λ (w : Users). Mixed c.tables.config.users w c s L records now event a) same k)) t
   answering shown c show users v s L records now event d l a (Err (errors.Stopped count)) same config served shape known k t = absurd t
 
 -- what a server shows to its connections
-abbrev pub ShownBy : {D : Type 0} → Type 0 → (D → List ℕ) → (D → List ℕ → Type 0) → Server D → List User → model.Server → Logons
+abbrev pub ShownBy : {D : Type 0} → Type 0 → (D → List ℕ) → (D → List ℕ → Type 0) → Server D → Users → model.Server → Logons
     → List model.Record → Type 0
 ShownBy told seen may_leave x users t M rs = ((config_of x).users ≡ users) × HoldsServer told seen may_leave x t M rs
 
-pub showing : {D : Type 0} (told : Type 0) (seen : D → List ℕ) (may_leave : D → List ℕ → Type 0) (x : Server D) (users : List User)
+pub showing : {D : Type 0} (told : Type 0) (seen : D → List ℕ) (may_leave : D → List ℕ → Type 0) (x : Server D) (users : Users)
     → (config_of x).users ≡ users → (t : model.Server) (M : Logons) (rs : List model.Record)
     → JournaledHolds told seen may_leave (state_of x) t M rs → ShownBy told seen may_leave x users t M rs
 showing told seen may_leave x users e t M rs k = (e, k)

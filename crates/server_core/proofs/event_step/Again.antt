@@ -66,7 +66,7 @@ files_ready t u s (readies.CloseOpen id body) h = h
 files_ready t u s (readies.Setup step) h = h
 files_ready t u s (readies.EndSession session quiet) h = h
 files_ready t u s (readies.AddTree pipes) h = h
-files_ready t u s readies.DropTree h = h
+files_ready t u s (readies.DropTree opens) h = h
 
 stands : (t : Tables) (u : Opens) (s : Server) (m : Message) (now : ℕ) (r : Ready) → ReservedStands t s m now r
     → ReservedStands (opened t u) s m now r
@@ -86,7 +86,7 @@ stands t u s m now (readies.CloseOpen id body) h = h
 stands t u s m now (readies.Setup step) h = h
 stands t u s m now (readies.EndSession session quiet) h = h
 stands t u s m now (readies.AddTree pipes) h = h
-stands t u s m now readies.DropTree h = h
+stands t u s m now (readies.DropTree opens) h = h
 
 others : (t : Tables) (u : Opens) (s : Server) → OthersShown t s → ShowsOpens u s → OthersShown (opened t u) s
 others t u s h o = record {

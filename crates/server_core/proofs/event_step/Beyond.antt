@@ -30,7 +30,7 @@ use Rattle.server_effects.specs.prepared_event.Prepared.{IsPrepared, prepared_ru
 use Rattle.server_plan.specs.rulings.Rulings.{AbleToRule}
 use Rattle.server_checks.specs.session_table.Logons.{LogonsShown}
 use Rattle.server_checks.specs.declared.session_table.table.Sessions.{Sessions}
-use Rattle.spec_crypto.specs.tokens.Acceptor.{User}
+use Rattle.spec_crypto.specs.tokens.Tokens.{Users}
 use Rattle.spec_world.specs.Ends.{Logons}
 
 -- the records of both, behind this state
@@ -47,11 +47,11 @@ step_at law s y now o x e may = subst (λ (z : model.Server). fits z (all_of s z
 count_at : OutLaws → (s y : model.Server) (o : ℕ) → y ≡ expire s o → y.journal ≡ s.journal
 count_at law s y o e = ap (λ (z : model.Server). z.journal) e ∙ law.expired s o
 
-heard_at : (users : List User) (L : Logons) (s y : model.Server) (o : ℕ) (e : ServerEvent) (a : Asked) → y ≡ expire s o
+heard_at : (users : Users) (L : Logons) (s y : model.Server) (o : ℕ) (e : ServerEvent) (a : Asked) → y ≡ expire s o
     → IsJournaledHeard users L s e a → IsJournaledHeard users L y e a
 heard_at users L s y o e a out h = subst (λ (z : model.Server). IsJournaledHeard users L z e a) (sym out) (heard_still users L s o e a h)
 
-same_at : (users : List User) (L : Logons) (s y : model.Server) (o : ℕ) (e : ServerEvent) → y ≡ expire s o
+same_at : (users : Users) (L : Logons) (s y : model.Server) (o : ℕ) (e : ServerEvent) → y ≡ expire s o
     → heard_event users L y e ≡ heard_event users L s e
 same_at users L s y o e out = subst (λ (z : model.Server). heard_event users L z e ≡ heard_event users L s e) (sym out)
     (heard_expired users L s o e)
@@ -78,7 +78,7 @@ body_at law s y now o ev x body out said may b f =
     subst (λ (A : model.Answer). IsBodyOf body A.records) (sym (said ∙ step_at law s y now o x out may f)) b
 
 pub carried_apart : {D : Type 0} (told : Type 0) (seen : D → List ℕ) (may_leave : D → List ℕ → Type 0) (faults : D → ℕ)
-    (old mid new : ServerState D) (users : List User) (s y : model.Server) (L : Logons) (records : List model.Record) (now : ℕ)
+    (old mid new : ServerState D) (users : Users) (s y : model.Server) (L : Logons) (records : List model.Record) (now : ℕ)
     (e : ServerEvent) (a : Asked) (o : ℕ) (x : Expired) (both : Both) (result : Result Answer EventError) → Bodies → Steps → OutLaws
     → Committing told seen may_leave faults mid new a both.prepared both.body now result
     → ServerApart told seen may_leave old users s y L records now e a o x both → MayExpire s now o → AbleToRule y (ruling y (event_of a))

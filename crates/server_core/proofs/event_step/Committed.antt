@@ -30,7 +30,7 @@ use Rattle.server_recovery.specs.recording.Writes.{WritesBut}
 use Rattle.server_plan.specs.rulings.Rulings.{AbleToRule}
 use Rattle.server_plan.specs.logon_steps.Steps.{PreparedStep}
 use Rattle.server_checks.specs.session_table.Logons.{LogonsShown}
-use Rattle.spec_crypto.specs.tokens.Acceptor.{User}
+use Rattle.spec_crypto.specs.tokens.Tokens.{Users}
 use Rattle.spec_world.specs.Ends.{Logons}
 
 committed_own : {D : Type 0} (told : Type 0) (seen : D → List ℕ) (may_leave : D → List ℕ → Type 0) (faults : D → ℕ)
@@ -62,7 +62,7 @@ pub record Committing {D : Type 0} (told : Type 0) (seen : D → List ℕ) (may_
     (mid new : ServerState D) (a : Asked) (p : Prepared) (body : List ℕ) (now : ℕ) (result : Result Answer EventError) : Type 0 where
   pub shown : (s : model.Server) → Fits s → IsPrepared mid.tables s now (event_of a) p → AbleToRule s (prepared_ruling (event_of a) p)
       → Commits s (carried_out (with_deadlines s now) now (prepared_ruling (event_of a) p)) body result new
-  pub beside : (users : List User) (s : model.Server) (L : Logons) (e : ServerEvent) → Fits s → IsPrepared mid.tables s now (event_of a) p
+  pub beside : (users : Users) (s : model.Server) (L : Logons) (e : ServerEvent) → Fits s → IsPrepared mid.tables s now (event_of a) p
       → MayRule s (event_of a) (prepared_ruling (event_of a) p) → AbleToRule s (prepared_ruling (event_of a) p)
       → IsJournaledHeard users L s e a
       → LogonsShown mid.tables.sessions L.keys L.pending → PreparedStep L a now p
@@ -75,7 +75,7 @@ pub record Committing {D : Type 0} (told : Type 0) (seen : D → List ℕ) (may_
 
 -- the event is prepared on a state, from which it is carried out: that before it, or the one without an open that expired
 pub record Carrying {D : Type 0} (told : Type 0) (seen : D → List ℕ) (may_leave : D → List ℕ → Type 0) (old mid : ServerState D)
-    (users : List User) (s y : model.Server) (L : Logons) (records : List model.Record) (now : ℕ) (e : ServerEvent) (a : Asked)
+    (users : Users) (s y : model.Server) (L : Logons) (records : List model.Record) (now : ℕ) (e : ServerEvent) (a : Asked)
     (p : Prepared) (body : List ℕ) (all : List model.Record) : Type 0 where
   pub none : old.stopped ≡ None
   pub room : OnlyRoom old.journal mid.journal
@@ -94,7 +94,7 @@ pub record Carrying {D : Type 0} (told : Type 0) (seen : D → List ℕ) (may_le
       (record (carried_out (with_deadlines y now) now (prepared_ruling (event_of a) p)) { records = all }) body
 
 pub event_carried : {D : Type 0} (told : Type 0) (seen : D → List ℕ) (may_leave : D → List ℕ → Type 0) (faults : D → ℕ)
-    (old mid new : ServerState D) (users : List User) (s y : model.Server) (L : Logons) (records : List model.Record) (now : ℕ)
+    (old mid new : ServerState D) (users : Users) (s y : model.Server) (L : Logons) (records : List model.Record) (now : ℕ)
     (e : ServerEvent) (a : Asked) (p : Prepared) (body : List ℕ) (all : List model.Record)
     (result : Result Answer EventError) → Bodies → Steps
     → Committing told seen may_leave faults mid new a p body now result
@@ -102,7 +102,7 @@ pub event_carried : {D : Type 0} (told : Type 0) (seen : D → List ℕ) (may_le
     → EventAnswers told seen may_leave faults old new users s L records now e result
 event_carried {D} told seen may_leave faults old mid new users s y L records now e a p body all result law steps k f =
     let B = carried_out (with_deadlines y now) now (prepared_ruling (event_of a) p) in
-    subst (λ (us : List User). Comes s now (heard_event us L s e) (record B { records = all }) body
+    subst (λ (us : Users). Comes s now (heard_event us L s e) (record B { records = all }) body
     → BesideCommitted new us L e now (progress_of (heard_event us L s e) B.reply) result
     → EventAnswers told seen may_leave faults old new us s L records now e result)
     (ap (λ (z : Config). z.users) k.config ∙ sym f.users_are)

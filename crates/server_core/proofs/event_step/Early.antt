@@ -18,7 +18,7 @@ use Rattle.server_plan.specs.Plans.{is_early}
 use Rattle.server_plan.specs.preparing.Preparing.{wants_memory_by}
 use Rattle.server_plan.specs.reserving.Readies.{wants_memory}
 use Rattle.server_recovery.specs.recording.Writes.{WritesBut}
-use Rattle.spec_crypto.specs.tokens.Acceptor.{User}
+use Rattle.spec_crypto.specs.tokens.Tokens.{Users}
 use Rattle.spec_world.specs.Ends.{Logons}
 
 pub not_on : false ≡ true → ⊥
@@ -56,7 +56,7 @@ none_due true o id e h = cc
 none_due false o id e h = let k : Some id ≡ None = h ∙ e in cc
 
 -- but for a SESSION_SETUP with its bytes an event is heard whatever logons are in the making
-pub heard_same : (users : List User) (L M : Logons) (s : model.Server) (e : ServerEvent) → is_setup_heard e ≡ false
+pub heard_same : (users : Users) (L M : Logons) (s : model.Server) (e : ServerEvent) → is_setup_heard e ≡ false
     → heard_event users L s e ≡ heard_event users M s e
 heard_same users L M s (events.Accept connection) h = refl
 heard_same users L M s (events.Message message) h = refl

@@ -20,7 +20,7 @@ use Rattle.server_effects.specs.expiry.Expired.{IsExpired}
 use Rattle.server_effects.specs.declared.expiry.expiry.Expired.{Expired}
 use Rattle.server_recovery.specs.journaled_tables.Counted.{front_of}
 use Rattle.std.specs.Prelude.{nat_le}
-use Rattle.spec_crypto.specs.tokens.Acceptor.{User}
+use Rattle.spec_crypto.specs.tokens.Tokens.{Users}
 use Rattle.spec_world.specs.Ends.{Logons}
 
 -- ---- the table of opens
@@ -48,7 +48,7 @@ room_yet t u e = record {
 
 -- ---- the event
 
-same_connection : (users : List User) (L : Logons) (s : model.Server) (e : ServerEvent)
+same_connection : (users : Users) (L : Logons) (s : model.Server) (e : ServerEvent)
     → connection_of (heard_event users L s e) ≡ connection_of (heard_event users (in_the_making s L) s e)
 same_connection users L s (events.Accept connection) = refl
 same_connection users L s (events.Message message) = refl
@@ -60,7 +60,7 @@ same_connection users L s events.Stop = refl
 abbrev pub FrontLaw : Type 0
 FrontLaw = (s : model.Server) (now : ℕ) (g : model.Origin) (o : ℕ) → expire_records (with_deadlines s now) g o ≡ expire_records s g o
 
-pub due_front : FrontLaw → (users : List User) (L : Logons) (s : model.Server) (now : ℕ) (e : ServerEvent) (a : Asked) (o : ℕ)
+pub due_front : FrontLaw → (users : Users) (L : Logons) (s : model.Server) (now : ℕ) (e : ServerEvent) (a : Asked) (o : ℕ)
     (front : List ℕ) → event_of a ≡ heard_event users (in_the_making s L) s e → MayExpire s now o → HasFront s a o front
     → Due s now (heard_event users L s e) o front
 due_front law users L s now e a o front said may f =

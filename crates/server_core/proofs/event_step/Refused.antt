@@ -32,7 +32,7 @@ use Rattle.server_recovery.specs.journaled_tables.Holds.{JournaledHolds, Journal
 use Rattle.server_recovery.specs.declared.journaled_tables.state.ServerState.{ServerState}
 use Rattle.server_records.specs.body_writing.Bodies.{IsLack}
 use Rattle.base_outside.specs.streams.Faults.{Rose}
-use Rattle.spec_crypto.specs.tokens.Acceptor.{User}
+use Rattle.spec_crypto.specs.tokens.Tokens.{Users}
 use Rattle.spec_world.specs.Ends.{Logons}
 
 -- ---- memory ran out, or the journal had stopped, which it hasn't where the server goes on
@@ -80,7 +80,7 @@ refused_from told seen may_leave faults old mid new s L records now ev M (Stoppe
     absurd (none_some n mid.stopped (same ∙ none) h.0)
 
 pub answers_from : {D : Type 0} (told : Type 0) (seen : D → List ℕ) (may_leave : D → List ℕ → Type 0) (faults : D → ℕ)
-    (old mid new : ServerState D) (users : List User) (s : model.Server) (L : Logons) (records : List model.Record) (now : ℕ)
+    (old mid new : ServerState D) (users : Users) (s : model.Server) (L : Logons) (records : List model.Record) (now : ℕ)
     (e : ServerEvent) (r : Result Answer EventError) → old.stopped ≡ None → mid.stopped ≡ old.stopped
     → faults mid.journal.disk ≡ faults old.journal.disk → EventAnswers told seen may_leave faults mid new users s L records now e r
     → EventAnswers told seen may_leave faults old new users s L records now e r
@@ -92,7 +92,7 @@ answers_from told seen may_leave faults old mid new users s L records now e (Err
     none same d h
 
 pub ends_from : {D : Type 0} (told : Type 0) (seen : D → List ℕ) (may_leave : D → List ℕ → Type 0) (faults : D → ℕ)
-    (old mid new : ServerState D) (users : List User) (s : model.Server) (L : Logons) (records : List model.Record) (now : ℕ)
+    (old mid new : ServerState D) (users : Users) (s : model.Server) (L : Logons) (records : List model.Record) (now : ℕ)
     (e : ServerEvent) (a : Asked) (r : Result Behind EventError) → old.stopped ≡ None → mid.stopped ≡ old.stopped
     → faults mid.journal.disk ≡ faults old.journal.disk → BehindEnds told seen may_leave faults mid new users s L records now e a r
     → BehindEnds told seen may_leave faults old new users s L records now e a r
@@ -146,7 +146,7 @@ none_leaves {D} seen may_leave moment left_since only_now i j s records now ev b
 -- ---- the server goes on hearing the event where room was made, or the tables show the state in another way
 
 pub asks_room : {D : Type 0} (told : Type 0) (seen : D → List ℕ) (may_leave : D → List ℕ → Type 0) (c : ServerState D) (j : JournalState D)
-    (users : List User) (s : model.Server) (L : Logons) (records : List model.Record) (now : ℕ) (e : ServerEvent) (a : Asked)
+    (users : Users) (s : model.Server) (L : Logons) (records : List model.Record) (now : ℕ) (e : ServerEvent) (a : Asked)
     → OnlyRoom c.journal j → ExpiryAsks told seen may_leave c users s L records now e a
     → ExpiryAsks told seen may_leave (record c { journal = j }) users s L records now e a
 asks_room told seen may_leave c j users s L records now e a o h = record {
@@ -187,7 +187,7 @@ shown_opens t u s h o = record {
 }
 
 pub asks_opens : {D : Type 0} (told : Type 0) (seen : D → List ℕ) (may_leave : D → List ℕ → Type 0) (c : ServerState D) (u : Opens)
-    (users : List User) (s : model.Server) (L : Logons) (records : List model.Record) (now : ℕ) (e : ServerEvent) (a : Asked)
+    (users : Users) (s : model.Server) (L : Logons) (records : List model.Record) (now : ℕ) (e : ServerEvent) (a : Asked)
     → ShowsOpens u s → ExpiryAsks told seen may_leave c users s L records now e a
     → ExpiryAsks told seen may_leave (record c { tables = record c.tables { opens = u } }) users s L records now e a
 asks_opens told seen may_leave c u users s L records now e a o h =
@@ -228,7 +228,7 @@ holds_both told seen may_leave c u f s L records h none o k =
 
 -- behind a part that left the disk as it was
 pub asks_on : {D : Type 0} (told : Type 0) (seen : D → List ℕ) (may_leave : D → List ℕ → Type 0) (old new : ServerState D)
-    (users : List User) (s : model.Server) (L : Logons) (records : List model.Record) (now : ℕ) (e : ServerEvent) (a : Asked)
+    (users : Users) (s : model.Server) (L : Logons) (records : List model.Record) (now : ℕ) (e : ServerEvent) (a : Asked)
     → ExpiryAsks told seen may_leave old users s L records now e a → JournaledHolds told seen may_leave new s L records
     → new.stopped ≡ old.stopped
     → new.tables.config ≡ old.tables.config → ExpiryAsks told seen may_leave new users s L records now e a

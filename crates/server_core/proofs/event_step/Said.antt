@@ -17,7 +17,7 @@ use Rattle.server_recovery.specs.journaled_tables.Heard.{IsJournaledHeard}
 use Rattle.server_recovery.specs.journaled_tables.Holds.{JournaledHolds}
 use Rattle.server_recovery.specs.declared.journaled_tables.state.ServerState.{ServerState}
 use Rattle.server_checks.specs.declared.setups.setup.SetupHeard.{SetupHeard}
-use Rattle.spec_crypto.specs.tokens.Acceptor.{User}
+use Rattle.spec_crypto.specs.tokens.Tokens.{Users}
 use Rattle.spec_world.specs.Ends.{Logons}
 
 -- ---- an expiry keeps what of a state an event is heard by
@@ -54,7 +54,7 @@ same_present s o = kept_by (λ (u : model.Server). u.present) s o (λ u n. refl)
 pub same_making : (s : model.Server) (o : ℕ) → (expire s o).making ≡ s.making
 same_making s o = kept_by (λ (u : model.Server). u.making) s o (λ u n. refl) (λ u. refl) (λ u n. refl) guid_making
 
-pub heard_expired : (users : List User) (L : Logons) (s : model.Server) (o : ℕ) (e : ServerEvent)
+pub heard_expired : (users : Users) (L : Logons) (s : model.Server) (o : ℕ) (e : ServerEvent)
     → heard_event users L (expire s o) e ≡ heard_event users L s e
 heard_expired users L s o (Accept connection) = refl
 heard_expired users L s o (Message message) = refl
@@ -66,7 +66,7 @@ heard_expired users L s o Stop = refl
 -- what is in the making no longer doesn't count, by `unmade_law` of `server_checks::setups`; said of any function of
 -- events, so that no step is
 -- computed
-said_by : (F : model.ServerEvent → model.Answer) (users : List User) (s : model.Server) (L : Logons)
+said_by : (F : model.ServerEvent → model.Answer) (users : Users) (s : model.Server) (L : Logons)
     → ((h : SetupHeard) → F (model.Heard (setup_message users (in_the_making s L) s h)) ≡ F (model.Heard (setup_message users L s h)))
     → (e : ServerEvent) → F (heard_event users (in_the_making s L) s e) ≡ F (heard_event users L s e)
 said_by F users s L law (Accept connection) = refl
@@ -75,7 +75,7 @@ said_by F users s L law (Setup h) = law h
 said_by F users s L law (End connection) = refl
 said_by F users s L law Stop = refl
 
-pub said_same : (users : List User) (s : model.Server) (L : Logons) (now : ℕ)
+pub said_same : (users : Users) (s : model.Server) (L : Logons) (now : ℕ)
     → ((h : SetupHeard) → step s now (model.Heard (setup_message users (in_the_making s L) s h))
     ≡ step s now (model.Heard (setup_message users L s h)))
     → (e : ServerEvent) → step s now (heard_event users (in_the_making s L) s e) ≡ step s now (heard_event users L s e)
@@ -96,7 +96,7 @@ some_expires s now o h = by (nat_le max_expired_guids s.expired_count) refl h
 
 -- ---- the same event behind an expiry
 
-pub heard_still : (users : List User) (L : Logons) (s : model.Server) (o : ℕ) (e : ServerEvent) (a : Asked) → IsJournaledHeard users L s e a
+pub heard_still : (users : Users) (L : Logons) (s : model.Server) (o : ℕ) (e : ServerEvent) (a : Asked) → IsJournaledHeard users L s e a
     → IsJournaledHeard users L (expire s o) e a
 heard_still users L s o e a h =
     let M = in_the_making s L in

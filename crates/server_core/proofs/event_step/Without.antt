@@ -33,7 +33,7 @@ use Rattle.law_server.specs.tables.Fits.{Fits}
 use Rattle.server_plan.specs.logon_steps.Steps.{PreparedStep}
 use Rattle.server_recovery.proofs.standing_law.Behind.{held, held_still}
 use Rattle.server_checks.specs.session_table.Shown.{ShowsSessions}
-use Rattle.spec_crypto.specs.tokens.Acceptor.{User}
+use Rattle.spec_crypto.specs.tokens.Tokens.{Users}
 use Rattle.spec_world.specs.Ends.{Logons}
 
 -- what each step of an expiry keeps holds behind it
@@ -136,7 +136,7 @@ shown_without t u f s o h p q =
     }
 
 pub without : {D : Type 0} (told : Type 0) (seen : D → List ℕ) (may_leave : D → List ℕ → Type 0) (c : ServerState D) (u : Opens) (f : Tree)
-    (users : List User) (s : model.Server) (L : Logons) (records : List model.Record) (now : ℕ) (e : ServerEvent) (a : Asked) (o : ℕ)
+    (users : Users) (s : model.Server) (L : Logons) (records : List model.Record) (now : ℕ) (e : ServerEvent) (a : Asked) (o : ℕ)
     (x : Expired) → ExpiryAsks told seen may_leave c users s L records now e a → ShowsOpens u (expire s o) → ShowsFiles f (expire s o)
     → IsExpired u x s o
     → Without told seen may_leave (record c { tables = record c.tables { opens = u; tree = f } }) users s L records now e a o x (expire s o)
@@ -156,7 +156,7 @@ without told seen may_leave c u f users s L records now e a o x h p q out = reco
 
 -- behind the making of room, which leaves all but that as it was
 pub apart_still : {D : Type 0} (told : Type 0) (seen : D → List ℕ) (may_leave : D → List ℕ → Type 0) (old mid : ServerState D)
-    (users : List User) (s : model.Server) (L : Logons) (records : List model.Record) (now : ℕ) (e : ServerEvent) (a : Asked) (o : ℕ)
+    (users : Users) (s : model.Server) (L : Logons) (records : List model.Record) (now : ℕ) (e : ServerEvent) (a : Asked) (o : ℕ)
     (x : Expired) (y : model.Server) → TakenOut told seen may_leave old users s L records now e a o x y → OnlyRoom old.journal mid.journal
     → mid.stopped ≡ old.stopped → TablesKeep old.tables mid.tables → TakenOut told seen may_leave mid users s L records now e a o x y
 apart_still told seen may_leave old mid users s L records now e a o x y h room stops kept = record {
@@ -171,7 +171,7 @@ apart_still told seen may_leave old mid users s L records now e a o x y h room s
 
 -- the event is ready there, behind the expiry
 pub both_apart : {D : Type 0} (told : Type 0) (seen : D → List ℕ) (may_leave : D → List ℕ → Type 0) (c : ServerState D)
-    (users : List User) (s y : model.Server) (L : Logons) (records : List model.Record) (now : ℕ) (e : ServerEvent) (a : Asked) (o : ℕ)
+    (users : Users) (s y : model.Server) (L : Logons) (records : List model.Record) (now : ℕ) (e : ServerEvent) (a : Asked) (o : ℕ)
     (x : Expired) (both : Both) → TakenOut told seen may_leave c users s L records now e a o x y → Fits y
     → BothReady c y now (event_of a) (front_of s (event_of a) o) (Some both) → PreparedStep L a now both.prepared
     → ServerApart told seen may_leave c users s y L records now e a o x both

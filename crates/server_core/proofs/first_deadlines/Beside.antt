@@ -12,7 +12,7 @@ use Rattle.server_checks.specs.declared.session_table.row.SessionRow.{SessionRow
 use Rattle.spec_crypto.specs.declared.sessions.choice.Chosen.{Chosen}
 use Rattle.spec_crypto.specs.declared.sessions.material.Keys.{Keys}
 use Rattle.spec_crypto.specs.sessions.Derivation.{bound_keys, keys_of}
-use Rattle.spec_crypto.specs.tokens.Acceptor.{User}
+use Rattle.spec_crypto.specs.tokens.Tokens.{Users}
 use Rattle.spec_crypto.specs.tokens.Tokens as tokens
 use Rattle.spec_crypto.specs.tokens.Tokens.{Begun, Pending, begun_by, shown}
 use Rattle.spec_world.specs.Ends.{Logons}
@@ -59,12 +59,12 @@ Bare old new r = IsEffectBare r × ((keys : ℕ → Keys) (pending : ℕ → Opt
     → LogonsShown new.sessions keys pending)
 
 -- of a SESSION_SETUP that comes to nothing, and of any other event whatever it comes to
-bare_setup : (old new : Tables) (r : Answer) (users : List User) (L : Logons) (h : SetupHeard) (now : ℕ) (q : Progress) → q ≡ Stays
+bare_setup : (old new : Tables) (r : Answer) (users : Users) (L : Logons) (h : SetupHeard) (now : ℕ) (q : Progress) → q ≡ Stays
     → LogonsShown old.sessions L.keys L.pending → Bare old new r → BesideCarried new users L (events.Setup h) now q r
 bare_setup old new r users L h now q e l b =
     subst (λ (p : Progress). BesideCarried new users L (events.Setup h) now p r) (sym e) (b.1 L.keys L.pending l, b.0)
 
-bare : (old new : Tables) (r : Answer) (users : List User) (L : Logons) (e : ServerEvent) (now : ℕ) (q : Progress)
+bare : (old new : Tables) (r : Answer) (users : Users) (L : Logons) (e : ServerEvent) (now : ℕ) (q : Progress)
     → ((h : SetupHeard) → e ≡ events.Setup h → q ≡ Stays)
     → LogonsShown old.sessions L.keys L.pending → Bare old new r → BesideCarried new users L e now q r
 bare old new r users L (events.Accept connection) now q stays l b = (b.1 L.keys L.pending l, b.0)
@@ -76,27 +76,27 @@ bare old new r users L events.Stop now q stays l b = (b.1 L.keys L.pending l, b.
 -- ---- a step of a logon
 
 -- what is known of the SESSION_SETUP: its message, its token and its state, in which it can be carried out
-record Known (users : List User) (L : Logons) (s d : model.Server) (h : SetupHeard) (m : model.Message) (p : LogonPart) : Type 0 where
+record Known (users : Users) (L : Logons) (s d : model.Server) (h : SetupHeard) (m : model.Message) (p : LogonPart) : Type 0 where
   connection_is : m.connection ≡ h.connection
   session_is : m.session_id ≡ h.session_id
   part : PartOf users (in_the_making s L) h (Some p)
   eight : length p.fresh ≡ 8
   making_is : d.making ≡ s.making
 
-fresh_is : (users : List User) (L : Logons) (s d : model.Server) (h : SetupHeard) (m : model.Message) (p : LogonPart)
+fresh_is : (users : Users) (L : Logons) (s d : model.Server) (h : SetupHeard) (m : model.Message) (p : LogonPart)
     → Known users L s d h m p → length h.fresh ≡ 8
 fresh_is users L s d h m p k = subst (λ (f : List ℕ). length f ≡ 8) k.part.4 k.eight
 
 -- the challenge by what the request has
-challenged : (users : List User) (L : Logons) (s d : model.Server) (h : SetupHeard) (m : model.Message) (p : LogonPart) (now : ℕ)
+challenged : (users : Users) (L : Logons) (s d : model.Server) (h : SetupHeard) (m : model.Message) (p : LogonPart) (now : ℕ)
     (list : List ℕ) (acceptor : AcceptorState) (token : List ℕ) → Known users L s d h m p
-    → ChallengeOf (begun_in p.shown) p.fresh now list acceptor token → ChallengeOf (begun_by h.form.token.now) h.fresh
+    → ChallengeOf (begun_in p.shown) p.fresh now list acceptor token → ChallengeOf (begun_by users.bare h.form.token.now) h.fresh
     now list acceptor token
 challenged users L s d h m p now list acceptor token k c =
     subst (λ (b : Option Begun). ChallengeOf b h.fresh now list acceptor token) k.part.1
     (subst (λ (f : List ℕ). ChallengeOf (begun_in p.shown) f now list acceptor token) k.part.4 c)
 
-challenge : (old new : Tables) (r : Answer) (users : List User) (L : Logons) (s d : model.Server) (h : SetupHeard) (m : model.Message)
+challenge : (old new : Tables) (r : Answer) (users : Users) (L : Logons) (s d : model.Server) (h : SetupHeard) (m : model.Message)
     (p : LogonPart) (now : ℕ) (list : List ℕ) (acceptor : AcceptorState) (token : List ℕ) (binding : Bool) → Known users L s d h m p
     → LogonsShown old.sessions L.keys L.pending → ChallengeOf (begun_in p.shown) p.fresh now list acceptor token
     → KeepsChallenge old new r m list acceptor token → BesideCarried new users L (events.Setup h) now (Interim binding) r
@@ -104,16 +104,16 @@ unfolding pending_by answer_token_by
 challenge old new r users L s d h m p now list acceptor token binding k l c g =
     let n = fresh_is users L s d h m p k in
     let e = challenged users L s d h m p now list acceptor token k c in
-    let kept = challenge_kept (begun_by h.form.token.now) h.fresh now list acceptor token n e in (
-      subst (λ (x : ℕ). LogonsShown new.sessions L.keys (put L.pending x (pending_with (begun_by h.form.token.now) h.fresh now)))
+    let kept = challenge_kept (begun_by users.bare h.form.token.now) h.fresh now list acceptor token n e in (
+      subst (λ (x : ℕ). LogonsShown new.sessions L.keys (put L.pending x (pending_with (begun_by users.bare h.form.token.now) h.fresh now)))
           k.connection_is
           (subst (λ (w : Option Pending). LogonsShown new.sessions L.keys (put L.pending m.connection w)) kept
           (g.logons L.keys L.pending l)),
-      (g.token_is ∙ challenge_sent (begun_by h.form.token.now) h.fresh now list acceptor token n e, g.no_keys, g.no_channel),
+      (g.token_is ∙ challenge_sent (begun_by users.bare h.form.token.now) h.fresh now list acceptor token n e, g.no_keys, g.no_channel),
     )
 
 -- what its token shows, by all that is kept
-shown_there : (users : List User) (L : Logons) (s d : model.Server) (h : SetupHeard) (m : model.Message) (p : LogonPart)
+shown_there : (users : Users) (L : Logons) (s d : model.Server) (h : SetupHeard) (m : model.Message) (p : LogonPart)
     → Known users L s d h m p → is_some (d.making m.connection) ≡ true → shown_of p.shown
     ≡ shown users (L.pending h.connection) h.form.token.now
 shown_there users L s d h m p k e =
@@ -121,7 +121,7 @@ shown_there users L s d h m p k e =
     (subst (λ (x : ℕ). is_some (d.making x) ≡ true) k.connection_is e) in
     k.part.0 ∙ ap (λ (w : Option Pending). shown users w h.form.token.now) (made_there s L h.connection there)
 
-new_keys : (users : List User) (L : Logons) (s d : model.Server) (h : SetupHeard) (m : model.Message) (p : LogonPart) (session : ℕ)
+new_keys : (users : Users) (L : Logons) (s d : model.Server) (h : SetupHeard) (m : model.Message) (p : LogonPart) (session : ℕ)
     → Known users L s d h m p → is_some (d.making m.connection) ≡ true → session ≡ m.session_id
     → keys_of (exported_by (shown_of p.shown)) p.chain p.chosen.cipher p.chosen.signing session ≡ keys_behind users L h false
 unfolding exported
@@ -133,7 +133,7 @@ new_keys users L s d h m p session k e i =
     ∙ ap (λ (x : ℕ). keys_of (exported users (L.pending h.connection) h.form.token.now) h.chain h.chosen.cipher h.chosen.signing x)
     (i ∙ k.session_is)))
 
-joined_keys : (users : List User) (L : Logons) (s d : model.Server) (h : SetupHeard) (m : model.Message) (p : LogonPart) (session : ℕ)
+joined_keys : (users : Users) (L : Logons) (s d : model.Server) (h : SetupHeard) (m : model.Message) (p : LogonPart) (session : ℕ)
     → Known users L s d h m p → is_some (d.making m.connection) ≡ true → session ≡ m.session_id
     → bound_keys (exported_by (shown_of p.shown)) p.chain (L.keys session) ≡ keys_behind users L h true
 unfolding exported
@@ -143,7 +143,7 @@ joined_keys users L s d h m p session k e i =
     ∙ ap (λ (x : ℕ). bound_keys (exported users (L.pending h.connection) h.form.token.now) h.chain (L.keys x)) (i ∙ k.session_is))
 
 -- the end of a logon: its token
-ended : (users : List User) (L : Logons) (s d : model.Server) (h : SetupHeard) (m : model.Message) (p : LogonPart) (token : List ℕ)
+ended : (users : Users) (L : Logons) (s d : model.Server) (h : SetupHeard) (m : model.Message) (p : LogonPart) (token : List ℕ)
     (now number : ℕ) (binding encrypts : Bool) → Known users L s d h m p → is_some (d.making m.connection) ≡ true
     → (k : ℕ) → k ≡ h.connection
     → EndOf (L.pending k) (shown_of p.shown) token
@@ -153,7 +153,7 @@ ended users L s d h m p token now number binding encrypts known e k i w =
     end_sent users (L.pending h.connection) h.form.token.now (shown_of p.shown) token (shown_there users L s d h m p known e)
     (subst (λ (x : ℕ). EndOf (L.pending x) (shown_of p.shown) token) i w)
 
-begun : (old new : Tables) (r : Answer) (users : List User) (L : Logons) (s d : model.Server) (h : SetupHeard) (m : model.Message)
+begun : (old new : Tables) (r : Answer) (users : Users) (L : Logons) (s d : model.Server) (h : SetupHeard) (m : model.Message)
     (p : LogonPart) (now session : ℕ) (row : SessionRow) (token : List ℕ) (encrypts : Bool) → Known users L s d h m p
     → LogonsShown old.sessions L.keys L.pending → is_some (d.making m.connection) ≡ true → session ≡ m.session_id
     → (k : ℕ) → k ≡ h.connection
@@ -170,7 +170,7 @@ begun old new r users L s d h m p now session row token encrypts known l e i k c
       (t_is ∙ ended users L s d h m p token now 1 false encrypts known e k c w, k_is ∙ ap (λ (y : Keys). Some y) same, c_is),
     )
 
-joined : (old new : Tables) (r : Answer) (users : List User) (L : Logons) (s d : model.Server) (h : SetupHeard) (m : model.Message)
+joined : (old new : Tables) (r : Answer) (users : Users) (L : Logons) (s d : model.Server) (h : SetupHeard) (m : model.Message)
     (p : LogonPart) (now session number : ℕ) (made : Keys) (token : List ℕ) (encrypts : Bool) → Known users L s d h m p
     → LogonsShown old.sessions L.keys L.pending → is_some (d.making m.connection) ≡ true → session ≡ m.session_id
     → (k : ℕ) → k ≡ h.connection
@@ -186,7 +186,7 @@ joined old new r users L s d h m p now session number made token encrypts known 
     )
 
 -- what is known of the event before its answer, and of the answer
-record Acted (old new : Tables) (r : Answer) (users : List User) (L : Logons) (d : model.Server) (e : ServerEvent) (now : ℕ)
+record Acted (old new : Tables) (r : Answer) (users : Users) (L : Logons) (d : model.Server) (e : ServerEvent) (now : ℕ)
     (q : Progress) (m : model.Message) (ready : Ready) : Type 0 where
   logons : LogonsShown old.sessions L.keys L.pending
   beside : Beside old new r m ready
@@ -194,7 +194,7 @@ record Acted (old new : Tables) (r : Answer) (users : List User) (L : Logons) (d
   ends : EndsMaking d m (readied m.command ready)
   able : Able d m (readied m.command ready)
 
-by_step : (old new : Tables) (r : Answer) (users : List User) (L : Logons) (s d : model.Server) (h : SetupHeard) (m : model.Message)
+by_step : (old new : Tables) (r : Answer) (users : Users) (L : Logons) (s d : model.Server) (h : SetupHeard) (m : model.Message)
     (p : LogonPart) (now : ℕ) (q : Progress) (step : SetupReady) → Known users L s d h m p
     → Acted old new r users L d (events.Setup h) now q m (readies.Setup step) → TablesShown old d
     → StepFor L.keys L.pending m.connection p now step → BesideCarried new users L (events.Setup h) now q r
@@ -217,7 +217,7 @@ abbrev session_in : model.ServerEvent → ℕ
 session_in (model.Heard m) = m.session_id
 session_in _ = 0
 
-by_setup : (old new : Tables) (r : Answer) (users : List User) (L : Logons) (s d : model.Server) (h : SetupHeard) (m : model.Message)
+by_setup : (old new : Tables) (r : Answer) (users : Users) (L : Logons) (s d : model.Server) (h : SetupHeard) (m : model.Message)
     (logon : Option LogonPart) (now : ℕ) (q : Progress) (step : SetupReady) → d.making ≡ s.making
     → model.Heard m ≡ heard_event users (in_the_making s L) s (events.Setup h) → PartOf users (in_the_making s L) h logon
     → ((p : LogonPart) → logon ≡ Some p → length p.fresh ≡ 8)
@@ -233,7 +233,7 @@ by_setup old new r users L s d h m (Some p) now q step making said part eight a 
       making_is = making;
     }) a t w
 
-by_event : (old new : Tables) (r : Answer) (users : List User) (L : Logons) (s d : model.Server) (e : ServerEvent) (m : model.Message)
+by_event : (old new : Tables) (r : Answer) (users : Users) (L : Logons) (s d : model.Server) (e : ServerEvent) (m : model.Message)
     (logon : Option LogonPart) (now : ℕ) (q : Progress) (step : SetupReady) → d.making ≡ s.making
     → model.Heard m ≡ heard_event users (in_the_making s L) s e → HeardLogonIs users (in_the_making s L) e logon
     → ((p : LogonPart) → logon ≡ Some p → length p.fresh ≡ 8)
@@ -247,7 +247,7 @@ by_event old new r users L s d (events.Setup h) m logon now q step making said p
 by_event old new r users L s d (events.End connection) m logon now q step making said part eight a t w = absurd (cc)
 by_event old new r users L s d events.Stop m logon now q step making said part eight a t w = absurd (cc)
 
-by_ready : (old new : Tables) (r : Answer) (users : List User) (L : Logons) (s d : model.Server) (e : ServerEvent) (m : model.Message)
+by_ready : (old new : Tables) (r : Answer) (users : Users) (L : Logons) (s d : model.Server) (e : ServerEvent) (m : model.Message)
     (logon : Option LogonPart) (now : ℕ) (q : Progress) (ready : Ready) → d.making ≡ s.making
     → model.Heard m ≡ heard_event users (in_the_making s L) s e → HeardLogonIs users (in_the_making s L) e logon
     → ((p : LogonPart) → logon ≡ Some p → length p.fresh ≡ 8)
@@ -285,13 +285,13 @@ by_ready old new r users L s d e m logon now q (readies.EndSession session quiet
     bare old new r users L e now q (λ h k. a.told) a.logons a.beside
 by_ready old new r users L s d e m logon now q (readies.AddTree pipes) making said part eight a i w =
     bare old new r users L e now q (λ h k. a.told) a.logons a.beside
-by_ready old new r users L s d e m logon now q readies.DropTree making said part eight a i w =
+by_ready old new r users L s d e m logon now q (readies.DropTree opens) making said part eight a i w =
     bare old new r users L e now q (λ h k. a.told) a.logons a.beside
 
 -- ---- any event
 
 -- what is no message is no SESSION_SETUP
-unsaid : (users : List User) (L : Logons) (s : model.Server) (e : ServerEvent) (x : model.ServerEvent)
+unsaid : (users : Users) (L : Logons) (s : model.Server) (e : ServerEvent) (x : model.ServerEvent)
     → x ≡ heard_event users (in_the_making s L) s e → ((m : model.Message) → x ≡ model.Heard m → ⊥)
     → (h : SetupHeard) → e ≡ events.Setup h → ⊥
 unsaid users L s e x said none h is = none (setup_message users (in_the_making s L) s h)
@@ -301,7 +301,7 @@ abbrev pub EndsOn : model.Server → rules.Ruling → Type 0
 EndsOn d (rules.Says m v) = EndsMaking d m v
 EndsOn d _ = ⊤
 
-pub record Facts (old new : Tables) (r : Answer) (users : List User) (L : Logons) (s d : model.Server) (e : ServerEvent) (a : Asked)
+pub record Facts (old new : Tables) (r : Answer) (users : Users) (L : Logons) (s d : model.Server) (e : ServerEvent) (a : Asked)
     (now : ℕ) (p : Prepared) (q : Progress) : Type 0 where
   pub making : d.making ≡ s.making
   pub heard : IsJournaledHeard users L s e a
@@ -314,7 +314,7 @@ pub record Facts (old new : Tables) (r : Answer) (users : List User) (L : Logons
   pub shown : IsPrepared old d now (event_of a) p
   pub step : PreparedStep L a now p
 
-pub beside_carried : (old new : Tables) (r : Answer) (users : List User) (L : Logons) (s d : model.Server) (e : ServerEvent) (a : Asked)
+pub beside_carried : (old new : Tables) (r : Answer) (users : Users) (L : Logons) (s d : model.Server) (e : ServerEvent) (a : Asked)
     (now : ℕ) (p : Prepared) (q : Progress) → Facts old new r users L s d e a now p q → BesideCarried new users L e now q r
 beside_carried old new r users L s d e (askings.Says message logon) now (prepared.Says ready) q f =
     by_ready old new r users L s d e (message_of message) logon now q ready f.making f.heard.said f.heard.logon f.eight

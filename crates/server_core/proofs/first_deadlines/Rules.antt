@@ -1,5 +1,5 @@
 -- What a ruling says of a logon is so where it is the state's own with first deadlines, or stands in its place without room.
-use Rattle.std.proofs.Common.{◌≡◌, inl, inr, ℕ, List, Bool, true, false, if◌then◌else◌, length, nat_le, Option, Some}
+use Rattle.std.proofs.Common.{◌≡◌, inl, inr, ℕ, Bool, true, false, if◌then◌else◌, length, nat_le, Option, Some}
 use Rattle.std.proofs.Common.{None, refl, sym, ap, subst, ◌∙◌}
 use Rattle.spec_exchange.specs.CheckCreate.{refused_by}
 use Rattle.spec_exchange.specs.Commands.{Durable}
@@ -18,7 +18,7 @@ use Rattle.server_checks.specs.declared.event_heard.event.ServerEvent.TheVariant
 use Rattle.server_checks.specs.setups.Setups.{in_the_making, progress_of}
 use Rattle.server_recovery.specs.journaled_tables.Rulings.{MayRule}
 use Rattle.server_core.proofs.first_deadlines.Beside.{EndsOn}
-use Rattle.spec_crypto.specs.tokens.Acceptor.{User}
+use Rattle.spec_crypto.specs.tokens.Tokens.{Users}
 use Rattle.spec_world.specs.Ends.{Logons}
 
 -- ---- what a refusal of a create says
@@ -108,7 +108,7 @@ ends_by law d e r (inl h) = subst (λ (x : Ruling). EndsOn d x) (sym h) (ends_ru
 ends_by law d e r (inr h) = subst (λ (x : Ruling). EndsOn d x) (sym h) (ends_lesser law d e)
 
 -- what the server looks at of logons in the making changes nothing of what comes of the event
-same_progress : (users : List User) (L : Logons) (s : model.Server) (e : ServerEvent) (r : model.Reply)
+same_progress : (users : Users) (L : Logons) (s : model.Server) (e : ServerEvent) (r : model.Reply)
     → progress_of (heard_event users L s e) r ≡ progress_of (heard_event users (in_the_making s L) s e) r
 same_progress users L s (events.Accept connection) r = refl
 same_progress users L s (events.Message message) r = refl
@@ -116,7 +116,7 @@ same_progress users L s (events.Setup h) r = refl
 same_progress users L s (events.End connection) r = refl
 same_progress users L s events.Stop r = refl
 
-pub told_of : Tells → (users : List User) (L : Logons) (s d : model.Server) (e : ServerEvent) (x : model.ServerEvent) (now : ℕ) (r : Ruling)
+pub told_of : Tells → (users : Users) (L : Logons) (s d : model.Server) (e : ServerEvent) (x : model.ServerEvent) (now : ℕ) (r : Ruling)
     → x ≡ heard_event users (in_the_making s L) s e → MayRule d x r
     → progress_of (heard_event users L s e) (carried_out d now r).reply ≡ ruled_progress d r
 told_of law users L s d e x now r said may =

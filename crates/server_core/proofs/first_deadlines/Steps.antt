@@ -6,7 +6,7 @@ use Rattle.crypto_sessions.specs.ntlmv2.Judging.{AcceptorState}
 use Rattle.server_checks.specs.setups.Setups.{in_the_making}
 use Rattle.server_plan.specs.reserving.Logons.{ChallengeOf, EndOf}
 use Rattle.server_checks.specs.session_table.Logons.{pending_made}
-use Rattle.spec_crypto.specs.tokens.Acceptor.{User}
+use Rattle.spec_crypto.specs.tokens.Tokens.{Users}
 use Rattle.spec_crypto.specs.tokens.Tokens as tokens
 use Rattle.spec_crypto.specs.tokens.Tokens.{Begun, Pending, challenge_token, second_of, shown}
 use Rattle.spec_world.specs.Ends.{Logons}
@@ -30,10 +30,10 @@ pub challenge_sent : (b : Option Begun) (fresh : List ℕ) (now : ℕ) (list : L
     → length fresh ≡ 8 → ChallengeOf b fresh now list acceptor token → token ≡ challenge_of (pending_with b fresh now)
 challenge_sent None fresh now list acceptor token n h = absurd h
 challenge_sent (Some b) fresh now list acceptor token n h = h.1
-    ∙ sym (ap (λ (server : List ℕ). challenge_token (second_of b server now)) (whole fresh n))
+    ∙ sym (ap (λ (server : List ℕ). challenge_token b.list (second_of b server now)) (whole fresh n))
 
 -- the token that ends what is in the making
-pub end_sent : (users : List User) (p : Option Pending) (token : List ℕ) (sh : tokens.Shown) (sent : List ℕ) → sh ≡ shown users p token
+pub end_sent : (users : Users) (p : Option Pending) (token : List ℕ) (sh : tokens.Shown) (sent : List ℕ) → sh ≡ shown users p token
     → EndOf p sh sent → sent ≡ final_of users p token
 end_sent users None token sh sent e h = absurd h
 end_sent users (Some p) token sh sent e h = h ∙ ap (final_by p.list) e

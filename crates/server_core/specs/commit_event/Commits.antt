@@ -11,7 +11,7 @@ use Rattle.server_recovery.specs.journaled_tables.Counted.{counting}
 use Rattle.server_recovery.specs.journaled_tables.Beside.{BesideCarried, logons_behind}
 use Rattle.server_recovery.specs.declared.journaled_tables.state.ServerState.{ServerState}
 use Rattle.server_checks.specs.session_table.Logons.{LogonsShown}
-use Rattle.spec_crypto.specs.tokens.Acceptor.{User}
+use Rattle.spec_crypto.specs.tokens.Tokens.{Users}
 use Rattle.spec_world.specs.Ends.{Logons}
 use Rattle.spec_world.specs.Logon.{Progress}
 
@@ -22,7 +22,7 @@ Commits s A body (Ok r) new = (reply_of r.reply ≡ A.reply) × (r.acted ≡ A.a
 Commits s A body (Err e) new = TablesShown new.tables (counting A.server s.journal)
 
 -- the logons behind it, and what the answer has beside its reply
-abbrev pub BesideCommitted : {D : Type 0} → ServerState D → List User → Logons → ServerEvent → ℕ → Progress
+abbrev pub BesideCommitted : {D : Type 0} → ServerState D → Users → Logons → ServerEvent → ℕ → Progress
     → Result Answer EventError → Type 0
 BesideCommitted new users L e now p (Ok r) = BesideCarried new.tables users L e now p r
 BesideCommitted new users L e now p (Err x) =

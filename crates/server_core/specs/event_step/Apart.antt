@@ -15,12 +15,12 @@ use Rattle.server_recovery.specs.declared.journaled_tables.state.ServerState.{Se
 use Rattle.law_server.specs.tables.Fits.{Fits}
 use Rattle.server_plan.specs.logon_steps.Steps.{PreparedStep}
 use Rattle.server_checks.specs.session_table.Logons.{LogonsShown}
-use Rattle.spec_crypto.specs.tokens.Acceptor.{User}
+use Rattle.spec_crypto.specs.tokens.Tokens.{Users}
 use Rattle.spec_world.specs.Ends.{Logons}
 
 -- y is the state s without the open o
 pub record ServerApart {D : Type 0} (told : Type 0) (seen : D → List ℕ) (may_leave : D → List ℕ → Type 0) (c : ServerState D)
-    (users : List User) (s y : model.Server) (L : Logons) (records : List model.Record) (now : ℕ) (e : ServerEvent) (a : Asked) (o : ℕ)
+    (users : Users) (s y : model.Server) (L : Logons) (records : List model.Record) (now : ℕ) (e : ServerEvent) (a : Asked) (o : ℕ)
     (x : Expired) (both : Both) : Type 0 where
   pub held : JournaledHeld told seen may_leave c s records
   pub logons : LogonsShown c.tables.sessions L.keys L.pending

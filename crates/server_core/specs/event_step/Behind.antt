@@ -21,12 +21,12 @@ use Rattle.server_recovery.specs.journaled_tables.Heard.{IsJournaledHeard}
 use Rattle.server_recovery.specs.journaled_tables.Holds.{EventRefused, JournaledHeld, JournaledHolds, StepAnswers}
 use Rattle.server_recovery.specs.declared.journaled_tables.state.ServerState.{ServerState}
 use Rattle.server_checks.specs.session_table.Logons.{LogonsShown}
-use Rattle.spec_crypto.specs.tokens.Acceptor.{User}
+use Rattle.spec_crypto.specs.tokens.Tokens.{Users}
 use Rattle.spec_world.specs.Ends.{Logons}
 
 -- the server, which goes on, hears an event in this state
 pub record ExpiryAsks {D : Type 0} (told : Type 0) (seen : D → List ℕ) (may_leave : D → List ℕ → Type 0) (c : ServerState D)
-    (users : List User) (s : model.Server) (L : Logons) (records : List model.Record) (now : ℕ) (e : ServerEvent) (a : Asked) : Type 0 where
+    (users : Users) (s : model.Server) (L : Logons) (records : List model.Record) (now : ℕ) (e : ServerEvent) (a : Asked) : Type 0 where
   pub holds : JournaledHolds told seen may_leave c s L records
   pub goes_on : c.stopped ≡ None
   pub users_are : users ≡ c.tables.config.users
@@ -49,7 +49,7 @@ pub record HasFront (s : model.Server) (a : Asked) (o : ℕ) (front : List ℕ) 
 
 -- the open was taken out: the server goes on with the state y without it, but for what the tables show
 pub record TakenOut {D : Type 0} (told : Type 0) (seen : D → List ℕ) (may_leave : D → List ℕ → Type 0) (c : ServerState D)
-    (users : List User) (s : model.Server) (L : Logons) (records : List model.Record) (now : ℕ) (e : ServerEvent) (a : Asked) (o : ℕ)
+    (users : Users) (s : model.Server) (L : Logons) (records : List model.Record) (now : ℕ) (e : ServerEvent) (a : Asked) (o : ℕ)
     (x : Expired) (y : model.Server) : Type 0 where
   pub logons : LogonsShown c.tables.sessions L.keys L.pending
   pub held : JournaledHeld told seen may_leave c s records
@@ -61,7 +61,7 @@ pub record TakenOut {D : Type 0} (told : Type 0) (seen : D → List ℕ) (may_le
 
 -- and they show that state
 pub record Without {D : Type 0} (told : Type 0) (seen : D → List ℕ) (may_leave : D → List ℕ → Type 0) (c : ServerState D)
-    (users : List User) (s : model.Server) (L : Logons) (records : List model.Record) (now : ℕ) (e : ServerEvent) (a : Asked) (o : ℕ)
+    (users : Users) (s : model.Server) (L : Logons) (records : List model.Record) (now : ℕ) (e : ServerEvent) (a : Asked) (o : ℕ)
     (x : Expired) (y : model.Server) : Type 0 where
   pub apart : TakenOut told seen may_leave c users s L records now e a o x y
   pub tables : TablesShown c.tables y
@@ -79,7 +79,7 @@ BehindAnswers told seen may_leave c s L records now event e a NoneExpires = Jour
     × (step s now e ≡ written_down (event_answer (with_deadlines s now) now (event_of a)))
 
 abbrev pub BehindEnds : {D : Type 0} → Type 0 → (D → List ℕ) → (D → List ℕ → Type 0) → (D → ℕ) → ServerState D → ServerState D
-    → List User → model.Server → Logons → List model.Record → ℕ → ServerEvent → Asked → Result Behind EventError → Type 0
+    → Users → model.Server → Logons → List model.Record → ℕ → ServerEvent → Asked → Result Behind EventError → Type 0
 BehindEnds told seen may_leave faults old new users s L records now e a result =
     let ev = heard_event users L s e in MatchResult result
     (λ b. BehindAnswers told seen may_leave new s L records now e ev a b)

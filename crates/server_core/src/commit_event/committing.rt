@@ -20,7 +20,7 @@ ghost use Rattle.server_plan.specs.rulings.Rulings.{AbleToRule};
 ghost use Rattle.server_plan.specs.logon_steps.Steps.{PreparedStep};
 ghost use Rattle.server_records.specs.body_writing.Bodies.{LeavesOf};
 ghost use Rattle.server_checks.specs.session_table.Logons.{LogonsShown};
-ghost use Rattle.spec_crypto.specs.tokens.Acceptor.{User};
+ghost use Rattle.spec_crypto.specs.tokens.Tokens.{Users};
 ghost use Rattle.spec_world.specs.Ends.{Logons};
 
 use crate::first_deadlines::{Prepared, ServerState, carry_dated};
@@ -45,7 +45,7 @@ pub fn commit<D: Disk>(
     ensures shown { (s : model.Server) → Fits s → IsPrepared server.old.tables s now (event_of asked.now) prepared
         → AbleToRule s (prepared_ruling (event_of asked.now) prepared)
         → Commits s (carried_out (with_deadlines s now) now (prepared_ruling (event_of asked.now) prepared)) body.now result server.new }
-    ensures beside { (users : List User) (s : model.Server) (L : Logons) (e : ServerEvent) → Fits s
+    ensures beside { (users : Users) (s : model.Server) (L : Logons) (e : ServerEvent) → Fits s
         → IsPrepared server.old.tables s now (event_of asked.now) prepared
         → MayRule s (event_of asked.now) (prepared_ruling (event_of asked.now) prepared)
         → AbleToRule s (prepared_ruling (event_of asked.now) prepared)

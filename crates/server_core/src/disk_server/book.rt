@@ -57,7 +57,7 @@ impl<D: Disk> Book<D> {
     ghost use Rattle.server_core.specs.disk_server.Asked.{HasShape, BookLogonIs};
     ghost use Rattle.server_core.specs.disk_server.Shown.{ShowsBook};
     ghost use Rattle.server_core.specs.Shown.{stopped_of};
-    ghost use Rattle.spec_crypto.specs.tokens.Acceptor.{User};
+    ghost use Rattle.spec_crypto.specs.tokens.Tokens.{Users};
     ghost use Rattle.spec_world.specs.Ends.{Logons};
 
     // The event, and its reply in the room that was found for it.
@@ -71,11 +71,11 @@ impl<D: Disk> Book<D> {
     ) -> Result<Reply, ServeError>
         requires { stopped_of self.old.server ≡ None }
         ensures short { IfOk result (λ r. IsServerShort r) }
-        ensures serves { (users : List User) (s : model.Server) (L : Logons) (records : List model.Record)
+        ensures serves { (users : Users) (s : model.Server) (L : Logons) (records : List model.Record)
             → ShowsBook D.told D.seen D.may_leave self.old users s L records → IsServerServed event.entry
             → HasShape event.entry command.now → BookLogonIs s L event.entry logon.now
             → ServerServes (ShowsBook D.told D.seen D.may_leave self.new users) users s L records now event.entry result }
-        ensures halts { (users : List User) (s : model.Server) (L : Logons) (records : List model.Record)
+        ensures halts { (users : Users) (s : model.Server) (L : Logons) (records : List model.Record)
             → ShowsBook D.told D.seen D.may_leave self.old users s L records
             → Halts (stopped_of self.old.server) (stopped_of self.new.server) result }
         ensures stops { (count : ℕ) → result ≡ Err (errors.Stopped count) → stopped_of self.new.server ≡ Some count }
@@ -98,11 +98,11 @@ impl<D: Disk> Book<D> {
     ) -> Result<Reply, ServeError>
         requires { stopped_of self.old.server ≡ None }
         ensures short { IfOk result (λ r. IsServerShort r) }
-        ensures serves { (users : List User) (s : model.Server) (L : Logons) (records : List model.Record)
+        ensures serves { (users : Users) (s : model.Server) (L : Logons) (records : List model.Record)
             → ShowsBook D.told D.seen D.may_leave self.old users s L records → IsServerServed event.entry
             → BookLogonIs s L event.entry logon.now
             → ServerServes (ShowsBook D.told D.seen D.may_leave self.new users) users s L records now event.entry result }
-        ensures halts { (users : List User) (s : model.Server) (L : Logons) (records : List model.Record)
+        ensures halts { (users : Users) (s : model.Server) (L : Logons) (records : List model.Record)
             → ShowsBook D.told D.seen D.may_leave self.old users s L records
             → Halts (stopped_of self.old.server) (stopped_of self.new.server) result }
         ensures stops { (count : ℕ) → result ≡ Err (errors.Stopped count) → stopped_of self.new.server ≡ Some count }
@@ -117,10 +117,10 @@ impl<D: Disk> Book<D> {
     fn go_on(&mut self, now: u64, event: ServerEvent<'_>) -> Result<Reply, ServeError>
         requires { stopped_of self.old.server ≡ None }
         ensures short { IfOk result (λ r. IsServerShort r) }
-        ensures serves { (users : List User) (s : model.Server) (L : Logons) (records : List model.Record)
+        ensures serves { (users : Users) (s : model.Server) (L : Logons) (records : List model.Record)
             → ShowsBook D.told D.seen D.may_leave self.old users s L records → IsServerServed event.entry
             → ServerServes (ShowsBook D.told D.seen D.may_leave self.new users) users s L records now event.entry result }
-        ensures halts { (users : List User) (s : model.Server) (L : Logons) (records : List model.Record)
+        ensures halts { (users : Users) (s : model.Server) (L : Logons) (records : List model.Record)
             → ShowsBook D.told D.seen D.may_leave self.old users s L records
             → Halts (stopped_of self.old.server) (stopped_of self.new.server) result }
         ensures stops { (count : ℕ) → result ≡ Err (errors.Stopped count) → stopped_of self.new.server ≡ Some count }

@@ -14,7 +14,7 @@ ghost use Rattle.law_server.specs.tables.Fits.{Fits};
 ghost use Rattle.server_plan.specs.Plans.{PlanFor};
 ghost use Rattle.server_plan.specs.preparing.Preparing.{wants_memory_by};
 ghost use Rattle.server_plan.specs.rulings.Rulings.{ruling_of};
-ghost use Rattle.spec_crypto.specs.tokens.Acceptor.{User};
+ghost use Rattle.spec_crypto.specs.tokens.Tokens.{Users};
 ghost use Rattle.spec_world.specs.Ends.{Logons};
 
 use crate::behind_expiry::{Plan, ServerState, plan_event, plan_law};
@@ -33,12 +33,12 @@ pub(crate) fn event_alone<D: Disk>(
     asked: &Asked<'_>,
     now: u64,
 ) -> Result<Answer, EventError>
-    ensures step { (users : List User) (s : model.Server) (L : Logons) (records : List model.Record) (e : ServerEvent)
+    ensures step { (users : Users) (s : model.Server) (L : Logons) (records : List model.Record) (e : ServerEvent)
         → ExpiryAsks D.told D.seen D.may_leave server.old users s L records now e asked.now
         → step s now (heard_event users L s e) ≡ written_down (event_answer (with_deadlines s now) now (event_of asked.now))
         → EventAnswers D.told D.seen D.may_leave D.faults server.old server.new users s L records now e result }
     ensures any_moment { D.told
-        → (users : List User) (s : model.Server) (L : Logons) (records : List model.Record) (bodies : List (List ℕ)) (e : ServerEvent)
+        → (users : Users) (s : model.Server) (L : Logons) (records : List model.Record) (bodies : List (List ℕ)) (e : ServerEvent)
         → ExpiryAsks D.told D.seen D.may_leave server.old users s L records now e asked.now
         → step s now (heard_event users L s e) ≡ written_down (event_answer (with_deadlines s now) now (event_of asked.now))
         → JournaledGoesOn D.seen D.may_leave server.old s records bodies
@@ -62,12 +62,12 @@ fn carry_plan<D: Disk>(
     now: u64,
 ) -> Result<Answer, EventError>
     requires { fits_by server.old.tables.journal (length plan.body) ≡ true }
-    ensures step { (users : List User) (s : model.Server) (L : Logons) (records : List model.Record) (e : ServerEvent)
+    ensures step { (users : Users) (s : model.Server) (L : Logons) (records : List model.Record) (e : ServerEvent)
         → ExpiryAsks D.told D.seen D.may_leave server.old users s L records now e asked.now → PlanFor plan s now (event_of asked.now)
         → step s now (heard_event users L s e) ≡ written_down (event_answer (with_deadlines s now) now (event_of asked.now))
         → EventAnswers D.told D.seen D.may_leave D.faults server.old server.new users s L records now e result }
     ensures any_moment { D.told
-        → (users : List User) (s : model.Server) (L : Logons) (records : List model.Record) (bodies : List (List ℕ)) (e : ServerEvent)
+        → (users : Users) (s : model.Server) (L : Logons) (records : List model.Record) (bodies : List (List ℕ)) (e : ServerEvent)
         → ExpiryAsks D.told D.seen D.may_leave server.old users s L records now e asked.now → PlanFor plan s now (event_of asked.now)
         → step s now (heard_event users L s e) ≡ written_down (event_answer (with_deadlines s now) now (event_of asked.now))
         → JournaledGoesOn D.seen D.may_leave server.old s records bodies

@@ -12,7 +12,7 @@ ghost use Rattle.server_recovery.specs.journaled_tables.Holds.{EventLeavesBodies
 ghost use Rattle.server_recovery.specs.journaled_tables.Rooms.{HasRoomToWrite};
 ghost use Rattle.server_effects.specs.prepared_event.Prepared.{RoomToCarry};
 ghost use Rattle.server_records.specs.body_writing.Bodies.{IsLack};
-ghost use Rattle.spec_crypto.specs.tokens.Acceptor.{User};
+ghost use Rattle.spec_crypto.specs.tokens.Tokens.{Users};
 ghost use Rattle.spec_world.specs.Ends.{Logons};
 
 use crate::behind_expiry::{Both, ServerState};
@@ -36,11 +36,11 @@ pub(crate) fn carry_behind<D: Disk>(
     both: Both,
 ) -> Result<Behind, EventError>
     requires { RoomToCarry server.old.tables asked.now both.prepared × HasRoomToWrite server.old both.body }
-    ensures step { (users : List User) (s y : model.Server) (L : Logons) (records : List model.Record) (e : ServerEvent) (o : ℕ)
+    ensures step { (users : Users) (s y : model.Server) (L : Logons) (records : List model.Record) (e : ServerEvent) (o : ℕ)
         → ServerApart D.told D.seen D.may_leave server.old users s y L records now e asked.now o expired both → MayExpire s now o
         → BehindEnds D.told D.seen D.may_leave D.faults server.old server.new users s L records now e asked.now result }
     ensures any_moment { D.told
-        → (users : List User) (s y : model.Server) (L : Logons) (records : List model.Record) (bodies : List (List ℕ)) (e : ServerEvent)
+        → (users : Users) (s y : model.Server) (L : Logons) (records : List model.Record) (bodies : List (List ℕ)) (e : ServerEvent)
         (o : ℕ) → ServerApart D.told D.seen D.may_leave server.old users s y L records now e asked.now o expired both → MayExpire s now o
         → JournaledGoesOn D.seen D.may_leave server.old s records bodies
         → LeavesOnly D.moment D.left_since server.old.journal.disk server.new.journal.disk
@@ -63,14 +63,14 @@ pub(crate) fn none_behind<D: Disk>(
     front: &Bytes,
 ) -> Result<Behind, EventError>
     requires { HasOpensRoom server.old.tables.opens × HasRoomToWrite server.old front.now }
-    ensures step { (users : List User) (s : model.Server) (L : Logons) (records : List model.Record) (e : ServerEvent) (o : ℕ)
+    ensures step { (users : Users) (s : model.Server) (L : Logons) (records : List model.Record) (e : ServerEvent) (o : ℕ)
         (y : model.Server)
         → Without D.told D.seen D.may_leave server.old users s L records now e asked.now o expired y → MayExpire s now o
         → HasFront s asked.now o front.now
         → fits y (both_from s y now (event_of asked.now) o) ≡ false
         → BehindEnds D.told D.seen D.may_leave D.faults server.old server.new users s L records now e asked.now result }
     ensures any_moment { D.told
-        → (users : List User) (s : model.Server) (L : Logons) (records : List model.Record) (bodies : List (List ℕ)) (e : ServerEvent)
+        → (users : Users) (s : model.Server) (L : Logons) (records : List model.Record) (bodies : List (List ℕ)) (e : ServerEvent)
         (o : ℕ) (y : model.Server)
         → Without D.told D.seen D.may_leave server.old users s L records now e asked.now o expired y → MayExpire s now o
         → HasFront s asked.now o front.now → JournaledGoesOn D.seen D.may_leave server.old s records bodies
@@ -101,14 +101,14 @@ pub(crate) fn lack_behind<D: Disk>(
     lack: EventError,
 ) -> Result<Behind, EventError>
     requires { HasOpensRoom server.old.tables.opens × HasRoomToWrite server.old front.now }
-    ensures step { (users : List User) (s : model.Server) (L : Logons) (records : List model.Record) (e : ServerEvent) (o : ℕ)
+    ensures step { (users : Users) (s : model.Server) (L : Logons) (records : List model.Record) (e : ServerEvent) (o : ℕ)
         (y : model.Server)
         → Without D.told D.seen D.may_leave server.old users s L records now e asked.now o expired y → MayExpire s now o
         → HasFront s asked.now o front.now
         → IsLack server.old.journal lack
         → BehindEnds D.told D.seen D.may_leave D.faults server.old server.new users s L records now e asked.now result }
     ensures any_moment { D.told
-        → (users : List User) (s : model.Server) (L : Logons) (records : List model.Record) (bodies : List (List ℕ)) (e : ServerEvent)
+        → (users : Users) (s : model.Server) (L : Logons) (records : List model.Record) (bodies : List (List ℕ)) (e : ServerEvent)
         (o : ℕ) (y : model.Server)
         → Without D.told D.seen D.may_leave server.old users s L records now e asked.now o expired y → MayExpire s now o
         → HasFront s asked.now o front.now → JournaledGoesOn D.seen D.may_leave server.old s records bodies

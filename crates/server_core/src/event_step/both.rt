@@ -9,7 +9,7 @@ ghost use Rattle.server_core.specs.event_step.Behind.{MayExpire};
 ghost use Rattle.server_recovery.specs.journaled_tables.Holds.{EventAnswers, EventLeavesBodies, JournaledGoesOn};
 ghost use Rattle.server_recovery.specs.journaled_tables.Rooms.{HasRoomToWrite};
 ghost use Rattle.server_effects.specs.prepared_event.Prepared.{RoomToCarry};
-ghost use Rattle.spec_crypto.specs.tokens.Acceptor.{User};
+ghost use Rattle.spec_crypto.specs.tokens.Tokens.{Users};
 ghost use Rattle.spec_world.specs.Ends.{Logons};
 
 use crate::behind_expiry::{Both, ServerState, ruling_law};
@@ -30,11 +30,11 @@ pub(crate) fn carry_both<D: Disk>(
     both: Both,
 ) -> Result<Answer, EventError>
     requires { RoomToCarry server.old.tables asked.now both.prepared × HasRoomToWrite server.old both.body }
-    ensures step { (users : List User) (s y : model.Server) (L : Logons) (records : List model.Record) (e : ServerEvent) (o : ℕ)
+    ensures step { (users : Users) (s y : model.Server) (L : Logons) (records : List model.Record) (e : ServerEvent) (o : ℕ)
         → ServerApart D.told D.seen D.may_leave server.old users s y L records now e asked.now o expired both → MayExpire s now o
         → EventAnswers D.told D.seen D.may_leave D.faults server.old server.new users s L records now e result }
     ensures any_moment { D.told
-        → (users : List User) (s y : model.Server) (L : Logons) (records : List model.Record) (bodies : List (List ℕ)) (e : ServerEvent)
+        → (users : Users) (s y : model.Server) (L : Logons) (records : List model.Record) (bodies : List (List ℕ)) (e : ServerEvent)
         (o : ℕ) → ServerApart D.told D.seen D.may_leave server.old users s y L records now e asked.now o expired both → MayExpire s now o
         → JournaledGoesOn D.seen D.may_leave server.old s records bodies
         → LeavesOnly D.moment D.left_since server.old.journal.disk server.new.journal.disk

@@ -11,7 +11,7 @@ ghost use Rattle.server_core.specs.event_step.Behind.{ExpiryAsks, MayExpire};
 ghost use Rattle.server_core.specs.event_step.Early.{HasMemory, is_refused_early};
 ghost use Rattle.server_recovery.specs.journaled_tables.Holds.{EventAnswers, EventLeavesBodies, JournaledGoesOn, JournaledHolds};
 ghost use Rattle.law_server.specs.tables.Fits.{Fits};
-ghost use Rattle.spec_crypto.specs.tokens.Acceptor.{User};
+ghost use Rattle.spec_crypto.specs.tokens.Tokens.{Users};
 ghost use Rattle.spec_world.specs.Ends.{Logons};
 
 use crate::behind_expiry::ServerState;
@@ -92,11 +92,11 @@ fn answer_asked<D: Disk>(
     asked: &Asked<'_>,
     now: u64,
 ) -> Result<Answer, EventError>
-    ensures step { (users : List User) (s : model.Server) (L : Logons) (records : List model.Record) (e : ServerEvent)
+    ensures step { (users : Users) (s : model.Server) (L : Logons) (records : List model.Record) (e : ServerEvent)
         → ExpiryAsks D.told D.seen D.may_leave server.old users s L records now e asked.now
         → EventAnswers D.told D.seen D.may_leave D.faults server.old server.new users s L records now e result }
     ensures any_moment { D.told
-        → (users : List User) (s : model.Server) (L : Logons) (records : List model.Record) (bodies : List (List ℕ)) (e : ServerEvent)
+        → (users : Users) (s : model.Server) (L : Logons) (records : List model.Record) (bodies : List (List ℕ)) (e : ServerEvent)
         → ExpiryAsks D.told D.seen D.may_leave server.old users s L records now e asked.now
         → JournaledGoesOn D.seen D.may_leave server.old s records bodies
         → LeavesOnly D.moment D.left_since server.old.journal.disk server.new.journal.disk
@@ -119,11 +119,11 @@ fn expire_first<D: Disk>(
     now: u64,
     id: u64,
 ) -> Result<Answer, EventError>
-    ensures step { (users : List User) (s : model.Server) (L : Logons) (records : List model.Record) (e : ServerEvent)
+    ensures step { (users : Users) (s : model.Server) (L : Logons) (records : List model.Record) (e : ServerEvent)
         → ExpiryAsks D.told D.seen D.may_leave server.old users s L records now e asked.now → MayExpire s now id
         → EventAnswers D.told D.seen D.may_leave D.faults server.old server.new users s L records now e result }
     ensures any_moment { D.told
-        → (users : List User) (s : model.Server) (L : Logons) (records : List model.Record) (bodies : List (List ℕ)) (e : ServerEvent)
+        → (users : Users) (s : model.Server) (L : Logons) (records : List model.Record) (bodies : List (List ℕ)) (e : ServerEvent)
         → ExpiryAsks D.told D.seen D.may_leave server.old users s L records now e asked.now → MayExpire s now id
         → JournaledGoesOn D.seen D.may_leave server.old s records bodies
         → LeavesOnly D.moment D.left_since server.old.journal.disk server.new.journal.disk

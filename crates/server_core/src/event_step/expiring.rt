@@ -8,7 +8,7 @@ ghost use Rattle.server_checks.specs.declared.event_heard.event.ServerEvent.{Ser
 ghost use Rattle.server_core.specs.event_step.Behind.{ExpiryAsks, BehindEnds, HasFront, IsExpiryFront, MayExpire, StaysWhereNone, Without};
 ghost use Rattle.server_recovery.specs.journaled_tables.Holds.{EventLeavesBodies, JournaledGoesOn};
 ghost use Rattle.server_recovery.specs.journaled_tables.Rooms.{HasRoomToWrite};
-ghost use Rattle.spec_crypto.specs.tokens.Acceptor.{User};
+ghost use Rattle.spec_crypto.specs.tokens.Tokens.{Users};
 ghost use Rattle.spec_world.specs.Ends.{Logons};
 
 use crate::behind_expiry::{ServerState, fits, front_body, ready_behind};
@@ -35,11 +35,11 @@ pub(crate) fn event_behind_expiry<D: Disk>(
     now: u64,
     id: u64,
 ) -> Result<Behind, EventError>
-    ensures step { (users : List User) (s : model.Server) (L : Logons) (records : List model.Record) (e : ServerEvent)
+    ensures step { (users : Users) (s : model.Server) (L : Logons) (records : List model.Record) (e : ServerEvent)
         → ExpiryAsks D.told D.seen D.may_leave server.old users s L records now e asked.now → MayExpire s now id
         → BehindEnds D.told D.seen D.may_leave D.faults server.old server.new users s L records now e asked.now result }
     ensures any_moment { D.told
-        → (users : List User) (s : model.Server) (L : Logons) (records : List model.Record) (bodies : List (List ℕ)) (e : ServerEvent)
+        → (users : Users) (s : model.Server) (L : Logons) (records : List model.Record) (bodies : List (List ℕ)) (e : ServerEvent)
         → ExpiryAsks D.told D.seen D.may_leave server.old users s L records now e asked.now → MayExpire s now id
         → JournaledGoesOn D.seen D.may_leave server.old s records bodies
         → LeavesOnly D.moment D.left_since server.old.journal.disk server.new.journal.disk
@@ -62,12 +62,12 @@ fn behind_front<D: Disk>(
     id: u64,
     front: &Bytes,
 ) -> Result<Behind, EventError>
-    ensures step { (users : List User) (s : model.Server) (L : Logons) (records : List model.Record) (e : ServerEvent)
+    ensures step { (users : Users) (s : model.Server) (L : Logons) (records : List model.Record) (e : ServerEvent)
         → ExpiryAsks D.told D.seen D.may_leave server.old users s L records now e asked.now → MayExpire s now id
         → IsExpiryFront s asked.now id front.now
         → BehindEnds D.told D.seen D.may_leave D.faults server.old server.new users s L records now e asked.now result }
     ensures any_moment { D.told
-        → (users : List User) (s : model.Server) (L : Logons) (records : List model.Record) (bodies : List (List ℕ)) (e : ServerEvent)
+        → (users : Users) (s : model.Server) (L : Logons) (records : List model.Record) (bodies : List (List ℕ)) (e : ServerEvent)
         → ExpiryAsks D.told D.seen D.may_leave server.old users s L records now e asked.now → MayExpire s now id
         → IsExpiryFront s asked.now id front.now → JournaledGoesOn D.seen D.may_leave server.old s records bodies
         → LeavesOnly D.moment D.left_since server.old.journal.disk server.new.journal.disk
@@ -97,12 +97,12 @@ fn take_out<D: Disk>(
     front: &Bytes,
 ) -> Result<Behind, EventError>
     requires { HasRoomToWrite server.old front.now }
-    ensures step { (users : List User) (s : model.Server) (L : Logons) (records : List model.Record) (e : ServerEvent)
+    ensures step { (users : Users) (s : model.Server) (L : Logons) (records : List model.Record) (e : ServerEvent)
         → ExpiryAsks D.told D.seen D.may_leave server.old users s L records now e asked.now → MayExpire s now id
         → HasFront s asked.now id front.now
         → BehindEnds D.told D.seen D.may_leave D.faults server.old server.new users s L records now e asked.now result }
     ensures any_moment { D.told
-        → (users : List User) (s : model.Server) (L : Logons) (records : List model.Record) (bodies : List (List ℕ)) (e : ServerEvent)
+        → (users : Users) (s : model.Server) (L : Logons) (records : List model.Record) (bodies : List (List ℕ)) (e : ServerEvent)
         → ExpiryAsks D.told D.seen D.may_leave server.old users s L records now e asked.now → MayExpire s now id
         → HasFront s asked.now id front.now → JournaledGoesOn D.seen D.may_leave server.old s records bodies
         → LeavesOnly D.moment D.left_since server.old.journal.disk server.new.journal.disk
@@ -127,13 +127,13 @@ fn event_without<D: Disk>(
     front: &Bytes,
 ) -> Result<Behind, EventError>
     requires { HasOpensRoom server.old.tables.opens × HasRoomToWrite server.old front.now }
-    ensures step { (users : List User) (s : model.Server) (L : Logons) (records : List model.Record) (e : ServerEvent) (o : ℕ)
+    ensures step { (users : Users) (s : model.Server) (L : Logons) (records : List model.Record) (e : ServerEvent) (o : ℕ)
         (y : model.Server)
         → Without D.told D.seen D.may_leave server.old users s L records now e asked.now o expired y → MayExpire s now o
         → HasFront s asked.now o front.now
         → BehindEnds D.told D.seen D.may_leave D.faults server.old server.new users s L records now e asked.now result }
     ensures any_moment { D.told
-        → (users : List User) (s : model.Server) (L : Logons) (records : List model.Record) (bodies : List (List ℕ)) (e : ServerEvent)
+        → (users : Users) (s : model.Server) (L : Logons) (records : List model.Record) (bodies : List (List ℕ)) (e : ServerEvent)
         (o : ℕ) (y : model.Server)
         → Without D.told D.seen D.may_leave server.old users s L records now e asked.now o expired y → MayExpire s now o
         → HasFront s asked.now o front.now → JournaledGoesOn D.seen D.may_leave server.old s records bodies

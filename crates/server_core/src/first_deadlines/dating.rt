@@ -1,5 +1,5 @@
 //! An event that was prepared, carried out.
-ghost use Rattle.std.specs.Prelude.{◌≡◌, List, Some, length};
+ghost use Rattle.std.specs.Prelude.{◌≡◌, Some, length};
 ghost use Rattle.spec_exchange.specs.State.{Server};
 ghost use Rattle.spec_exchange.specs.Step.{carried_out, with_deadlines};
 ghost use Rattle.server_checks.specs.event_heard.Heard.{event_of, heard_event, part_in};
@@ -15,7 +15,7 @@ ghost use Rattle.server_effects.specs.prepared_event.Prepared.{IsPrepared, RoomT
 ghost use Rattle.server_plan.specs.rulings.Rulings.{AbleToRule};
 ghost use Rattle.server_plan.specs.logon_steps.Steps.{PreparedStep};
 ghost use Rattle.server_checks.specs.session_table.Logons.{LogonsShown};
-ghost use Rattle.spec_crypto.specs.tokens.Acceptor.{User};
+ghost use Rattle.spec_crypto.specs.tokens.Tokens.{Users};
 ghost use Rattle.spec_world.specs.Ends.{Logons};
 
 use crate::logon_progress::progress_law;
@@ -30,7 +30,7 @@ pub fn carry_dated(t: &mut Tables, asked: &Asked<'_>, prepared: Prepared, now: u
     ensures shows { (s : Server) → Fits s → IsPrepared t.old s now (event_of asked.now) prepared
         → AbleToRule s (prepared_ruling (event_of asked.now) prepared)
         → Carried t.new result (carried_out (with_deadlines s now) now (prepared_ruling (event_of asked.now) prepared)) }
-    ensures beside { (users : List User) (s : Server) (L : Logons) (e : ServerEvent) → Fits s
+    ensures beside { (users : Users) (s : Server) (L : Logons) (e : ServerEvent) → Fits s
         → IsPrepared t.old s now (event_of asked.now) prepared
         → MayRule s (event_of asked.now) (prepared_ruling (event_of asked.now) prepared)
         → AbleToRule s (prepared_ruling (event_of asked.now) prepared)

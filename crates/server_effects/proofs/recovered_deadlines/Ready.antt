@@ -1,9 +1,10 @@
 -- What was made ready is so with other deadlines, where the table of opens shows them.
-use Rattle.std.proofs.Common.{ℕ, Bool, true, List, Option, sym, ap, ◌∙◌}
+use Rattle.std.proofs.Common.{◌≡◌, ℕ, Bool, true, if◌then◌else◌, List, [], ◌∷◌, Option, refl, sym, ap, ◌∙◌}
 use Rattle.spec_exchange.specs.CheckOpen.{file_of, target_of}
 use Rattle.spec_exchange.specs.Commands.{CreateRequest, asks_directory, path_form}
-use Rattle.spec_exchange.specs.Effects.{open_row}
-use Rattle.spec_exchange.specs.Files.{path_of}
+use Rattle.spec_exchange.specs.Effects.{made_attributes, open_row, tree_opens_in}
+use Rattle.spec_exchange.specs.Files.{exists, is_directory, is_read_only, path_of}
+use Rattle.spec_exchange.specs.Opens.{is_of_tree}
 use Rattle.spec_exchange.specs.State.{Message, Server}
 use Rattle.server_effects.proofs.recovered_deadlines.Same.{acts, found, made, parent, refusal, with}
 use Rattle.store_files.specs.file_tree.Made.{Prepared}
@@ -28,6 +29,7 @@ use Rattle.server_effects.specs.reserved.Room.{FilesReady, IsReadied, ReservedSt
 use Rattle.server_effects.specs.declared.reserved.ready.Ready.{Ready}
 use Rattle.server_effects.specs.declared.reserved.ready.Ready.TheVariants as readies
 use Rattle.server_checks.specs.verdicts.Views.{create_in, path_in}
+use Rattle.spec_exchange.specs.Opens.{granted}
 
 abbrev pub opened : Tables → Opens → Tables
 opened t u = record t { opens = u }
@@ -62,15 +64,17 @@ moving t m s f x to h = record {
 
 file_for : (t : Tables) (u : Opens) (s : Server) (f : ℕ → Option ℕ) (r : CreateRequest) (o : Option ℕ) (now : ℕ) (x : FileReady)
     → FileFor t s r o now x → FileFor (opened t u) (with s f) r o now x
-file_for t u s f r o now (files.New file) h = (h.0, prepared t.tree file s f r.path (asks_directory r) r.attributes now h.1)
+file_for t u s f r o now (files.New file) h = (h.0, prepared t.tree file s f r.path (asks_directory r) (made_attributes r) now h.1)
 file_for t u s f r o now (files.Emptied file attributes) h = h
 file_for t u s f r o now (files.AsItIs file) h = h
 
 row_for : (s : Server) (f : ℕ → Option ℕ) (m : Message) (r : CreateRequest) (o : Option ℕ) (action : ℕ) (row : Row)
     → RowFor s m r o action row → RowFor (with s f) m r o action row
+unfolding granted is_read_only exists is_directory
 row_for s f m r o action row h = record {
   opened_is = h.opened_is ∙ ap (λ (x : ℕ). open_row s m r x action) (sym (made s f o));
   session_is = h.session_is;
+  tree_is = h.tree_is;
   sequence_is = h.sequence_is;
   is_new = h.is_new;
 }
@@ -112,7 +116,12 @@ files_ready t u s f (readies.CloseOpen id body) h = h
 files_ready t u s f (readies.Setup step) h = h
 files_ready t u s f (readies.EndSession session quiet) h = h
 files_ready t u s f (readies.AddTree pipes) h = h
-files_ready t u s f readies.DropTree h = h
+files_ready t u s f (readies.DropTree opens) h = h
+
+same_tree : (s : Server) (f : ℕ → Option ℕ) (x n : ℕ) (os : List ℕ) → tree_opens_in (with s f) x n os ≡ tree_opens_in s x n os
+unfolding tree_opens_in
+same_tree s f x n [] = refl
+same_tree s f x n (o ∷ os) = ap (λ (v : List ℕ). if is_of_tree s o x n then o ∷ v else v) (same_tree s f x n os)
 
 stands : (t : Tables) (u : Opens) (s : Server) (f : ℕ → Option ℕ) (m : Message) (now : ℕ) (r : Ready) → ReservedStands t s m now r
     → ReservedStands (opened t u) (with s f) m now r
@@ -138,7 +147,7 @@ stands t u s f m now (readies.CloseOpen id body) h = h
 stands t u s f m now (readies.Setup step) h = h
 stands t u s f m now (readies.EndSession session quiet) h = h
 stands t u s f m now (readies.AddTree pipes) h = h
-stands t u s f m now readies.DropTree h = h
+stands t u s f m now (readies.DropTree opens) h = h ∙ sym (same_tree s f m.session_id m.tree_id s.opens)
 
 others : (t : Tables) (u : Opens) (s : Server) (f : ℕ → Option ℕ) → OthersShown t s → ShowsOpens u (with s f)
     → OthersShown (opened t u) (with s f)

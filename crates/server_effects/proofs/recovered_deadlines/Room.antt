@@ -78,7 +78,7 @@ room_for t u x k (readies.CloseOpen id body) d h = h
 room_for t u x k (readies.Setup step) d h = step_room t u k step h
 room_for t u x k (readies.EndSession session quiet) d h = h
 room_for t u x k (readies.AddTree pipes) d h = h
-room_for t u x k readies.DropTree d h = h
+room_for t u x k (readies.DropTree opens) d h = h
 
 room_on : (t : Tables) (u : Opens) (a : Asked) (r : Ready) → HasRoomYet t.opens u → RoomOn t a r → RoomOn (opened t u) a r
 room_on t u (askings.Says message logon) r d h = room_for t u message.session_id message.connection r d h

@@ -88,6 +88,7 @@ opens_ended u s x now q f h = record {
   given_is = h.given_is;
   count_is = ap (λ (os : List ℕ). length os) (sym (opens_left s x f)) ∙ h.count_is;
   rows_are = λ p. row_ended u s x now p f (h.rows_are p);
+  trees_are = h.trees_are;
   guids_are = λ c g. sym (guid_left s x c g f) ∙ h.guids_are c g;
   files_are = λ g. file_ended u s x g f (h.files_are g);
   sessions_are = h.sessions_are;

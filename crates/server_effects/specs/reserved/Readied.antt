@@ -52,4 +52,4 @@ readied c (readies.CloseOpen id body) = verdicts.CloseOpen id (body_of body)
 readied c (readies.Setup step) = stepped c step
 readied c (readies.EndSession session quiet) = verdicts.EndSession session quiet
 readied c (readies.AddTree pipes) = verdicts.AddTree pipes
-readied c readies.DropTree = verdicts.DropTree
+readied c (readies.DropTree opens) = verdicts.DropTree

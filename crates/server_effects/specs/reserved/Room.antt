@@ -1,7 +1,7 @@
 -- The tables with all that an effect wants.
 use Rattle.std.specs.Prelude.{◌≡◌, ◌<◌, ℕ, ⊤}
 use Rattle.spec_exchange.specs.CheckOpen.{file_of}
-use Rattle.spec_exchange.specs.Effects.{change_acts}
+use Rattle.spec_exchange.specs.Effects.{change_acts, opens_of_tree}
 use Rattle.spec_exchange.specs.State as model
 use Rattle.store_files.specs.file_tree.Shown.{ShowsFiles}
 use Rattle.store_opens.specs.open_table.Shown.{HasResultRoom, HasOpensRoom, HasRoomIn, HasOpensSessionRoom, next_of}
@@ -29,6 +29,7 @@ ReservedStands t s m now (readies.Make file row) = FileFor t s (create_in m.comm
 ReservedStands t s m now (readies.Alter id change body acts) = ChangeFor t s (file_of s id) change (reserved_changed m.command change)
     × (acts ≡ change_acts s (file_of s id) now (reserved_changed m.command change))
 ReservedStands t s m now (readies.Setup step) = StepStands m step
+ReservedStands t s m now (readies.DropTree opens) = opens.items ≡ opens_of_tree s m.session_id m.tree_id
 ReservedStands t s m now _ = ⊤
 
 -- the files are shown, unless one that is made or renamed has its path already

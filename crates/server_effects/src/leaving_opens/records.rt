@@ -34,8 +34,8 @@ pub fn end_in(
     leave_each(opens, tree, leaving, records, origin, ids.as_slice())
 }
 
-// The records of opens that leave in ascending order.
-fn leave_each(
+/// The records of opens that leave in ascending order.
+pub fn leave_each(
     opens: &Opens,
     tree: &Tree,
     leaving: &mut Leaving,

@@ -116,5 +116,8 @@ pub enum Ready {
     AddTree {
         pipes: bool,
     },
-    DropTree,
+    /// The opens of the tree, in the order of their ids.
+    DropTree {
+        opens: Vec<u64>,
+    },
 }

@@ -62,6 +62,6 @@ pub fn carry_out(t: &mut Tables, m: &Message<'_>, ready: Ready, now: u64) -> Ans
         Ready::Setup { step } => set_up(t, m, step, now),
         Ready::EndSession { session, quiet } => end_by_message(t, m, session, quiet, now),
         Ready::AddTree { pipes } => add_tree(t, m, pipes),
-        Ready::DropTree => drop_tree(t, m),
+        Ready::DropTree { opens } => drop_tree(t, m, opens.as_slice()),
     }
 }

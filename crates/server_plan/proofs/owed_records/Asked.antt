@@ -23,6 +23,7 @@ owing s m (Attach o r) i f = tt
 owing s m (Make r found action) i f = (
   below s.open_ids_given f.given,
   i.on_present m.connection m.session_id f.new.create.session.session_on,
+  λ g e. (f.there g e).there,
   subst (λ (c : Command). IsOwedCreate c) (sym f.new.create.command) tt,
 )
 owing s m (TurnDown o status) i f = tt

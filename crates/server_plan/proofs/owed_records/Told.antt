@@ -9,12 +9,15 @@ use Rattle.spec_exchange.specs.Commands as asks
 use Rattle.spec_exchange.specs.Commands.{Element, asks_directory}
 use Rattle.spec_exchange.specs.State as model
 use Rattle.spec_exchange.specs.CheckOpen.{is_slot}
-use Rattle.spec_exchange.specs.Table.{has}
-use Rattle.spec_exchange.specs.Opens.{mapped}
+use Rattle.spec_exchange.specs.Table.{has, is_at}
+use Rattle.spec_exchange.specs.Opens.{is_of_session, granted}
 use Rattle.spec_exchange.specs.Records.{origin_of}
-use Rattle.spec_exchange.specs.Effects.{leaves, plain_of, apply, create_records, is_persistent, new_file, new_open, next_open, timeout_of}
+use Rattle.spec_exchange.specs.Effects.{leaves, opens_of_tree, plain_of, apply, create_records, is_persistent, new_file, new_open, next_open, timeout_of}
 use Rattle.spec_exchange.specs.Effects.{lock_records, recorded_index, end_records, leave_all_records}
-use Rattle.law_server.specs.tables.Fits.{Fits}
+use Rattle.spec_exchange.specs.Effects.{final_attributes}
+use Rattle.law_server.specs.tables.Fits.{Fits, is_ascending}
+use Rattle.law_server.proofs.tables.Closing.{of_tree}
+use Rattle.law_server.proofs.tables.Lists.{ascending-tree}
 use Rattle.law_server.proofs.tables.Logic.{front_of, back_of}
 use Rattle.law_records.specs.leaving_opens.Since.{AllStand}
 use Rattle.law_records.proofs.leaving_opens.Ended.{has_plain}
@@ -68,6 +71,14 @@ behind_none none all rs e h = h ∙ ap (λ (v : List model.Record). v ++ rs) e
 pub plain_stand : (s : model.Server) (x : ℕ) → Fits s → AllStand s (plain_of s x)
 plain_stand s x i = λ o h. sym (i.listed o) ∙ front_of (has o s.opens) (leaves s x o) (sym (has_plain s x o s.opens) ∙ h)
 
+-- so do a tree's, in the order of their ids
+pub tree_stand : (s : model.Server) (x n : ℕ) → Fits s → AllStand s (opens_of_tree s x n)
+tree_stand s x n i = λ o h. front_of (s.standing o) (is_at x (s.session_of_open o))
+    (front_of (is_of_session s o x) (s.tree_of_open o == n) (of_tree s x n o s.opens h))
+
+pub tree_in_order : (s : model.Server) (x n : ℕ) → Fits s → is_ascending (opens_of_tree s x n) ≡ true
+tree_in_order s x n i = ascending-tree s x n s.opens i.ascending
+
 -- the records of a session that ends, where they fit
 pub ended_records : (s : model.Server) (origin : model.Origin) (x : ℕ) (quiet : Bool) (rs : List model.Record) → quiet ≡ false
     → rs ≡ leave_all_records s origin (plain_of s x) → rs ≡ end_records s origin x quiet
@@ -108,28 +119,33 @@ pub created_none : (s : model.Server) (m : model.Message) (r : asks.CreateReques
     → b ≡ ((action == 1) && not (is_persistent r.durable)) → b ≡ true → rs ≡ [] → rs ≡ create_records s m r found action now
 unfolding create_records
 created_none s m r found action now b rs e h none =
-    none ∙ ap (λ (v : Bool). if v then [] else model.CreateRecord (origin_of m) action (new_file s found) r.path r.attributes
-    (asks_directory r) now (new_open s m r r.durable) ∷ []) (sym h ∙ e)
+    none ∙ ap (λ (v : Bool). if v then [] else model.CreateRecord (origin_of m) action (new_file s found) r.path (final_attributes s r found)
+    (asks_directory r) now (new_open s m r (granted s (new_file s found) r.access) r.durable) ∷ []) (sym h ∙ e)
 
 pub created_one : (s : model.Server) (m : model.Message) (r : asks.CreateRequest) (found : Option ℕ) (action now : ℕ) (b : Bool)
     (one : model.Record) (n : Option model.NewOpen) (rs : List model.Record)
     → b ≡ ((action == 1) && not (is_persistent r.durable)) → b ≡ false → rs ≡ one ∷ []
-    → one ≡ model.CreateRecord (origin_of m) action (new_file s found) r.path r.attributes (asks_directory r) now n
-    → n ≡ new_open s m r r.durable → rs ≡ create_records s m r found action now
+    → one ≡ model.CreateRecord (origin_of m) action (new_file s found) r.path (final_attributes s r found) (asks_directory r) now n
+    → n ≡ new_open s m r (granted s (new_file s found) r.access) r.durable → rs ≡ create_records s m r found action now
 unfolding create_records
 created_one s m r found action now b one n rs e h all is new =
     all ∙ ap (λ (v : model.Record). v ∷ []) is
-    ∙ ap (λ (v : Option model.NewOpen). model.CreateRecord (origin_of m) action (new_file s found) r.path r.attributes
+    ∙ ap (λ (v : Option model.NewOpen). model.CreateRecord (origin_of m) action (new_file s found) r.path (final_attributes s r found)
     (asks_directory r) now v ∷ []) new
-    ∙ ap (λ (v : Bool). if v then [] else model.CreateRecord (origin_of m) action (new_file s found) r.path r.attributes
-    (asks_directory r) now (new_open s m r r.durable) ∷ []) (sym h ∙ e)
+    ∙ ap (λ (v : Bool). if v then [] else model.CreateRecord (origin_of m) action (new_file s found) r.path (final_attributes s r found)
+    (asks_directory r) now (new_open s m r (granted s (new_file s found) r.access) r.durable) ∷ []) (sym h ∙ e)
 
-pub told_create : (m : model.Message) (action now : ℕ) (origin : model.Origin) (file file2 : ℕ) (path : List ℕ) (attributes : ℕ)
-    (directory directory2 : Bool) (n : Option model.NewOpen) (path2 : List ℕ) → origin ≡ origin_of m → file ≡ file2 → path ≡ path2
-    → directory ≡ directory2
+pub opened_with : (s : model.Server) (m : model.Message) (r : asks.CreateRequest) (found : Option ℕ) (access : ℕ) (n : Option model.NewOpen)
+    (u : Option asks.Durable) → access ≡ granted s (new_file s found) r.access → n ≡ new_open s m r access u
+    → n ≡ new_open s m r (granted s (new_file s found) r.access) u
+opened_with s m r found access n u e h = h ∙ ap (λ (a : ℕ). new_open s m r a u) e
+
+pub told_create : (m : model.Message) (action now : ℕ) (origin : model.Origin) (file file2 : ℕ) (path : List ℕ)
+    (attributes attributes2 : ℕ) (directory directory2 : Bool) (n : Option model.NewOpen) (path2 : List ℕ) → origin ≡ origin_of m
+    → file ≡ file2 → path ≡ path2 → attributes ≡ attributes2 → directory ≡ directory2
     → model.CreateRecord origin action file path attributes directory now n
-    ≡ model.CreateRecord (origin_of m) action file2 path2 attributes directory2 now n
-told_create m action now origin file file2 path attributes directory directory2 n path2 o f p d = rw (o, f, p, d) refl
+    ≡ model.CreateRecord (origin_of m) action file2 path2 attributes2 directory2 now n
+told_create m action now origin file file2 path attributes attributes2 directory directory2 n path2 o f p a d = rw (o, f, p, a, d) refl
 
 abbrev open_made : ℕ → ℕ → ℕ → List ℕ → ℕ → ℕ → ℕ → ℕ → Option model.NewOpen
 open_made id client guid user access share options timeout = Some (record {
@@ -150,28 +166,28 @@ same_open : (id id2 client client2 guid guid2 : ℕ) (user user2 : List ℕ) (ac
 same_open id id2 client client2 guid guid2 user user2 access access2 share share2 options options2 timeout timeout2 a b c d e f g h =
     rw (a, b, c, d, e, f, g, h) refl
 
-pub not_persistent : (s : model.Server) (m : model.Message) (r : asks.CreateRequest) (d : asks.Durable) → d.persistent ≡ false
-    → None ≡ new_open s m r (Some d)
+pub not_persistent : (s : model.Server) (m : model.Message) (r : asks.CreateRequest) (access : ℕ) (d : asks.Durable)
+    → d.persistent ≡ false → None ≡ new_open s m r access (Some d)
 unfolding new_open
-not_persistent s m r d e =
-    ap (λ (v : Bool). if v then open_made (next_open s) m.client_guid d.guid (s.user m.session_id) (mapped r.access) r.share r.options
+not_persistent s m r access d e =
+    ap (λ (v : Bool). if v then open_made (next_open s) m.client_guid d.guid (s.user m.session_id) access r.share r.options
     (timeout_of d.timeout) else None) (sym e)
 
 pub persistent : (s : model.Server) (m : model.Message) (r : asks.CreateRequest) (d : asks.Durable)
     (id client guid : ℕ) (user : List ℕ) (access share options timeout : ℕ)
     → d.persistent ≡ true → id ≡ next_open s → client ≡ m.client_guid → guid ≡ d.guid → user ≡ s.user m.session_id
-    → access ≡ mapped r.access → share ≡ r.share → options ≡ r.options → timeout ≡ timeout_of d.timeout
-    → open_made id client guid user access share options timeout ≡ new_open s m r (Some d)
+    → share ≡ r.share → options ≡ r.options → timeout ≡ timeout_of d.timeout
+    → open_made id client guid user access share options timeout ≡ new_open s m r access (Some d)
 unfolding new_open
-persistent s m r d id client guid user access share options timeout p a b c e f g h i =
-    same_open id (next_open s) client m.client_guid guid d.guid user (s.user m.session_id) access (mapped r.access) share r.share
-    options r.options timeout (timeout_of d.timeout) a b c e f g h i
-    ∙ ap (λ (v : Bool). if v then open_made (next_open s) m.client_guid d.guid (s.user m.session_id) (mapped r.access) r.share
+persistent s m r d id client guid user access share options timeout p a b c e g h i =
+    same_open id (next_open s) client m.client_guid guid d.guid user (s.user m.session_id) access access share r.share
+    options r.options timeout (timeout_of d.timeout) a b c e refl g h i
+    ∙ ap (λ (v : Bool). if v then open_made (next_open s) m.client_guid d.guid (s.user m.session_id) access r.share
     r.options (timeout_of d.timeout) else None) (sym p)
 
-pub no_open : (s : model.Server) (m : model.Message) (r : asks.CreateRequest) → None ≡ new_open s m r None
+pub no_open : (s : model.Server) (m : model.Message) (r : asks.CreateRequest) (access : ℕ) → None ≡ new_open s m r access None
 unfolding new_open
-no_open s m r = refl
+no_open s m r access = refl
 
 pub an_id : (limit : Bool) (id next : ℕ) → limit ≡ false → Some id ≡ (if limit then None else Some next) → id ≡ next
 an_id true id next e h = absurd (cc)
@@ -246,12 +262,14 @@ pub none_owed : (s : model.Server) (m : model.Message) (now : ℕ) (c : asks.Com
     → ((id : ℕ) (body : Body) → v ≡ codes.CloseOpen id body → ⊥)
     → ((session : ℕ) (previous : Option ℕ) (quiet : Bool) → v ≡ codes.Begin session previous quiet → ⊥)
     → ((session : ℕ) (quiet : Bool) → v ≡ codes.EndSession session quiet → ⊥)
+    → (v ≡ codes.DropTree → ⊥)
     → [] ≡ (apply s m now (verdict_of c v)).records
-none_owed s m now c (codes.Make found action) h1 h2 h3 h4 h5 h6 h7 = absurd (h1 found action refl)
-none_owed s m now c (codes.KeepSlot id index number status) h1 h2 h3 h4 h5 h6 h7 = absurd (h2 id index number status refl)
-none_owed s m now c (codes.PutRanges id index number ranges) h1 h2 h3 h4 h5 h6 h7 = absurd (h3 id index number ranges refl)
-none_owed s m now c (codes.Alter id change body) h1 h2 h3 h4 h5 h6 h7 = absurd (h4 id change body refl)
-none_owed s m now c (codes.CloseOpen id body) h1 h2 h3 h4 h5 h6 h7 = absurd (h5 id body refl)
-none_owed s m now c (codes.Begin session previous quiet) h1 h2 h3 h4 h5 h6 h7 = absurd (h6 session previous quiet refl)
-none_owed s m now c (codes.EndSession session quiet) h1 h2 h3 h4 h5 h6 h7 = absurd (h7 session quiet refl)
-none_owed s m now c _ h1 h2 h3 h4 h5 h6 h7 = refl
+none_owed s m now c (codes.Make found action) h1 h2 h3 h4 h5 h6 h7 h8 = absurd (h1 found action refl)
+none_owed s m now c (codes.KeepSlot id index number status) h1 h2 h3 h4 h5 h6 h7 h8 = absurd (h2 id index number status refl)
+none_owed s m now c (codes.PutRanges id index number ranges) h1 h2 h3 h4 h5 h6 h7 h8 = absurd (h3 id index number ranges refl)
+none_owed s m now c (codes.Alter id change body) h1 h2 h3 h4 h5 h6 h7 h8 = absurd (h4 id change body refl)
+none_owed s m now c (codes.CloseOpen id body) h1 h2 h3 h4 h5 h6 h7 h8 = absurd (h5 id body refl)
+none_owed s m now c (codes.Begin session previous quiet) h1 h2 h3 h4 h5 h6 h7 h8 = absurd (h6 session previous quiet refl)
+none_owed s m now c (codes.EndSession session quiet) h1 h2 h3 h4 h5 h6 h7 h8 = absurd (h7 session quiet refl)
+none_owed s m now c codes.DropTree h1 h2 h3 h4 h5 h6 h7 h8 = absurd (h8 refl)
+none_owed s m now c _ h1 h2 h3 h4 h5 h6 h7 h8 = refl

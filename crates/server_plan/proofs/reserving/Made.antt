@@ -18,6 +18,7 @@ use Rattle.server_effects.specs.declared.making.FileReady.{FileReady}
 use Rattle.server_effects.specs.declared.making.FileReady.TheVariants as files
 use Rattle.server_checks.specs.verdicts.Views.{create_in}
 use Rattle.server_plan.specs.reserving.Readies.{HasRowRoom, IsReadyFor}
+use Rattle.spec_exchange.specs.Files.{file_attributes}
 
 -- the file that was found is the one that is ready
 pub file_found : (t : Tables) (s : Server) (r : CreateRequest) (found : Option ℕ) (now : ℕ) (file : FileReady)
@@ -54,9 +55,10 @@ made_room old new x k file row e f h =
 
 -- ---- a file that was found
 
-pub emptied_for : (t : Tables) (s : Server) (r : CreateRequest) (f now : ℕ) (b : Bool) → b ≡ empties r.disposition → b ≡ true
-    → ShowsFiles t.tree s → FileFor t s r (Some f) now (files.Emptied f r.attributes)
-emptied_for t s r f now b e h k = (refl, refl, sym e ∙ h, k)
+pub emptied_for : (t : Tables) (s : Server) (r : CreateRequest) (f attributes now : ℕ) (b : Bool)
+    → attributes ≡ file_attributes r.attributes → b ≡ empties r.disposition → b ≡ true
+    → ShowsFiles t.tree s → FileFor t s r (Some f) now (files.Emptied f attributes)
+emptied_for t s r f attributes now b a e h k = (refl, a, sym e ∙ h, k)
 
 pub left_for : (t : Tables) (s : Server) (r : CreateRequest) (f now : ℕ) (b : Bool) → b ≡ empties r.disposition → b ≡ false
     → ShowsFiles t.tree s → FileFor t s r (Some f) now (files.AsItIs f)

@@ -3,6 +3,7 @@ use Rattle.std.proofs.Common.{◌≡◌, ℕ, Bool, true, false, List, Option, V
 use Rattle.std.specs.Prelude.{IsOk, MatchResult}
 use Rattle.wire_commands.specs.declared.values.reply.Body.{Body}
 use Rattle.spec_exchange.specs.Commands.{Command}
+use Rattle.spec_exchange.specs.Effects.{opens_of_tree}
 use Rattle.spec_exchange.specs.State.{Message, Server}
 use Rattle.spec_exchange.specs.Verdict as verdicts
 use Rattle.server_effects.specs.reserved.Room.{IsReadied, RoomFor}
@@ -36,7 +37,7 @@ plain_stands t s m now (readies.CloseOpen id body) p h = record { others = other
 plain_stands t s m now (readies.Setup step) p h = absurd p
 plain_stands t s m now (readies.EndSession session quiet) p h = record { others = others t s h; files = h.files; stands = tt }
 plain_stands t s m now (readies.AddTree pipes) p h = absurd p
-plain_stands t s m now readies.DropTree p h = record { others = others t s h; files = h.files; stands = tt }
+plain_stands t s m now (readies.DropTree opens) p h = absurd p
 
 pub plain_room : (t : Tables) (x k : ℕ) (r : Ready) → IsVerdictPlain r → RoomFor t x k r
 plain_room t x k (readies.Refuse status) p = tt
@@ -55,7 +56,7 @@ plain_room t x k (readies.CloseOpen id body) p = tt
 plain_room t x k (readies.Setup step) p = absurd p
 plain_room t x k (readies.EndSession session quiet) p = tt
 plain_room t x k (readies.AddTree pipes) p = absurd p
-plain_room t x k readies.DropTree p = tt
+plain_room t x k (readies.DropTree opens) p = absurd p
 
 pub plain_alone : (r : Ready) → IsVerdictPlain r → HasNoStep r
 plain_alone (readies.Refuse status) p = tt
@@ -74,7 +75,7 @@ plain_alone (readies.CloseOpen id body) p = tt
 plain_alone (readies.Setup step) p = absurd p
 plain_alone (readies.EndSession session quiet) p = tt
 plain_alone (readies.AddTree pipes) p = absurd p
-plain_alone readies.DropTree p = tt
+plain_alone (readies.DropTree opens) p = absurd p
 
 pub plain_readies : {E : Type 0} (t : Tables) (m : Message) (now : ℕ) (v : Verdict) (result : Result Ready E)
     → IfOk result (λ r. (c : Command) → readied c r ≡ verdict_of c v) → IfOk result (λ r. IsVerdictPlain r)
@@ -101,19 +102,17 @@ pub rest_wants : (c : Command) (v : Verdict)
     → ((id index number : ℕ) (ranges : Vec Range Global) → v ≡ codes.PutRanges id index number ranges → ⊥)
     → ((id : ℕ) (body : Body) → v ≡ codes.CloseOpen id body → ⊥)
     → ((session : ℕ) (quiet : Bool) → v ≡ codes.EndSession session quiet → ⊥)
-    → (v ≡ codes.DropTree → ⊥)
     → wants_memory (verdict_of c v) ≡ true
-rest_wants c (codes.Refuse status) h1 h2 h3 h4 h5 h6 h7 h8 h9 h10 = absurd (h1 status refl)
-rest_wants c (codes.Give body) h1 h2 h3 h4 h5 h6 h7 h8 h9 h10 = absurd (h2 body refl)
-rest_wants c (codes.TurnDown id status) h1 h2 h3 h4 h5 h6 h7 h8 h9 h10 = absurd (h3 id status refl)
-rest_wants c (codes.Tell id body) h1 h2 h3 h4 h5 h6 h7 h8 h9 h10 = absurd (h4 id body refl)
-rest_wants c (codes.Show id last body) h1 h2 h3 h4 h5 h6 h7 h8 h9 h10 = absurd (h5 id last body refl)
-rest_wants c (codes.KeepSlot id index number status) h1 h2 h3 h4 h5 h6 h7 h8 h9 h10 = absurd (h6 id index number status refl)
-rest_wants c (codes.PutRanges id index number ranges) h1 h2 h3 h4 h5 h6 h7 h8 h9 h10 = absurd (h7 id index number ranges refl)
-rest_wants c (codes.CloseOpen id body) h1 h2 h3 h4 h5 h6 h7 h8 h9 h10 = absurd (h8 id body refl)
-rest_wants c (codes.EndSession session quiet) h1 h2 h3 h4 h5 h6 h7 h8 h9 h10 = absurd (h9 session quiet refl)
-rest_wants c codes.DropTree h1 h2 h3 h4 h5 h6 h7 h8 h9 h10 = absurd (h10 refl)
-rest_wants c _ h1 h2 h3 h4 h5 h6 h7 h8 h9 h10 = refl
+rest_wants c (codes.Refuse status) h1 h2 h3 h4 h5 h6 h7 h8 h9 = absurd (h1 status refl)
+rest_wants c (codes.Give body) h1 h2 h3 h4 h5 h6 h7 h8 h9 = absurd (h2 body refl)
+rest_wants c (codes.TurnDown id status) h1 h2 h3 h4 h5 h6 h7 h8 h9 = absurd (h3 id status refl)
+rest_wants c (codes.Tell id body) h1 h2 h3 h4 h5 h6 h7 h8 h9 = absurd (h4 id body refl)
+rest_wants c (codes.Show id last body) h1 h2 h3 h4 h5 h6 h7 h8 h9 = absurd (h5 id last body refl)
+rest_wants c (codes.KeepSlot id index number status) h1 h2 h3 h4 h5 h6 h7 h8 h9 = absurd (h6 id index number status refl)
+rest_wants c (codes.PutRanges id index number ranges) h1 h2 h3 h4 h5 h6 h7 h8 h9 = absurd (h7 id index number ranges refl)
+rest_wants c (codes.CloseOpen id body) h1 h2 h3 h4 h5 h6 h7 h8 h9 = absurd (h8 id body refl)
+rest_wants c (codes.EndSession session quiet) h1 h2 h3 h4 h5 h6 h7 h8 h9 = absurd (h9 session quiet refl)
+rest_wants c _ h1 h2 h3 h4 h5 h6 h7 h8 h9 = refl
 
 -- ---- what wants room alone
 
@@ -135,3 +134,10 @@ attach_for t s m now id h = record { verdict_is = refl; is_ready = record { othe
 pub tree_for : (t : Tables) (s : Server) (m : Message) (now : ℕ) (pipes : Bool) → TablesShown t s
     → IsReadyFor t s m now (verdicts.AddTree pipes) (readies.AddTree pipes)
 tree_for t s m now pipes h = record { verdict_is = refl; is_ready = record { others = others t s h; files = h.files; stands = tt } }
+
+pub tree_end_for : (t : Tables) (s : Server) (m : Message) (now : ℕ) (opens : Vec ℕ Global) → TablesShown t s
+    → opens.items ≡ opens_of_tree s m.session_id m.tree_id → IsReadyFor t s m now verdicts.DropTree (readies.DropTree opens)
+tree_end_for t s m now opens h e = record {
+  verdict_is = refl;
+  is_ready = record { others = others t s h; files = h.files; stands = e };
+}

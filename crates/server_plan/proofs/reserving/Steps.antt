@@ -55,7 +55,7 @@ alone_step t k p now (readies.CloseOpen id body) h = λ keys pending l. tt
 alone_step t k p now (readies.Setup step) h = absurd h
 alone_step t k p now (readies.EndSession session quiet) h = λ keys pending l. tt
 alone_step t k p now (readies.AddTree pipes) h = λ keys pending l. tt
-alone_step t k p now readies.DropTree h = λ keys pending l. tt
+alone_step t k p now (readies.DropTree opens) h = λ keys pending l. tt
 
 -- ---- verdicts
 
@@ -115,7 +115,7 @@ agreed c p h = subst (λ (q : SetupRequest). (q.shows ≡ logon.shows_of (shown_
 
 pub made_challenge : (b : tokens.Begun) (fresh : List ℕ) (now : ℕ) (copy list : List ℕ) (made acceptor : AcceptorState)
     (sent token : List ℕ) → copy ≡ b.list → list ≡ copy → acceptor ≡ made → token ≡ sent
-    → pending_made b.list made ≡ pending_for b fresh now → sent ≡ challenge_token (second_of b fresh now)
+    → pending_made b.list made ≡ pending_for b fresh now → sent ≡ challenge_token b.list (second_of b fresh now)
     → ChallengeOf (Some b) fresh now list acceptor token
 made_challenge b fresh now copy list made acceptor sent token c l a e k h = (
   ap (λ (z : List ℕ). pending_made z acceptor) (l ∙ c) ∙ (ap (λ (z : AcceptorState). pending_made b.list z) a ∙ k),

@@ -22,7 +22,7 @@ use Rattle.server_effects.specs.declared.reserved.ready.SetupReady.TheVariants a
 abbrev pub ChallengeOf : Option tokens.Begun → List ℕ → ℕ → List ℕ → AcceptorState → List ℕ → Type 0
 ChallengeOf None fresh now list acceptor token = ⊥
 ChallengeOf (Some b) fresh now list acceptor token = (pending_made list acceptor ≡ pending_for b fresh now)
-    × (token ≡ challenge_token (second_of b fresh now))
+    × (token ≡ challenge_token b.list (second_of b fresh now))
 
 -- a token that ends the logon in the making
 abbrev pub EndOf : Option Pending → tokens.Shown → List ℕ → Type 0

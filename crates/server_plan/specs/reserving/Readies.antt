@@ -57,6 +57,7 @@ wants_memory (verdicts.ChallengeBinding session) = true
 wants_memory (verdicts.Begin session user previous request quiet) = true
 wants_memory (verdicts.Join session) = true
 wants_memory (verdicts.AddTree pipes) = true
+wants_memory verdicts.DropTree = true
 wants_memory _ = false
 
 abbrev pub IsVerdictPlain : Ready → Type 0
@@ -67,6 +68,7 @@ IsVerdictPlain (readies.Make file row) = ⊥
 IsVerdictPlain (readies.Alter id change body acts) = ⊥
 IsVerdictPlain (readies.Setup step) = ⊥
 IsVerdictPlain (readies.AddTree pipes) = ⊥
+IsVerdictPlain (readies.DropTree opens) = ⊥
 IsVerdictPlain _ = ⊤
 
 -- anything but a step of a logon

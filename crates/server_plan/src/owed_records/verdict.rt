@@ -1,7 +1,7 @@
 ghost use Rattle.std.specs.Prelude.{◌≡◌, ◌&&◌, false, is_some, not, true, IfOk, IsOk};
 ghost use Rattle.wire_commands.specs.values.Meaning.{command_of, message_of};
 ghost use Rattle.spec_exchange.specs.CheckOpen.{file_of};
-ghost use Rattle.spec_exchange.specs.Effects.{apply, change_records, end_records, records_if_named};
+ghost use Rattle.spec_exchange.specs.Effects.{apply, change_records, end_records, leave_all_records, opens_of_tree, records_if_named};
 ghost use Rattle.spec_exchange.specs.Opens.{leave_records};
 ghost use Rattle.spec_exchange.specs.Records.{origin_of};
 ghost use Rattle.spec_exchange.specs.State.{Server};
@@ -20,7 +20,7 @@ use crate::owed_records::records::{no_record, origin_of};
 use journal::Records;
 use server_checks::session_table::Sessions;
 use server_checks::{Change, Verdict};
-use server_effects::{Leaving, end_in, leave_in};
+use server_effects::{Leaving, end_in, leave_each, leave_in};
 use std::alloc::{AllocError, Global};
 use store_files::Tree;
 use store_opens::Opens;
@@ -74,6 +74,7 @@ pub fn owed(
         Verdict::EndSession { session, quiet } => {
             end_records(alloc, opens, tree, m, *session, *quiet)
         }
+        Verdict::DropTree => tree_records(alloc, opens, tree, m),
         _ => Ok(no_record(alloc)),
     }
 }
@@ -110,6 +111,32 @@ fn leaving_records(
     let mut records = Records::new(alloc);
     let mut leaving = Leaving::new(alloc);
     leave_in(opens, tree, &mut leaving, &mut records, origin, id)?;
+    Ok(records)
+}
+
+// The records of a tree's opens, which are closed with it.
+fn tree_records(
+    alloc: Global,
+    opens: &Opens,
+    tree: &Tree,
+    m: &Message<'_>,
+) -> Result<Records, AllocError>
+    ensures { (s : Server) → Fits s → ShowsOpens opens.now s → ShowsFiles tree.now s
+        → IfOk result (λ rs. records_of rs
+        ≡ leave_all_records s (origin_of (message_of m.now)) (opens_of_tree s m.now.session_id m.now.tree_id)) }
+{
+    let ids = opens.opens_of_tree(m.session_id, m.tree_id)?;
+    let origin = origin_of(m);
+    let mut records = Records::new(alloc);
+    let mut leaving = Leaving::new(alloc);
+    leave_each(
+        opens,
+        tree,
+        &mut leaving,
+        &mut records,
+        origin,
+        ids.as_slice(),
+    )?;
     Ok(records)
 }
 

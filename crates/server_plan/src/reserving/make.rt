@@ -13,7 +13,7 @@ ghost use Rattle.server_plan.specs.reserving.Readies.{HasNoStep, HasRowRoom, IsR
 ghost use Rattle.server_checks.specs.verdicts.Views.{create_in};
 
 use crate::reserving::rows::new_row;
-use server_checks::{Tables, empties, has_bit};
+use server_checks::{Tables, empties, file_attributes, has_bit, made_attributes};
 use server_effects::{FileReady, Ready};
 use std::alloc::AllocError;
 use store_opens::Row;
@@ -147,7 +147,7 @@ fn found_ready(request: &CreateRequest, file: u64) -> FileReady
     if empties(request.disposition) {
         return FileReady::Emptied {
             file,
-            attributes: request.attributes,
+            attributes: file_attributes(request.attributes),
         };
     }
     FileReady::AsItIs { file }
@@ -161,7 +161,7 @@ fn new_ready(t: &mut Tables, request: &CreateRequest, now: u64) -> Result<FileRe
 {
     let directory = has_bit(request.options, 0x1);
     let path = request.path.as_str();
-    let attributes = request.attributes;
+    let attributes = made_attributes(request);
     match t.tree.prepare_make(path, directory, attributes, now) {
         Ok(file) => Ok(FileReady::New { file }),
         Err(_) => Err(AllocError),

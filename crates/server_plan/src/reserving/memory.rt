@@ -46,6 +46,7 @@ pub fn ready(
         Verdict::Make { found, action } => make_ready(t, m, found, action, now),
         Verdict::Alter { id, change, body } => alter_ready(t, m, id, change, body, now),
         Verdict::AddTree { pipes } => tree_ready(t, m, pipes),
+        Verdict::DropTree => tree_end_ready(t, m),
         Verdict::Challenge => challenge_ready(t, m, logon, None, now),
         Verdict::ChallengeBinding { session } => challenge_ready(t, m, logon, Some(session), now),
         Verdict::Begin {
@@ -97,7 +98,6 @@ fn plain_ready(verdict: Verdict) -> Result<Ready, AllocError>
         }),
         Verdict::CloseOpen { id, body } => Ok(Ready::CloseOpen { id, body }),
         Verdict::EndSession { session, quiet } => Ok(Ready::EndSession { session, quiet }),
-        Verdict::DropTree => Ok(Ready::DropTree),
         _ => Err(AllocError),
     }
 }
@@ -155,6 +155,19 @@ fn tree_ready(t: &mut Tables, m: &Message<'_>, pipes: bool) -> Result<Ready, All
 {
     match t.sessions.reserve_tree(m.session_id) {
         Ok(()) => Ok(Ready::AddTree { pipes }),
+        Err(error) => Err(error),
+    }
+}
+
+// The opens that are closed with their tree are listed first, so that their closes take no memory.
+fn tree_end_ready(t: &mut Tables, m: &Message<'_>) -> Result<Ready, AllocError>
+    ensures room { IfOk result (λ r. RoomFor t.new m.now.session_id m.now.connection r) }
+    ensures shown { (now : ℕ) → VerdictReadies t.old t.new (message_of m.now) now verdicts.DropTree result }
+    ensures plain { IfOk result (λ r. HasNoStep r) }
+    ensures kept { TablesKeep t.old t.new }
+{
+    match t.opens.opens_of_tree(m.session_id, m.tree_id) {
+        Ok(opens) => Ok(Ready::DropTree { opens }),
         Err(error) => Err(error),
     }
 }

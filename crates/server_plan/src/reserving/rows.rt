@@ -10,7 +10,7 @@ ghost use Rattle.server_checks.specs.Shown.{TablesShown};
 ghost use Rattle.server_effects.specs.Making.{RowFor};
 
 use crate::reserving::request::timeout_of;
-use server_checks::{Tables, mapped};
+use server_checks::{Tables, granted};
 use std::alloc::AllocError;
 use store_opens::{OpenParts, Row};
 use wire_commands::{CreateRequest, Durable, Message};
@@ -40,10 +40,11 @@ fn parts_for(
 ) -> OpenParts
     ensures opened { (s : Server) (user : List ℕ) → ShowsFiles t.now.tree s → user ≡ s.user m.now.session_id
         → open_with result user ≡ open_row s (message_of m.now) (create_of request.now) (new_file s found) action }
-    ensures session { (result.session ≡ Some m.now.session_id) × (result.sequence ≡ m.now.channel_sequence) }
+    ensures session { (result.session ≡ Some m.now.session_id) × (result.tree ≡ m.now.tree_id)
+        × (result.sequence ≡ m.now.channel_sequence) }
 {
     let file = file_for(t, found);
-    let access = mapped(request.access);
+    let access = granted(&t.tree, file, request.access);
     let persistent = is_persistent(request.durable);
     let guid = guid_of(request.durable);
     let timeout = timeout_asked(request.durable);
@@ -57,6 +58,7 @@ fn parts_for(
         client: m.client_guid,
         guid,
         session: Some(m.session_id),
+        tree: m.tree_id,
         sequence: m.channel_sequence,
         timeout,
     }

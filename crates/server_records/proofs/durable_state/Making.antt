@@ -242,6 +242,7 @@ parts f action n client guid =
       client = client;
       guid = Some guid;
       session = None;
+      tree = 0;
       sequence = 0;
       timeout = n.timeout;
     }

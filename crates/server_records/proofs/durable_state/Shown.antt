@@ -95,6 +95,7 @@ opens_behind t s ranges same h =
       given_is = h.given_is;
       count_is = h.count_is;
       rows_are = h.rows_are;
+      trees_are = h.trees_are;
       guids_are = h.guids_are;
       files_are = λ f. subst (λ (v : List Range). HeldShown (get nat_eq t.files f) (sharing_in s.opened s.opens f) v)
           (same f) (h.files_are f);

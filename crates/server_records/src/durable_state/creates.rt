@@ -210,6 +210,7 @@ impl Durable {
             client: guid_of(&new.client),
             guid: Some(guid_of(&new.guid)),
             session: None,
+            tree: 0,
             sequence: 0,
             timeout: new.timeout,
         };

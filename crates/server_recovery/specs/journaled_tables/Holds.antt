@@ -8,7 +8,7 @@ use Rattle.base_outside.specs.streams.Faults.{Rose}
 use Rattle.spec_wire.specs.journal.Grammar.{StandsFor}
 use Rattle.journal.specs.disk_journal.Journal.{JournalState, JournalSettled}
 use Rattle.wire_commands.specs.values.Meaning.{reply_of}
-use Rattle.spec_crypto.specs.tokens.Acceptor.{User}
+use Rattle.spec_crypto.specs.tokens.Tokens.{Users}
 use Rattle.spec_world.specs.Ends.{Logons}
 use Rattle.spec_world.specs.Lacking.{alone_records, Expires}
 use Rattle.server_checks.specs.setups.Setups.{progress_of}
@@ -100,7 +100,7 @@ EventRefused told seen may_leave faults (Stopped count) old new s L records now 
 
 -- what an event answers
 abbrev pub EventAnswers : {D : Type 0} → Type 0 → (D → List ℕ) → (D → List ℕ → Type 0) → (D → ℕ) → ServerState D → ServerState D
-    → List User → model.Server → Logons → List model.Record → ℕ → ServerEvent → Result Answer EventError → Type 0
+    → Users → model.Server → Logons → List model.Record → ℕ → ServerEvent → Result Answer EventError → Type 0
 EventAnswers told seen may_leave faults old new users s L records now e result =
     let ev = heard_event users L s e in MatchResult result
     (λ r. StepAnswers told seen may_leave new s L records now e r (step s now ev))

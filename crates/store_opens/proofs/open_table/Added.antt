@@ -15,7 +15,7 @@ use Rattle.store_opens.specs.lock_replay.Shown.{SlotsShown}
 use Rattle.store_opens.specs.declared.open_table.row.Row.{Row}
 use Rattle.store_opens.specs.declared.open_table.table.Opens.{Opens}
 use Rattle.store_opens.specs.declared.open_table.row.OpenParts.{OpenParts}
-use Rattle.store_opens.specs.open_table.Rows.{OpenRowShown, IsOpenNewRow, IsRestoredRow, open_of, parts_of}
+use Rattle.store_opens.specs.open_table.Rows.{OpenRowShown, OpenTreeShown, IsOpenNewRow, IsRestoredRow, open_of, parts_of}
 use Rattle.store_opens.specs.open_table.Changes.{created, restored, restore_refusal}
 use Rattle.law_server.proofs.tables.Logic.{front_off}
 use Rattle.store_opens.specs.declared.open_index.keep.SessionOpens.{SessionOpens}
@@ -107,14 +107,16 @@ index_added : (o q d : ℕ) (deadline : ℕ → Option ℕ) (P : ℕ → ℕ →
 index_added o q d deadline P was true h = absurd (cc)
 index_added o q d deadline P was false h = was q d h
 
-pub open_added : (t u : Opens) (o : ℕ) (row : Row) (n : ℕ) (s : model.Server) → Placed t u o row n
+pub open_added : (t u : Opens) (o : ℕ) (row : Row) (n : ℕ) (trees : ℕ → ℕ) (s : model.Server) → Placed t u o row n
+    → ((q : ℕ) → OpenTreeShown (if q == o then Some row else get nat_eq t.rows q) (trees q))
     → hash_map_len t.rows < 2 ^ 63 → Fits s → ShowsOpens t s → s.standing o ≡ false → row.deadline ≡ None → row.location
     ≡ None → SlotsShown row.slots (λ i. None)
     → ShowsOpens u (record (add_open s o (open_of row) row.session row.sequence) {
       open_ids_given = n;
+      tree_of_open = trees;
       guids = guids_with row.session row.guid s.guids;
     })
-open_added t u o row n s p few i h st no_deadline no_location no_slots =
+open_added t u o row n trees s p shown few i h st no_deadline no_location no_slots =
     record {
       epoch_is = h.epoch_is ∙ sym p.epoch;
       given_is = sym p.given;
@@ -128,6 +130,7 @@ open_added t u o row n s p few i h st no_deadline no_location no_slots =
             location_is = sym no_location;
             slots_are = no_slots;
           }));
+      trees_are = λ q. rw (p.rows q) (shown q);
       guids_are = λ c g. guid_put _ _ row.client row.guid (Some o) h.guids_are c g ∙ sym (p.guids c g);
       files_are = λ f. file_added t u o f row n s p few i h st (f == row.file) refl;
       sessions_are = p.counted.shown s.closed s.refused s.guids h.sessions_are;
@@ -159,6 +162,7 @@ next_free s i = by (s.standing (next_open s)) (λ e. i.open_ids (next_open s) e)
 pub created_is : (u : Opens) (s : model.Server) (row : Row) (p : OpenParts) (o : ℕ) → o ≡ next_open s → parts_of row ≡ p
     → ShowsOpens u (record (add_open s o (open_of row) row.session row.sequence) {
       open_ids_given = s.open_ids_given + 1;
+      tree_of_open = put s.tree_of_open o row.tree;
       guids = guids_with row.session row.guid s.guids;
     })
     → ShowsOpens u (created s p row.user)
@@ -166,6 +170,7 @@ created_is u s row p o e f h =
     subst (λ (q : OpenParts). ShowsOpens u (created s q row.user)) f
     (subst (λ (z : ℕ). ShowsOpens u (record (add_open s z (open_of row) row.session row.sequence) {
       open_ids_given = s.open_ids_given + 1;
+      tree_of_open = put s.tree_of_open z row.tree;
       guids = guids_with row.session row.guid s.guids;
     })) e h)
 
@@ -324,6 +329,7 @@ shows_noted t u s e more h =
       given_is = h.given_is;
       count_is = h.count_is;
       rows_are = h.rows_are;
+      trees_are = h.trees_are;
       guids_are = h.guids_are;
       files_are = h.files_are;
       sessions_are = h.sessions_are;

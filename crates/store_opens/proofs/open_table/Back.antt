@@ -1,4 +1,6 @@
 -- The table behind an open that comes back as it was.
+use Rattle.store_opens.specs.open_table.Rows.{OpenTreeShown}
+use Rattle.store_opens.proofs.open_table.RowLemmas.{tree_back}
 use Rattle.std.proofs.Common.{◌≡◌, ◌<◌, ◌^◌, ℕ, ◌+◌, ◌==◌, nat_eq, Bool, true, false, if◌then◌else◌, List, [], ◌∷◌}
 use Rattle.std.proofs.Common.{length, Option, Some, None, refl, sym, ap, subst, ◌∙◌, arith, eqb-true}
 use Rattle.std.specs.HashMap.{get, hash_map_len}
@@ -91,6 +93,8 @@ open_back t u o row s l few i h st free waits r =
       count_is = more_one (length (without o s.opens)) (length s.opens) (hash_map_len t.rows) (hash_map_len u.rows)
           (length_without o s.opens i.ascending (i.listed o ∙ st)) h.count_is l.len;
       rows_are = λ q. rw (l.rows q) (row_back (λ (q : ℕ) (x : Option Row). OpenRowFound x s q) q o _ row r (λ ne. rw ne at (h.rows_are q)));
+      trees_are = λ q. rw (l.rows q) (tree_back (λ (x : Option Row). OpenTreeShown x (s.tree_of_open q)) (q == o) _ row
+          (λ x k. absurd (let e2 = r.1.session_is in cc)) (λ ne. h.trees_are q));
       guids_are = λ c g. guid_back s.by_guid (λ a b. get pair_eq t.guids (a, b)) (s.opened o).client_guid
           (s.opened o).create_guid o (λ n k. i.open_guid o n st k) c g (h.guids_are c g)
           ∙ sym (rw (ap (λ (x : model.Open). x.client_guid) e, ap (λ (x : model.Open). x.create_guid) e) (l.guids c g));

@@ -14,7 +14,7 @@ use Rattle.store_opens.specs.lock_replay.Shown.{SlotsShown}
 use Rattle.store_opens.specs.declared.lock_replay.slots.Slots.{Slots}
 use Rattle.store_opens.specs.declared.open_table.row.Row.{Row}
 use Rattle.store_opens.specs.declared.open_table.table.Opens.{Opens}
-use Rattle.store_opens.specs.open_table.Rows.{OpenRowShown, offered_row, located_row, SlotsPut}
+use Rattle.store_opens.specs.open_table.Rows.{OpenRowShown, OpenTreeShown, offered_row, located_row, SlotsPut}
 use Rattle.store_opens.specs.open_table.Changes.{offered_to, located_at}
 use Rattle.store_opens.specs.open_table.Shown.{ShowsOpens}
 
@@ -26,9 +26,9 @@ pub record RowsChanged (t u : Opens) : Type 0 where
 pub shows_columns : (t u : Opens) (s : model.Server) (sequence : ℕ → ℕ) (location : ℕ → Option (List ℕ))
     (locks : ℕ → ℕ → Option model.Kept) → RowsChanged t u
     → ((q : ℕ) → OpenRowShown (get nat_eq u.rows q) (s.standing q) (s.opened q) (s.session_of_open q) (sequence q)
-    (s.deadline q) (location q) (locks q)) → ShowsOpens t s
+    (s.deadline q) (location q) (locks q)) → ((q : ℕ) → OpenTreeShown (get nat_eq u.rows q) (s.tree_of_open q)) → ShowsOpens t s
     → ShowsOpens u (record s { sequence = sequence; enumeration_location = location; lock_sequences = locks })
-shows_columns t u s sequence location locks c rows h =
+shows_columns t u s sequence location locks c rows trees h =
     subst (λ (v : Opens). ShowsOpens v (record s {
       sequence = sequence;
       enumeration_location = location;
@@ -38,6 +38,7 @@ shows_columns t u s sequence location locks c rows h =
       given_is = h.given_is;
       count_is = h.count_is ∙ sym c.len;
       rows_are = rows;
+      trees_are = trees;
       guids_are = h.guids_are;
       files_are = h.files_are;
       sessions_are = h.sessions_are;
@@ -76,6 +77,21 @@ row_offered true (Some r) n stands opened session sequence deadline location loc
 )
 row_offered false r n stands opened session sequence deadline location locks h = h
 
+tree_offered : (b : Bool) (r : Option Row) (tree n : ℕ) → OpenTreeShown r tree → OpenTreeShown (if b then offered_row n r else r) tree
+tree_offered true None tree n h = tt
+tree_offered true (Some r) tree n h = h
+tree_offered false r tree n h = h
+
+tree_located : (b : Bool) (r : Option Row) (tree : ℕ) (last : Option (List ℕ)) → OpenTreeShown r tree
+    → OpenTreeShown (if b then located_row last r else r) tree
+tree_located true None tree last h = tt
+tree_located true (Some r) tree last h = h
+tree_located false r tree last h = h
+
+tree_slots : (r w : Option Row) (P : Slots → Slots → Type 0) (tree : ℕ) → SlotsPut r w P → OpenTreeShown r tree → OpenTreeShown w tree
+tree_slots None w P tree p h = subst (λ (v : Option Row). OpenTreeShown v tree) (sym p) tt
+tree_slots (Some r) w P tree p h = subst (λ (v : Option Row). OpenTreeShown v tree) (sym p.1) h
+
 stays_at : (b : Bool) (q o n : ℕ) (f : ℕ → ℕ) → (q == o) ≡ b → is_stale n (f o) ≡ true → (if b then kept_after n (f q) else f q) ≡ f q
 stays_at true q o n f e st = subst (λ (z : ℕ). kept_after n (f z) ≡ f z) (sym (eqb-true q o e)) (kept_is n (f o) ∙ rw st refl)
 stays_at false q o n f e st = refl
@@ -93,16 +109,19 @@ shows_offered t u s o n c rows h =
     (λ e. shows_columns t u s s.sequence s.enumeration_location s.lock_sequences c
     (λ q. subst (λ (k : ℕ). OpenRowShown (get nat_eq u.rows q) (s.standing q) (s.opened q) (s.session_of_open q) k
     (s.deadline q) (s.enumeration_location q) (s.lock_sequences q)) (stays_at (q == o) q o n s.sequence refl e)
-    (shown q)) h)
+    (shown q)) trees h)
     (λ e. shows_columns t u s (put s.sequence o n) s.enumeration_location s.lock_sequences c
     (λ q. subst (λ (k : ℕ). OpenRowShown (get nat_eq u.rows q) (s.standing q) (s.opened q) (s.session_of_open q) k
     (s.deadline q) (s.enumeration_location q) (s.lock_sequences q)) (moves_at (q == o) q o n s.sequence refl e)
-    (shown q)) h)
+    (shown q)) trees h)
   where
     shown : (q : ℕ) → OpenRowShown (get nat_eq u.rows q) (s.standing q) (s.opened q) (s.session_of_open q)
         (if q == o then kept_after n (s.sequence q) else s.sequence q) (s.deadline q) (s.enumeration_location q)
         (s.lock_sequences q)
     shown q = rw (rows q) (row_offered (q == o) (get nat_eq t.rows q) n _ _ _ _ _ _ _ (h.rows_are q))
+
+    trees : (q : ℕ) → OpenTreeShown (get nat_eq u.rows q) (s.tree_of_open q)
+    trees q = rw (rows q) (tree_offered (q == o) (get nat_eq t.rows q) (s.tree_of_open q) n (h.trees_are q))
 
 pub told_offered : (t : Opens) (s : model.Server) (o n : ℕ) (result : Offered) → ShowsOpens t s → s.standing o ≡ true
     → IfSome (get nat_eq t.rows o) (λ r. result ≡ offered n r.sequence) → result ≡ offered n (s.sequence o)
@@ -140,7 +159,8 @@ pub shows_located : (t u : Opens) (s : model.Server) (o : ℕ) (last : Option (L
     → ShowsOpens t s → ShowsOpens u (located_at s o last)
 shows_located t u s o last c rows h =
     shows_columns t u s s.sequence (put s.enumeration_location o last) s.lock_sequences c
-    (λ q. rw (rows q) (row_located (q == o) (get nat_eq t.rows q) last _ _ _ _ _ _ _ (h.rows_are q))) h
+    (λ q. rw (rows q) (row_located (q == o) (get nat_eq t.rows q) last _ _ _ _ _ _ _ (h.rows_are q)))
+    (λ q. rw (rows q) (tree_located (q == o) (get nat_eq t.rows q) (s.tree_of_open q) last (h.trees_are q))) h
 
 -- ---- slots
 
@@ -169,7 +189,8 @@ pub shows_slot : (t u : Opens) (s : model.Server) (o index : ℕ) (kept : model.
     → ((q : ℕ) → (q == o) ≡ false → get nat_eq u.rows q ≡ get nat_eq t.rows q)
     → ShowsOpens t s → ShowsOpens u (record s { lock_sequences = put2 s.lock_sequences o index (Some kept) })
 shows_slot t u s o index kept c there others h =
-    shows_columns t u s s.sequence s.enumeration_location (put2 s.lock_sequences o index (Some kept)) c (λ q. by q (q == o) refl) h
+    shows_columns t u s s.sequence s.enumeration_location (put2 s.lock_sequences o index (Some kept)) c (λ q. by q (q == o) refl)
+    (λ q. tree_by q (q == o) refl) h
   where
     here : put2 s.lock_sequences o index (Some kept) o ≡ put (s.lock_sequences o) index (Some kept)
     here = λ t i. cell i t
@@ -196,6 +217,11 @@ shows_slot t u s o index kept c there others h =
     by q false e = subst (λ (k : ℕ → Option model.Kept). OpenRowShown (get nat_eq u.rows q) (s.standing q) (s.opened q)
         (s.session_of_open q) (s.sequence q) (s.deadline q) (s.enumeration_location q) k) (sym (other q e))
         (rw (others q e) (h.rows_are q))
+
+    tree_by : (q : ℕ) (b : Bool) → (q == o) ≡ b → OpenTreeShown (get nat_eq u.rows q) (s.tree_of_open q)
+    tree_by q true e = subst (λ (z : ℕ). OpenTreeShown (get nat_eq u.rows z) (s.tree_of_open z)) (sym (eqb-true q o e))
+        (tree_slots (get nat_eq t.rows o) (get nat_eq u.rows o) _ (s.tree_of_open o) there (h.trees_are o))
+    tree_by q false e = rw (others q e) (h.trees_are q)
 
 is_one : (i : ℕ) → 1 ≤ i → i ≤ 64 → is_slot i ≡ true
 is_one i a b = grind (arith, nat_tests)

@@ -1,4 +1,5 @@
 -- The table behind the first deadlines, and the open that is due by its index.
+use Rattle.store_opens.proofs.open_table.RowLemmas.{tree_dated}
 use Rattle.std.proofs.Common.{◌≡◌, ◌<◌, ◌^◌, vec_len, vec_capacity, ◌≤◌, ℕ, ◌==◌, nat_eq, nat_le}
 use Rattle.std.proofs.Common.{Bool, true, false, not, ◌&&◌, if◌then◌else◌, ◌⊎◌, inl, inr, List, [], ◌∷◌, length, Option}
 use Rattle.std.proofs.Common.{Some, None, is_some, refl, sym, ap, subst, ◌∙◌, arith, eqb-true}
@@ -79,6 +80,7 @@ open_dated t u now s a h =
       given_is = h.given_is ∙ sym a.given;
       count_is = h.count_is ∙ sym a.len;
       rows_are = λ q. rows_at q;
+      trees_are = λ q. rw (a.rows q) (tree_dated (has q t.undated.items) (get nat_eq t.rows q) _ now (h.trees_are q));
       guids_are = λ c g. subst (λ (m : _). s.by_guid c g ≡ get pair_eq m (c, g)) (sym a.guids) (h.guids_are c g);
       files_are = λ f. subst (λ (m : _). HeldShown (get nat_eq m f) (sharing_in s.opened s.opens f) (s.ranges f))
           (sym a.files) (h.files_are f);

@@ -1,4 +1,5 @@
 -- The table behind an open that leaves.
+use Rattle.store_opens.proofs.open_table.RowLemmas.{tree_dropped}
 use Rattle.std.proofs.Common.{◌≡◌, ℕ, ◌+◌, ◌==◌, nat_eq, Bool, true, false, if◌then◌else◌, ◌∷◌, length}
 use Rattle.std.proofs.Common.{Option, Some, None, is_some, IfSome, refl, sym, ap, subst, ◌∙◌, arith, eqb-true}
 use Rattle.std.specs.HashMap.{get, hash_map_len}
@@ -85,6 +86,7 @@ open_left t u o row s closed l i h st k =
       count_is = less_one (length (without o s.opens)) (length s.opens) (hash_map_len u.rows) (hash_map_len t.rows)
           (length_without o s.opens i.ascending (i.listed o ∙ st)) h.count_is l.len;
       rows_are = λ q. rw (l.rows q) (row_dropped (q == o) _ _ _ _ _ _ _ _ (h.rows_are q));
+      trees_are = λ q. rw (l.rows q) (tree_dropped (q == o) _ _ (h.trees_are q));
       guids_are = λ c g. rw (ap (λ (w : model.Open). w.client_guid) e, ap (λ (w : model.Open). w.create_guid) e)
           (guid_put _ _ row.client row.guid None h.guids_are c g ∙ sym (l.guids c g));
       files_are = λ f. subst (λ (w : model.Open). HeldShown (get nat_eq u.files f)

@@ -20,6 +20,7 @@ shows_nothing t epoch given count rows guids files sessions expired =
       given_is = sym given;
       count_is = sym (rw rows refl);
       rows_are = λ o. rw (empty_get nat_eq t.rows o rows) refl;
+      trees_are = λ o. rw (empty_get nat_eq t.rows o rows) tt;
       guids_are = λ c g. sym (empty_get pair_eq t.guids (c, g) guids);
       files_are = λ f. rw (empty_get nat_eq t.files f files) (refl, refl);
       sessions_are = λ x. rw (empty_get nat_eq t.sessions x sessions) (record {

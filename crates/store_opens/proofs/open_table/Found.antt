@@ -1,10 +1,11 @@
 -- What a look at a row or at a count says of the state.
-use Rattle.std.proofs.Common.{◌≡◌, ◌<◌, ◌≤◌, ℕ, nat_eq, nat_le, Bool, true, false}
+use Rattle.spec_exchange.specs.Table.{is_at}
+use Rattle.std.proofs.Common.{ap, ◌==◌, ◌&&◌, ◌≡◌, ◌<◌, ◌≤◌, ℕ, nat_eq, nat_le, Bool, true, false}
 use Rattle.std.proofs.Common.{Option, Some, None, refl, sym, subst, arith}
 use Rattle.std.proofs.lemmas.Bool.Decides.{nat_tests}
 use Rattle.std.specs.HashMap.{get}
 use Rattle.spec_exchange.specs.State as model
-use Rattle.spec_exchange.specs.Opens.{max_ids}
+use Rattle.spec_exchange.specs.Opens.{is_of_tree, max_ids}
 use Rattle.store_opens.specs.declared.open_index.keep.SessionOpens.{SessionOpens}
 use Rattle.store_opens.specs.declared.open_index.keep.KeptResult.{KeptResult}
 use Rattle.store_opens.specs.declared.open_index.keep.KeptResult.TheVariants.{Standing, Closed, Refused}
@@ -12,7 +13,7 @@ use Rattle.store_opens.specs.open_index.Keep.{SessionShown, ResultShown, kept_of
 use Rattle.store_opens.specs.declared.open_table.row.Row.{Row}
 use Rattle.store_opens.specs.declared.open_table.row.OpenParts.{OpenParts}
 use Rattle.store_opens.specs.declared.open_table.table.Opens.{Opens}
-use Rattle.store_opens.specs.open_table.Rows.{OpenRowFound, PartsFound, parts_of}
+use Rattle.store_opens.specs.open_table.Rows.{OpenRowFound, OpenTreeShown, PartsFound, parts_of}
 use Rattle.store_opens.specs.open_table.Kept.{kept_result}
 use Rattle.store_opens.specs.open_table.Shown.{ShowsOpens}
 
@@ -30,6 +31,22 @@ parts_found s o r p h e =
         sequence_is = h.1.sequence_is;
       },
     )
+
+-- the row of an open tells whether it is one of a session's tree
+pub row_of_tree : (s : model.Server) (o x tree : ℕ) (r : Row) → OpenRowFound (Some r) s o → OpenTreeShown (Some r) (s.tree_of_open o)
+    → (is_at x r.session && (r.tree == tree)) ≡ is_of_tree s o x tree
+row_of_tree s o x tree r e k = rw (e.0, e.1.session_is) (by r.session refl)
+  where
+    by : (u : Option ℕ) → r.session ≡ u → (is_at x u && (r.tree == tree)) ≡ (is_at x u && (s.tree_of_open o == tree))
+    by None q = refl
+    by (Some y) q = ap (λ (z : ℕ). is_at x (Some y) && (z == tree)) (sym (k y q))
+
+pub tree_found : (t : Opens) (s : model.Server) (o : ℕ) (r : Option Row) → ShowsOpens t s → r ≡ get nat_eq t.rows o
+    → OpenTreeShown r (s.tree_of_open o)
+tree_found t s o r h e = subst (λ (v : Option Row). OpenTreeShown v (s.tree_of_open o)) (sym e) (h.trees_are o)
+
+pub not_of_tree : (s : model.Server) (o x tree : ℕ) → OpenRowFound None s o → false ≡ is_of_tree s o x tree
+not_of_tree s o x tree e = rw e refl
 
 -- ---- what a session keeps
 

@@ -109,6 +109,7 @@ shows_ranges t u s f rs e files h there =
       given_is = h.given_is;
       count_is = h.count_is;
       rows_are = h.rows_are;
+      trees_are = h.trees_are;
       guids_are = h.guids_are;
       files_are = λ g. rw (files g) (held_put (g == f) (get nat_eq t.files g) (sharing_in s.opened s.opens g)
           (s.ranges g) rs (filled g) (h.files_are g));

@@ -1,4 +1,5 @@
 -- The table behind an open that is attached or comes back, a session's end and the first deadlines.
+use Rattle.store_opens.proofs.open_table.RowLemmas.{tree_attached, tree_detached}
 use Rattle.std.proofs.Common.{◌≡◌, ℕ, ◌==◌, nat_eq, Bool, true, false, not, ◌&&◌, if◌then◌else◌}
 use Rattle.std.proofs.Common.{◌⊎◌, inl, inr, List, Option, Some, None, is_some, refl, sym, ap}
 use Rattle.std.proofs.Common.{subst, ◌∙◌, arith, eqb-true}
@@ -54,12 +55,12 @@ deadline_of t s o h st = by (get nat_eq t.rows o) (h.rows_are o)
 -- ---- attached
 
 row_attached : (b : Bool) (r : Option Row) (stands : Bool) (opened : model.Open) (session : Option ℕ) (sequence : ℕ)
-    (deadline : Option ℕ) (location : Option (List ℕ)) (locks : ℕ → Option model.Kept) (x n : ℕ)
+    (deadline : Option ℕ) (location : Option (List ℕ)) (locks : ℕ → Option model.Kept) (x tree n : ℕ)
     → OpenRowShown r stands opened session sequence deadline location locks
-    → OpenRowShown (if b then attached_row x n r else r) stands opened (if b then Some x else session)
+    → OpenRowShown (if b then attached_row x tree n r else r) stands opened (if b then Some x else session)
     (if b then n else sequence) (if b then None else deadline) location locks
-row_attached true None stands opened session sequence deadline location locks x n h = h
-row_attached true (Some r) stands opened session sequence deadline location locks x n h = (
+row_attached true None stands opened session sequence deadline location locks x tree n h = h
+row_attached true (Some r) stands opened session sequence deadline location locks x tree n h = (
   h.0,
   record {
     opened_is = h.1.opened_is;
@@ -70,10 +71,10 @@ row_attached true (Some r) stands opened session sequence deadline location lock
     slots_are = h.1.slots_are;
   },
 )
-row_attached false r stands opened session sequence deadline location locks x n h = h
+row_attached false r stands opened session sequence deadline location locks x tree n h = h
 
-pub record Attached (t u : Opens) (o x n : ℕ) : Type 0 where
-  pub rows : (q : ℕ) → get nat_eq u.rows q ≡ (if q == o then attached_row x n (get nat_eq t.rows q) else get nat_eq t.rows q)
+pub record Attached (t u : Opens) (o x tree n : ℕ) : Type 0 where
+  pub rows : (q : ℕ) → get nat_eq u.rows q ≡ (if q == o then attached_row x tree n (get nat_eq t.rows q) else get nat_eq t.rows q)
   pub len : hash_map_len u.rows ≡ hash_map_len t.rows
   pub counted : SessionsCount (λ q. get nat_eq t.sessions q) (λ q. get nat_eq u.sessions q) (one_more x)
   pub here : (g : ℕ) → guid_at (get nat_eq t.rows o) ≡ Some g → keep_names (get nat_eq u.sessions x) g ≡ true
@@ -101,14 +102,15 @@ guid_of t s o h st = by (get nat_eq t.rows o) (h.rows_are o)
 pub some_same : (x y : ℕ) → Some x ≡ Some y → x ≡ y
 some_same x y e = cc
 
-pub open_attached : (t u : Opens) (o x n : ℕ) (s : model.Server) → Attached t u o x n → ShowsOpens t s → s.standing o
-    ≡ true → ShowsOpens u (attached_to s o x n)
-open_attached t u o x n s a h st =
+pub open_attached : (t u : Opens) (o x tree n : ℕ) (s : model.Server) → Attached t u o x tree n → ShowsOpens t s → s.standing o
+    ≡ true → ShowsOpens u (attached_to s o x tree n)
+open_attached t u o x tree n s a h st =
     record {
       epoch_is = h.epoch_is ∙ sym a.epoch;
       given_is = h.given_is ∙ sym a.given;
       count_is = h.count_is ∙ sym a.len;
-      rows_are = λ q. rw (a.rows q) (row_attached (q == o) _ _ _ _ _ _ _ _ x n (h.rows_are q));
+      rows_are = λ q. rw (a.rows q) (row_attached (q == o) _ _ _ _ _ _ _ _ x tree n (h.rows_are q));
+      trees_are = λ q. rw (a.rows q) (tree_attached (q == o) _ _ x tree n (h.trees_are q));
       guids_are = λ c g. subst (λ (m : _). s.by_guid c g ≡ get pair_eq m (c, g)) (sym a.guids) (h.guids_are c g);
       files_are = λ f. subst (λ (m : _). HeldShown (get nat_eq m f) (sharing_in s.opened s.opens f) (s.ranges f))
           (sym a.files) (h.files_are f);
@@ -239,6 +241,7 @@ open_detached t u x now s a h i none =
       given_is = h.given_is ∙ sym a.given;
       count_is = h.count_is ∙ sym a.len;
       rows_are = λ q. rw (a.rows q) (row_detached (get nat_eq t.rows q) _ _ _ _ _ _ _ x now (h.rows_are q));
+      trees_are = λ q. rw (a.rows q) (tree_detached (get nat_eq t.rows q) _ x now (h.trees_are q));
       guids_are = λ c g. subst (λ (m : _). s.by_guid c g ≡ get pair_eq m (c, g)) (sym a.guids) (h.guids_are c g);
       files_are = λ f. subst (λ (m : _). HeldShown (get nat_eq m f) (sharing_in s.opened s.opens f) (s.ranges f))
           (sym a.files) (h.files_are f);
@@ -259,15 +262,15 @@ open_detached t u x now s a h i none =
 
 -- ---- one that has a session stays
 
-pub attached_fresh : (u : Opens) (s : model.Server) (o x n : ℕ) (b : Bool) → b ≡ not (is_some (s.session_of_open o)) → b
-    ≡ true → ShowsOpens u (attached_to s o x n) → ShowsOpens u (attached_if s o x n)
-attached_fresh u s o x n b e t h = either (λ (v : model.Server). ShowsOpens u v) (is_some (s.session_of_open o)) s
-    (attached_to s o x n) (λ q. absurd (grind arith)) (λ q. h)
+pub attached_fresh : (u : Opens) (s : model.Server) (o x tree n : ℕ) (b : Bool) → b ≡ not (is_some (s.session_of_open o)) → b
+    ≡ true → ShowsOpens u (attached_to s o x tree n) → ShowsOpens u (attached_if s o x tree n)
+attached_fresh u s o x tree n b e t h = either (λ (v : model.Server). ShowsOpens u v) (is_some (s.session_of_open o)) s
+    (attached_to s o x tree n) (λ q. absurd (grind arith)) (λ q. h)
 
-pub attached_stays : (u : Opens) (s : model.Server) (o x n : ℕ) (b : Bool) → b ≡ not (is_some (s.session_of_open o)) → b
-    ≡ false → ShowsOpens u s → ShowsOpens u (attached_if s o x n)
-attached_stays u s o x n b e t h = either (λ (v : model.Server). ShowsOpens u v) (is_some (s.session_of_open o)) s
-    (attached_to s o x n) (λ q. h) (λ q. absurd (grind arith))
+pub attached_stays : (u : Opens) (s : model.Server) (o x tree n : ℕ) (b : Bool) → b ≡ not (is_some (s.session_of_open o)) → b
+    ≡ false → ShowsOpens u s → ShowsOpens u (attached_if s o x tree n)
+attached_stays u s o x tree n b e t h = either (λ (v : model.Server). ShowsOpens u v) (is_some (s.session_of_open o)) s
+    (attached_to s o x tree n) (λ q. h) (λ q. absurd (grind arith))
 
 -- ---- a session's end, from what the calls ensure
 

@@ -19,7 +19,7 @@ use Rattle.store_opens.specs.open_table.Changes.{first_above}
 use Rattle.store_opens.specs.open_table.Shown.{ShowsOpens}
 use Rattle.store_opens.proofs.open_table.DueLemmas.{first, plain_same}
 
-at_session : (x : ℕ) (session : Option ℕ) → is_at x session ≡ true → session ≡ Some x
+pub at_session : (x : ℕ) (session : Option ℕ) → is_at x session ≡ true → session ≡ Some x
 at_session x None e = absurd (cc)
 at_session x (Some z) e = ap Some (eqb-true z x e)
 

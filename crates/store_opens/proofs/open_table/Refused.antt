@@ -32,6 +32,7 @@ shows_refused t u m s x g status e r c f h =
       given_is = h.given_is;
       count_is = h.count_is;
       rows_are = h.rows_are;
+      trees_are = h.trees_are;
       guids_are = h.guids_are;
       files_are = h.files_are;
       sessions_are = c.shown s.closed (put2 s.refused x g (Some status)) s.guids (r.shown s.closed s.refused s.guids f h.sessions_are);

@@ -8,7 +8,7 @@ use Rattle.spec_exchange.specs.Effects.{cleared, dated}
 use Rattle.spec_exchange.specs.Step.{first_deadline}
 use Rattle.law_server.proofs.tables.Logic.{either}
 use Rattle.store_opens.specs.declared.open_table.row.Row.{Row}
-use Rattle.store_opens.specs.open_table.Rows.{OpenRowIs, OpenRowShown, open_of, detached_row}
+use Rattle.store_opens.specs.open_table.Rows.{OpenRowIs, OpenRowShown, OpenTreeShown, open_of, attached_row, detached_row}
 use Rattle.store_opens.specs.open_table.Due.{dated_row}
 
 -- a new row stands at the id, or the old one where it is another
@@ -112,6 +112,46 @@ row_dated (Some r) stands opened session sequence deadline location locks now h 
     slots_are = h.1.slots_are;
   },
 )
+
+-- ---- the tree of an attached open
+
+pub tree_added : (b : Bool) (old : Option Row) (w : Row) (tree new : ℕ) → OpenTreeShown old tree
+    → ((x : ℕ) → w.session ≡ Some x → new ≡ w.tree) → OpenTreeShown (if b then Some w else old) (if b then new else tree)
+tree_added true old w tree new h n = n
+tree_added false old w tree new h n = h
+
+-- one that isn't attached
+pub tree_kept : (b : Bool) (old : Option Row) (w : Row) (tree : ℕ) → w.session ≡ None → OpenTreeShown old tree
+    → OpenTreeShown (if b then Some w else old) tree
+tree_kept true old w tree e h = λ x k. absurd (cc (e, k))
+tree_kept false old w tree e h = h
+
+pub tree_back : (P : Option Row → Type 0) (b : Bool) (old : Option Row) (w : Row) → P (Some w) → (b ≡ false → P old)
+    → P (if b then Some w else old)
+tree_back P true old w here there = here
+tree_back P false old w here there = there refl
+
+pub tree_dropped : (b : Bool) (old : Option Row) (tree : ℕ) → OpenTreeShown old tree → OpenTreeShown (if b then None else old) tree
+tree_dropped true old tree h = tt
+tree_dropped false old tree h = h
+
+pub tree_attached : (b : Bool) (r : Option Row) (tree x t n : ℕ) → OpenTreeShown r tree
+    → OpenTreeShown (if b then attached_row x t n r else r) (if b then t else tree)
+tree_attached true None tree x t n h = tt
+tree_attached true (Some r) tree x t n h = λ y e. refl
+tree_attached false r tree x t n h = h
+
+pub tree_detached : (r : Option Row) (tree x now : ℕ) → OpenTreeShown r tree → OpenTreeShown (detached_row x now r) tree
+tree_detached None tree x now h = tt
+tree_detached (Some r) tree x now h = either (λ (w : Option Row). OpenTreeShown w tree) (is_at x r.session) (Some (record r {
+  session = None;
+  deadline = dated x now (open_of r) r.session r.deadline;
+})) (Some r) (λ e y q. absurd (cc)) (λ e. h)
+
+pub tree_dated : (b : Bool) (r : Option Row) (tree now : ℕ) → OpenTreeShown r tree → OpenTreeShown (if b then dated_row now r else r) tree
+tree_dated true None tree now h = tt
+tree_dated true (Some r) tree now h = h
+tree_dated false r tree now h = h
 
 -- ---- rows behind a loop over a list of ids
 

@@ -57,6 +57,7 @@ shows_same t u s m h =
       given_is = h.given_is ∙ sym m.given;
       count_is = h.count_is ∙ sym m.len;
       rows_are = λ o. rw (m.rows o) (h.rows_are o);
+      trees_are = λ o. rw (m.rows o) (h.trees_are o);
       guids_are = λ c g. h.guids_are c g ∙ sym (m.guids c g);
       files_are = λ f. rw (m.files f) (h.files_are f);
       sessions_are = λ x. m.sessions.shown x (s.closed x) (s.refused x) (s.guids x) (h.sessions_are x);

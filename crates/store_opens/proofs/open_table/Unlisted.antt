@@ -15,6 +15,7 @@ shows_unlisted t u o s e m none h =
       given_is = h.given_is;
       count_is = h.count_is;
       rows_are = h.rows_are;
+      trees_are = h.trees_are;
       guids_are = h.guids_are;
       files_are = h.files_are;
       sessions_are = λ x. m.shown x (s.closed x) (s.refused x) (s.guids x) (h.sessions_are x);

@@ -40,6 +40,7 @@ abbrev pub created : Server → OpenParts → List ℕ → Server
 created s p user =
     record (add_open s (next_open s) (open_with p user) p.session p.sequence) {
       open_ids_given = s.open_ids_given + 1;
+      tree_of_open = put s.tree_of_open (next_open s) p.tree;
       guids = guids_with p.session p.guid s.guids;
     }
 
@@ -72,19 +73,20 @@ row_refusal r guid session user =
     else if is_some r.session && not (is_at session r.session) then Some object_name_not_found
     else None
 
--- an open without a session becomes this one's, with the request's sequence
-abbrev pub attached_to : Server → ℕ → ℕ → ℕ → Server
-attached_to s o session sequence =
+-- an open without a session becomes this one's, with the request's tree and sequence
+abbrev pub attached_to : Server → ℕ → ℕ → ℕ → ℕ → Server
+attached_to s o session tree sequence =
     record s {
       session_of_open = put s.session_of_open o (Some session);
+      tree_of_open = put s.tree_of_open o tree;
       sequence = put s.sequence o sequence;
       deadline = put s.deadline o None;
       guids = one_more session s.guids;
     }
 
--- one that is this session's already keeps its sequence
-abbrev pub attached_if : Server → ℕ → ℕ → ℕ → Server
-attached_if s o session sequence = if is_some (s.session_of_open o) then s else attached_to s o session sequence
+-- one that is this session's already keeps its tree and its sequence
+abbrev pub attached_if : Server → ℕ → ℕ → ℕ → ℕ → Server
+attached_if s o session tree sequence = if is_some (s.session_of_open o) then s else attached_to s o session tree sequence
 
 -- ---- what leaves
 

@@ -1,5 +1,5 @@
 -- A row of the table shows the model's columns at its id (MS-SMB2 3.3.1.10).
-use Rattle.std.specs.Prelude.{◌≡◌, ℕ, Bool, true, false, if◌then◌else◌, List, Option, Some, None}
+use Rattle.std.specs.Prelude.{◌≡◌, ℕ, Bool, true, false, if◌then◌else◌, List, Option, Some, None, ⊤}
 use Rattle.spec_exchange.specs.Table.{is_at}
 use Rattle.spec_exchange.specs.State as model
 use Rattle.spec_exchange.specs.Effects.{dated}
@@ -40,6 +40,11 @@ OpenRowShown None stands opened session sequence deadline location lock_sequence
 OpenRowShown (Some r) stands opened session sequence deadline location lock_sequences = (stands ≡ true)
     × OpenRowIs r opened session sequence deadline location lock_sequences
 
+-- the tree of an open that is attached
+abbrev pub OpenTreeShown : Option Row → ℕ → Type 0
+OpenTreeShown None tree = ⊤
+OpenTreeShown (Some r) tree = (x : ℕ) → r.session ≡ Some x → tree ≡ r.tree
+
 -- the row at an id of a state
 abbrev pub OpenRowFound : Option Row → model.Server → ℕ → Type 0
 OpenRowFound r s o = OpenRowShown r (s.standing o) (s.opened o) (s.session_of_open o) (s.sequence o) (s.deadline o)
@@ -59,6 +64,7 @@ parts_of r =
       client = r.client;
       guid = r.guid;
       session = r.session;
+      tree = r.tree;
       sequence = r.sequence;
       timeout = r.timeout;
     }
@@ -118,9 +124,14 @@ pub record IsRestoredRow (r : Row) (p : OpenParts) (user : List ℕ) : Type 0 wh
 
 -- ---- rows behind a change
 
-abbrev pub attached_row : ℕ → ℕ → Option Row → Option Row
-attached_row session sequence None = None
-attached_row session sequence (Some r) = Some (record r { session = Some session; sequence = sequence; deadline = None })
+abbrev pub attached_row : ℕ → ℕ → ℕ → Option Row → Option Row
+attached_row session tree sequence None = None
+attached_row session tree sequence (Some r) = Some (record r {
+  session = Some session;
+  tree = tree;
+  sequence = sequence;
+  deadline = None;
+})
 
 -- behind a request of this channel sequence
 abbrev pub offered_row : ℕ → Option Row → Option Row

@@ -5,7 +5,7 @@ use Rattle.std.specs.HashMap.{get, hash_map_len, spare}
 use Rattle.std.specs.HashSet as set
 use Rattle.spec_exchange.specs.Table.{has}
 use Rattle.spec_exchange.specs.State as model
-use Rattle.store_opens.specs.open_table.Rows.{OpenRowShown}
+use Rattle.store_opens.specs.open_table.Rows.{OpenRowShown, OpenTreeShown}
 use Rattle.store_opens.specs.open_index.Held.{HeldShown, sharing_in}
 use Rattle.store_opens.specs.open_index.Keep.{SessionShown, keep_lists, lists_plain, keep_names, HasKeepPlace}
 use Rattle.store_opens.specs.open_index.Index.{IsOpenIndexed}
@@ -16,7 +16,7 @@ abbrev pub pair_eq : ℕ × ℕ → ℕ × ℕ → Bool
 pair_eq x y = nat_eq x.0 y.0 && nat_eq x.1 y.1
 
 pub record OpensShown (t : Opens) (epoch : ℕ) (opens : List ℕ) (standing : ℕ → Bool) (open_ids_given : ℕ) (opened : ℕ → model.Open)
-    (session_of_open : ℕ → Option ℕ) (sequence : ℕ → ℕ) (deadline : ℕ → Option ℕ) (enumeration_location : ℕ → Option (List ℕ))
+    (session_of_open : ℕ → Option ℕ) (tree_of_open : ℕ → ℕ) (sequence : ℕ → ℕ) (deadline : ℕ → Option ℕ) (enumeration_location : ℕ → Option (List ℕ))
     (lock_sequences : ℕ → ℕ → Option model.Kept) (by_guid : ℕ → ℕ → Option ℕ) (ranges : ℕ → List model.Range)
     (closed : ℕ → ℕ → Bool) (refused : ℕ → ℕ → Option ℕ) (guids : ℕ → ℕ) (expired_guids : ℕ → ℕ → Bool) (expired_count : ℕ) : Type 0 where
   pub epoch_is : epoch ≡ t.epoch
@@ -24,6 +24,7 @@ pub record OpensShown (t : Opens) (epoch : ℕ) (opens : List ℕ) (standing : �
   pub count_is : length opens ≡ hash_map_len t.rows
   pub rows_are : (o : ℕ) → OpenRowShown (get nat_eq t.rows o) (standing o) (opened o) (session_of_open o) (sequence o)
       (deadline o) (enumeration_location o) (lock_sequences o)
+  pub trees_are : (o : ℕ) → OpenTreeShown (get nat_eq t.rows o) (tree_of_open o)
   pub guids_are : (c g : ℕ) → by_guid c g ≡ get pair_eq t.guids (c, g)
   -- what is held of each file
   pub files_are : (f : ℕ) → HeldShown (get nat_eq t.files f) (sharing_in opened opens f) (ranges f)
@@ -39,7 +40,7 @@ pub record OpensShown (t : Opens) (epoch : ℕ) (opens : List ℕ) (standing : �
   pub undated : (o : ℕ) → standing o ≡ true → session_of_open o ≡ None → deadline o ≡ None → has o t.undated.items ≡ true
 
 abbrev pub ShowsOpens : Opens → model.Server → Type 0
-ShowsOpens t s = OpensShown t s.epoch s.opens s.standing s.open_ids_given s.opened s.session_of_open s.sequence
+ShowsOpens t s = OpensShown t s.epoch s.opens s.standing s.open_ids_given s.opened s.session_of_open s.tree_of_open s.sequence
     s.deadline s.enumeration_location s.lock_sequences s.by_guid s.ranges s.closed s.refused s.guids s.expired_guids
     s.expired_count
 

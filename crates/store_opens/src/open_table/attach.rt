@@ -116,25 +116,25 @@ impl Opens {
         }
     }
 
-    /// Attaches an open without a session to this one, for which `reserve_in` made room. One that has a session stays as
-    /// it is. It takes no memory.
-    pub fn put_attached(&mut self, id: u64, session: u64, sequence: u16)
+    /// Attaches an open without a session to this one and a tree of it, where `reserve_in` made room. One that has a session
+    /// stays as it is. It takes no memory.
+    pub fn put_attached(&mut self, id: u64, session: u64, tree: u32, sequence: u16)
         requires { HasOpensSessionRoom self.old session id }
-        ensures { (s : Server) → ShowsOpens self.old s → s.standing id ≡ true → ShowsOpens self.new (attached_if s id session sequence) }
+        ensures { (s : Server) → ShowsOpens self.old s → s.standing id ≡ true → ShowsOpens self.new (attached_if s id session tree sequence) }
     {
         if self.is_without_session(id) {
-            self.attach_one(id, session, sequence);
+            self.attach_one(id, session, tree, sequence);
         }
     }
 
     // An open without a session becomes this one's.
-    fn attach_one(&mut self, id: u64, session: u64, sequence: u16)
+    fn attach_one(&mut self, id: u64, session: u64, tree: u32, sequence: u16)
         requires { HasOpensSessionRoom self.old session id }
-        ensures { (s : Server) → ShowsOpens self.old s → s.standing id ≡ true → ShowsOpens self.new (attached_to s id session sequence) }
+        ensures { (s : Server) → ShowsOpens self.old s → s.standing id ≡ true → ShowsOpens self.new (attached_to s id session tree sequence) }
     {
         let deadline = deadline_at(&self.rows, id);
         self.deadlines.forget(deadline, id);
-        let guid = attach_row(&mut self.rows, id, session, sequence);
+        let guid = attach_row(&mut self.rows, id, session, tree, sequence);
         attach_in(&mut self.sessions, session, guid);
     }
 
@@ -148,18 +148,19 @@ impl Opens {
         }
     }
 
-    /// Attaches an open of this id and CreateGuid to a session, as a reconnect asks (MS-SMB2 3.3.5.9.12).
+    /// Attaches an open of this id and CreateGuid to a session and a tree of it, as a reconnect asks (MS-SMB2 3.3.5.9.12).
     pub fn attach(
         &mut self,
         id: u64,
         guid: u128,
         session: u64,
+        tree: u32,
         user: &str,
         sequence: u16,
     ) -> Result<(), OpenError>
         ensures { (s : Server) → ShowsOpens self.old s
             → MatchResult result (λ _. (attach_refusal s id guid session user.now ≡ None)
-            × ShowsOpens self.new (attached_if s id session sequence))
+            × ShowsOpens self.new (attached_if s id session tree sequence))
             (λ e. OpenTells e (attach_refusal s id guid session user.now) × ShowsOpens self.new s) }
     {
         if let Some(status) = self.attach_refusal(id, guid, session, user) {
@@ -167,7 +168,7 @@ impl Opens {
         }
         match self.reserve_in(session, id) {
             Ok(()) => {
-                self.put_attached(id, session, sequence);
+                self.put_attached(id, session, tree, sequence);
                 return Ok(());
             }
             Err(_) => return Err(OpenError::Memory),
@@ -210,16 +211,23 @@ fn is_elsewhere(kept: Option<u64>, session: u64) -> bool
     }
 }
 
-// The row of an open is the session's, with the request's sequence. Tells its CreateGuid.
-fn attach_row(rows: &mut HashMap<u64, Row>, id: u64, session: u64, sequence: u16) -> Option<u128>
+// The row of an open is the session's, with the request's tree and sequence. Tells its CreateGuid.
+fn attach_row(
+    rows: &mut HashMap<u64, Row>,
+    id: u64,
+    session: u64,
+    tree: u32,
+    sequence: u16,
+) -> Option<u128>
     ensures rows { (q : ℕ) → get nat_eq rows.new q
-        ≡ (if q == id then attached_row session sequence (get nat_eq rows.old q) else get nat_eq rows.old q) }
+        ≡ (if q == id then attached_row session tree sequence (get nat_eq rows.old q) else get nat_eq rows.old q) }
     ensures len { hash_map_len rows.new ≡ hash_map_len rows.old }
     ensures guid { result ≡ guid_at (get nat_eq rows.old id) }
 {
     match rows.get_mut(&id) {
         Some(row) => {
             row.session = Some(session);
+            row.tree = tree;
             row.sequence = Seen::new(sequence);
             row.deadline = None;
             row.guid

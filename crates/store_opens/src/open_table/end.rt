@@ -148,7 +148,7 @@ fn detach(row: &mut Row, session: u64, now: u64) -> Option<u64>
 }
 
 // The id is behind those of the list, where it is one.
-fn push_if(list: &mut Vec<u64>, id: u64, is_one: bool) -> Result<(), AllocError>
+pub(crate) fn push_if(list: &mut Vec<u64>, id: u64, is_one: bool) -> Result<(), AllocError>
     ensures { OnOk result (list.new.items ≡ (if is_one then list.old.items ++ id ∷ [] else list.old.items)) }
 {
     if !is_one {

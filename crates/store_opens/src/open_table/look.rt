@@ -1,9 +1,10 @@
 //! What the table tells. None of it takes memory but what hands out lists.
-ghost use Rattle.std.specs.Prelude.{◌≡◌, IsSome, ◌<◌, ◌≤◌, ◌==◌, ℕ, true, false, not, is_some, None, Some, map, length};
+ghost use Rattle.spec_exchange.specs.Table.{is_at};
+ghost use Rattle.std.specs.Prelude.{◌&&◌, ◌≡◌, IsSome, ◌<◌, ◌≤◌, ◌==◌, ℕ, true, false, not, is_some, None, Some, map, length};
 ghost use Rattle.std.specs.Prelude.{nat_le, MatchResult, if◌then◌else◌, option_copied, nat_eq};
 ghost use Rattle.std.specs.HashMap.{get};
 ghost use Rattle.spec_exchange.specs.State.{Server};
-ghost use Rattle.spec_exchange.specs.Opens.{file_has_open, opens_of, admits, max_ids};
+ghost use Rattle.spec_exchange.specs.Opens.{file_has_open, is_of_tree, opens_of, admits, max_ids};
 ghost use Rattle.spec_exchange.specs.CheckOpen.{is_stale, kept_status};
 ghost use Rattle.spec_exchange.specs.Ranges.{may_read, may_write};
 ghost use Rattle.spec_exchange.specs.Effects.{next_open};
@@ -53,6 +54,16 @@ impl Opens {
     fn is_attached(&self, id: u64, session: u64) -> bool {
         match self.rows.get(&id) {
             Some(row) => row.session == Some(session),
+            None => false,
+        }
+    }
+
+    /// Whether an open stands in this session, as one of this tree of it.
+    pub fn is_of_tree(&self, id: u64, session: u64, tree: u32) -> bool
+        ensures { (s : Server) → ShowsOpens self.now s → result ≡ is_of_tree s id session tree }
+    {
+        match self.rows.get(&id) {
+            Some(row) => is_row_of(row, session, tree),
             None => false,
         }
     }
@@ -265,5 +276,15 @@ fn kept_result(row: &SessionOpens, guid: u128) -> Option<KeptCreate>
         Some(KeptResult::Closed) => Some(KeptCreate::Closed),
         Some(KeptResult::Refused(status)) => Some(KeptCreate::Refused(*status)),
         _ => None,
+    }
+}
+
+// The row is of this session, and of this tree of it.
+fn is_row_of(row: &Row, session: u64, tree: u32) -> bool
+    ensures { result ≡ (is_at session row.now.session && (row.now.tree == tree)) }
+{
+    match row.session {
+        Some(kept) => (kept == session) & (row.tree == tree),
+        None => false,
     }
 }

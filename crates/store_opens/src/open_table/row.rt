@@ -6,7 +6,7 @@ use crate::lock_replay::Slots;
 use std::alloc::{AllocError, Global};
 use wire_bytes::Text;
 
-/// What a create makes an open with (MS-SMB2 3.3.1.10), and its session and channel sequence, which change later.
+/// What a create makes an open with (MS-SMB2 3.3.1.10), and its session, tree and channel sequence, which change later.
 ///
 /// `access` is mapped to its bits; `share` has read 1, write 2 and delete 4; `action` is superseded 0, opened 1, created 2
 /// or overwritten 3. GUIDs are numbers, their first byte the lowest. `timeout` counts milliseconds.
@@ -23,6 +23,8 @@ pub struct OpenParts {
     /// The CreateGuid.
     pub guid: Option<u128>,
     pub session: Option<u64>,
+    /// The id of the tree under which it is made, in that session.
+    pub tree: u32,
     pub sequence: u16,
     pub timeout: u32,
 }
@@ -40,8 +42,9 @@ pub struct Row {
     pub guid: Option<u128>,
     pub user: Text,
     pub timeout: u32,
-    /// The session to which it is attached.
+    /// The session to which it is attached, and the id of the tree under which it was made or attached there.
     pub session: Option<u64>,
+    pub tree: u32,
     /// The newest channel sequence that reached it.
     pub sequence: Seen,
     /// Without a session: when it expires, in 100 nanoseconds since 1601.
@@ -61,7 +64,7 @@ impl Row {
         Ok(new_row(made, user, slots))
     }
 
-    /// What it was made with, and its session and sequence as they are.
+    /// What it was made with, and its session, tree and sequence as they are.
     pub fn parts(&self) -> OpenParts
         ensures { result ≡ parts_of self.now }
     {
@@ -75,6 +78,7 @@ impl Row {
             client: self.client,
             guid: self.guid,
             session: self.session,
+            tree: self.tree,
             sequence: self.sequence.number(),
             timeout: self.timeout,
         }
@@ -96,6 +100,7 @@ fn new_row(made: &OpenParts, user: Text, slots: Slots) -> Row
         user,
         timeout: made.timeout,
         session: made.session,
+        tree: made.tree,
         sequence: Seen::new(made.sequence),
         deadline: None,
         location: None,

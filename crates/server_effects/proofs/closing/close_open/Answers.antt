@@ -1,48 +1,17 @@
-use Rattle.std.proofs.Common.{true, ◌∙◌}
-use Rattle.spec_exchange.specs.Commands.{deletes_on_close}
-use Rattle.spec_exchange.specs.Effects.{keep_closed}
-use Rattle.spec_exchange.specs.Files.{set_delete_pending}
-use Rattle.spec_exchange.specs.Opens.{drop_open, without_gone}
-use Rattle.server_checks.specs.Shown.{TablesShown}
-use Rattle.law_server.proofs.tables.FileEffects.{set_delete_pending_keeps}
-use Rattle.law_server.proofs.tables.Logic.{either}
-use Rattle.server_effects.proofs.Closes.{closing, exists_marked}
-use Rattle.server_effects.proofs.Steps.{config_kept, logons_kept, tree_config_kept, tree_logons_kept}
 use Rattle.server_effects.proofs.closing.close_open.Goals as goal
 
 pub returns-clause-shows : goal.returns-clause-shows
-returns-clause-shows c = λ now s f h a.
-    let x = c.args.m.now.session_id in
-    let e = c.file_of-file.ensures.shown s h.opens a.0 in
-    let there = f.open_files c.args.id a.0 in
-    record {
-      shows = either (λ u. TablesShown c.mark_behind.new.t u
-          → TablesShown c.drop_gone.new.t (keep_closed (without_gone (drop_open u c.args.id) (s.opened c.args.id).file) x
-          (s.opened c.args.id).create_guid))
-          (deletes_on_close (s.opened c.args.id).options) (set_delete_pending s (s.opened c.args.id).file true) s
-          (λ d k. closing c.shut.new.t c.drop_gone.new.t (set_delete_pending s (s.opened c.args.id).file true) c.args.id x
-          (s.opened c.args.id).file c.file_of-file.result (s.opened c.args.id).create_guid e
-          (exists_marked s (s.opened c.args.id).file (s.opened c.args.id).file there)
-          (c.shut.ensures.shows (set_delete_pending s (s.opened c.args.id).file true) x
-          (set_delete_pending_keeps s (s.opened c.args.id).file true
-          (λ _. f.not_root c.args.id d) f) k a.0 a.1) c.drop_gone.ensures.shows)
-          (λ _ k. closing c.shut.new.t c.drop_gone.new.t s c.args.id x (s.opened c.args.id).file c.file_of-file.result
-          (s.opened c.args.id).create_guid e there
-          (c.shut.ensures.shows s x f k a.0 a.1) c.drop_gone.ensures.shows)
-          (c.mark_behind.ensures.shows s h a.0);
-      reply = c.acting.ensures.reply;
-      acted = c.acting.ensures.acted_is;
-    }
+returns-clause-shows c = λ now s f h a. record {
+  shows = c.close_one.ensures.shows s c.args.m.now.session_id f h a.0 a.1;
+  reply = c.acting.ensures.reply;
+  acted = c.acting.ensures.acted_is;
+}
 
 pub returns-clause-bare : goal.returns-clause-bare
 returns-clause-bare c = c.acting.ensures.bare
 
 pub returns-clause-config : goal.returns-clause-config
-returns-clause-config c = tree_config_kept c.shut.new.t c.drop_gone.new.t _ c.drop_gone.ensures.kept
-    ∙ (config_kept c.mark_behind.new.t c.shut.new.t _ c.shut.ensures.kept
-    ∙ tree_config_kept c.args.t.now c.mark_behind.new.t _ c.mark_behind.ensures.kept)
+returns-clause-config c = c.close_one.ensures.config
 
 pub returns-clause-logons : goal.returns-clause-logons
-returns-clause-logons c = λ keys pending k. tree_logons_kept c.shut.new.t c.drop_gone.new.t _ c.drop_gone.ensures.kept keys pending
-    (logons_kept c.mark_behind.new.t c.shut.new.t _ c.shut.ensures.kept keys pending
-    (tree_logons_kept c.args.t.now c.mark_behind.new.t _ c.mark_behind.ensures.kept keys pending k))
+returns-clause-logons c = c.close_one.ensures.logons

@@ -6,7 +6,7 @@ use Rattle.server_checks.proofs.tables.Tables.names.Goals as goal
 pub returns-in-Some : goal.returns-in-Some
 unfolding names names_of_found
 returns-in-Some c = λ s t e.
-    rw c.in-Some.is (c.found_names.ensures s t
+    rw c.in-Some.is (c.found_refusal.ensures s t
     (found_exists s c.args.request.now.path c.in-Some.file (sym e ∙ c.in-Some.is)))
 
 pub returns-in-None : goal.returns-in-None

@@ -1,4 +1,4 @@
-use Rattle.std.proofs.Common.{subst, sym}
+use Rattle.std.proofs.Common.{subst, sym, ◌∙◌}
 use Rattle.wire_commands.specs.values.Meaning.{command_of, message_of}
 use Rattle.server_effects.proofs.verdict_effects.Arms.{ArmShows}
 use Rattle.server_effects.proofs.verdict_effects.Whole.{whole}
@@ -105,7 +105,7 @@ returns-in-AddTree-clause-config c = c.add_tree.ensures.config
 pub returns-in-DropTree-clause-shows : goal.returns-in-DropTree-clause-shows
 returns-in-DropTree-clause-shows c = λ s f i a. subst (λ (r : Ready). ArmShows c.args.t.now c.drop_tree.new.t c.drop_tree.result s
     (message_of c.args.m.now) c.args.now (command_of c.args.m.now.command) r) (sym c.in-DropTree.is)
-    (λ j b. c.drop_tree.ensures.shows c.args.now s f (whole c.args.t.now s j.others j.files) b) i a
+    (λ j b. c.drop_tree.ensures.shows c.args.now s f (whole c.args.t.now s j.others j.files) (c.as_slice.ensures.value ∙ j.stands)) i a
 
 pub returns-in-DropTree-clause-config : goal.returns-in-DropTree-clause-config
 returns-in-DropTree-clause-config c = c.drop_tree.ensures.config

@@ -5,7 +5,7 @@ use Rattle.server_plan.proofs.owed_records.create.durable_open.Goals as goal
 
 pub returns-then-not-durable : goal.returns-then-not-durable
 returns-then-not-durable c = λ s o h room there.
-    not_persistent s (message_of c.args.m.now) (create_of c.args.request.now) (durable_of c.args.durable)
+    not_persistent s (message_of c.args.m.now) (create_of c.args.request.now) c.args.access (durable_of c.args.durable)
     (not_true c.args.durable.persistent c.if-not-durable.true)
 
 pub returns-in-Some : goal.returns-in-Some

@@ -6,5 +6,5 @@ use Rattle.server_plan.proofs.owed_records.create.persistent_open.Goals as goal
 pub returns : goal.returns
 returns c = λ s h there e i.
     persistent s (message_of c.args.m.now) (create_of c.args.request.now) (durable_of c.args.durable) _ _ _ _ _ _ _ _ e i
-    c.guid_bytes-client.ensures c.guid_bytes-guid.ensures (c.in_ok-user.ensures s h there) c.mapped-access.ensures refl refl
+    c.guid_bytes-client.ensures c.guid_bytes-guid.ensures (c.in_ok-user.ensures s h there) refl refl
     c.timeout_of-timeout.ensures

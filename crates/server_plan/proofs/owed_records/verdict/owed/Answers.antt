@@ -4,7 +4,7 @@ use Rattle.server_plan.proofs.owed_records.Told.{none_owed, true_not}
 use Rattle.server_plan.proofs.owed_records.verdict.owed.Goals as goal
 
 pub returns-in-Make-clause-told : goal.returns-in-Make-clause-told
-returns-in-Make-clause-told c = rw c.in-Make.is (λ s f o t h w. c.create_records.ensures s o t h w.0 w.1 w.2)
+returns-in-Make-clause-told c = rw c.in-Make.is (λ s f o t h w. c.create_records.ensures s o t h w.0 w.1 w.2 w.3)
 
 pub returns-in-KeepSlot-clause-told : goal.returns-in-KeepSlot-clause-told
 returns-in-KeepSlot-clause-told c = rw c.in-KeepSlot.is (λ s f o t h w. c.lock_records.ensures s o w)
@@ -24,11 +24,14 @@ returns-in-Begin-clause-told c = rw c.in-Begin.is (λ s f o t h w. c.end_if_name
 pub returns-in-EndSession-clause-told : goal.returns-in-EndSession-clause-told
 returns-in-EndSession-clause-told c = rw c.in-EndSession.is (λ s f o t h w. c.end_records.ensures.told s f o t)
 
+pub returns-in-DropTree-clause-told : goal.returns-in-DropTree-clause-told
+returns-in-DropTree-clause-told c = rw c.in-DropTree.is (λ s f o t h w. c.tree_records.ensures s f o t)
+
 pub returns-in_default-clause-told : goal.returns-in_default-clause-told
 returns-in_default-clause-told c = λ s f o t h w. c.no_record.ensures
     ∙ none_owed s (message_of c.args.m.now) c.args.now (command_of c.args.m.now.command) c.args.verdict.now c.in_default.not-Make
     c.in_default.not-KeepSlot c.in_default.not-PutRanges c.in_default.not-Alter c.in_default.not-CloseOpen c.in_default.not-Begin
-    c.in_default.not-EndSession
+    c.in_default.not-EndSession c.in_default.not-DropTree
 
 pub returns-in-Make-clause-sure : goal.returns-in-Make-clause-sure
 returns-in-Make-clause-sure c = rw c.in-Make.is (λ h. absurd (true_not h))
@@ -50,3 +53,6 @@ returns-in-Begin-clause-sure c = rw c.in-Begin.is c.end_if_named.ensures.sure
 
 pub returns-in-EndSession-clause-sure : goal.returns-in-EndSession-clause-sure
 returns-in-EndSession-clause-sure c = rw c.in-EndSession.is c.end_records.ensures.sure
+
+pub returns-in-DropTree-clause-sure : goal.returns-in-DropTree-clause-sure
+returns-in-DropTree-clause-sure c = rw c.in-DropTree.is (λ h. absurd (true_not h))

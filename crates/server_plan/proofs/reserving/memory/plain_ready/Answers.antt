@@ -29,9 +29,6 @@ returns-in-CloseOpen-clause-stands c = λ k. rw c.in-CloseOpen.is refl
 pub returns-in-EndSession-clause-stands : goal.returns-in-EndSession-clause-stands
 returns-in-EndSession-clause-stands c = λ k. rw c.in-EndSession.is refl
 
-pub returns-in-DropTree-clause-stands : goal.returns-in-DropTree-clause-stands
-returns-in-DropTree-clause-stands c = λ k. rw c.in-DropTree.is refl
-
 pub returns-in-Refuse-clause-sure : goal.returns-in-Refuse-clause-sure
 returns-in-Refuse-clause-sure c = λ k. rw c.in-Refuse.is refl
 
@@ -59,10 +56,7 @@ returns-in-CloseOpen-clause-sure c = λ k. rw c.in-CloseOpen.is refl
 pub returns-in-EndSession-clause-sure : goal.returns-in-EndSession-clause-sure
 returns-in-EndSession-clause-sure c = λ k. rw c.in-EndSession.is refl
 
-pub returns-in-DropTree-clause-sure : goal.returns-in-DropTree-clause-sure
-returns-in-DropTree-clause-sure c = λ k. rw c.in-DropTree.is refl
-
 pub returns-clause-sure : goal.returns-clause-sure
 returns-clause-sure c = λ k. rest_wants k c.args.verdict c.in_default.not-Refuse c.in_default.not-Give
     c.in_default.not-TurnDown c.in_default.not-Tell c.in_default.not-Show
-    c.in_default.not-KeepSlot c.in_default.not-PutRanges c.in_default.not-CloseOpen c.in_default.not-EndSession c.in_default.not-DropTree
+    c.in_default.not-KeepSlot c.in_default.not-PutRanges c.in_default.not-CloseOpen c.in_default.not-EndSession

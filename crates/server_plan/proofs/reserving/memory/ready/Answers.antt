@@ -125,6 +125,25 @@ returns-in-AddTree-clause-sure c = wanted c.tree_ready.result (wants_memory (ver
 pub returns-in-AddTree-clause-kept : goal.returns-in-AddTree-clause-kept
 returns-in-AddTree-clause-kept c = c.tree_ready.ensures.kept
 
+pub returns-in-DropTree-clause-room : goal.returns-in-DropTree-clause-room
+returns-in-DropTree-clause-room c = c.tree_end_ready.ensures.room
+
+pub returns-in-DropTree-clause-shown : goal.returns-in-DropTree-clause-shown
+returns-in-DropTree-clause-shown c = λ p. subst (λ (v : Verdict). VerdictReadies c.args.t.now c.tree_end_ready.new.t
+    (message_of c.args.m.now) c.args.now
+    (verdict_of (command_of c.args.m.now.command) v) c.tree_end_ready.result) (sym c.in-DropTree.is) (c.tree_end_ready.ensures.shown c.args.now)
+
+pub returns-in-DropTree-clause-step : goal.returns-in-DropTree-clause-step
+returns-in-DropTree-clause-step c = if_ok_by c.tree_end_ready.result c.tree_end_ready.ensures.plain
+    (λ r h. alone_step c.args.t.now.sessions c.args.m.now.connection (option_copied c.args.logon) c.args.now r h)
+
+pub returns-in-DropTree-clause-sure : goal.returns-in-DropTree-clause-sure
+returns-in-DropTree-clause-sure c = wanted c.tree_end_ready.result (wants_memory (verdict_of (command_of c.args.m.now.command) c.args.verdict))
+    (ap (λ (v : Verdict). wants_memory (verdict_of (command_of c.args.m.now.command) v)) c.in-DropTree.is)
+
+pub returns-in-DropTree-clause-kept : goal.returns-in-DropTree-clause-kept
+returns-in-DropTree-clause-kept c = c.tree_end_ready.ensures.kept
+
 pub returns-in-Challenge-clause-room : goal.returns-in-Challenge-clause-room
 returns-in-Challenge-clause-room c = c.challenge_ready.ensures.room
 

@@ -9,4 +9,5 @@ returns c = if_ok_by c.new.result c.new.ensures (λ row n s h p.
     row_for s (message_of c.args.m.now) (create_of c.args.request.now) c.args.found c.args.action row
     c.parts_for-parts.result c.user-user.result.now n
     (c.parts_for-parts.ensures.opened s c.user-user.result.now h.files (c.user-user.ensures s h p))
-    c.parts_for-parts.ensures.session.0 c.parts_for-parts.ensures.session.1)
+    c.parts_for-parts.ensures.session.0 c.parts_for-parts.ensures.session.1
+    c.parts_for-parts.ensures.session.2)

@@ -1,4 +1,7 @@
-use Rattle.std.proofs.Common.{◌≡◌, ◌+◌, ℕ, sym, ap, subst, ◌∙◌, arith}
+use Rattle.std.specs.HashMap.{get}
+use Rattle.spec_exchange.specs.Table.{put}
+use Rattle.store_opens.proofs.open_table.RowLemmas.{tree_added}
+use Rattle.std.proofs.Common.{◌≡◌, ◌+◌, ◌==◌, ℕ, nat_eq, refl, sym, ap, subst, ◌∙◌, arith}
 use Rattle.spec_exchange.specs.State as model
 use Rattle.store_opens.specs.declared.open_table.table.Opens.{Opens}
 use Rattle.store_opens.specs.open_table.Shown.{HasRoomIn, next_of}
@@ -31,12 +34,13 @@ returns c = λ s p i h new.
     } in (
       e,
       created_is c.place.new.self s row p o e new.parts_are
-          (open_added t c.place.new.self o row (s.open_ids_given + 1) s
+          (open_added t c.place.new.self o row (s.open_ids_given + 1) (put s.tree_of_open o row.tree) s
           (placed_new t u c.place.new.self o row (s.open_ids_given + 1) s h st c.stand_new.ensures.counted c.stand_new.ensures.here
           (λ x q. c.stand_new.ensures.counted.listed x o (room_lists t row.session o x row.persistent room q))
           (λ x q f. c.stand_new.ensures.counted.plain x o (room_lists_plain t row.session o x row.persistent room q f))
           c.note_new.ensures.noted c.note_new.ensures.others
           (ap (λ (g : ℕ). record t { sessions = c.stand_new.new.sessions; undated = c.note_new.new.undated; given = g }) n)
           c.place.ensures.rows c.place.ensures.len c.place.ensures.guids c.place.ensures.file c.place.ensures.files c.place.ensures.rest)
+          (λ q. tree_added (q == o) (get nat_eq t.rows q) row (s.tree_of_open q) row.tree (h.trees_are q) (λ x k. refl))
           c.requires.0.3 i h st new.no_deadline new.no_location new.no_slots),
     )

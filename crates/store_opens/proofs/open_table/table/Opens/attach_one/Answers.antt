@@ -14,7 +14,7 @@ returns c = λ s h st.
       rows = c.attach_row-guid.new.rows;
       sessions = c.attach_in.new.sessions;
       deadlines = c.forget.new.self;
-    }) o x c.args.sequence s
+    }) o x c.args.tree c.args.sequence s
     (record {
       rows = c.attach_row-guid.ensures.rows;
       len = c.attach_row-guid.ensures.len;
