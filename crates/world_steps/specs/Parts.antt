@@ -12,7 +12,7 @@ use Rattle.spec_exchange.specs.Fold.{recovered_from, recovery_records}
 use Rattle.spec_exchange.specs.State as model
 use Rattle.spec_exchange.specs.Step.{step}
 use Rattle.client_values.specs.declared.operations.values.OpKind.{OpKind}
-use Rattle.spec_crypto.specs.tokens.Acceptor.{User}
+use Rattle.spec_crypto.specs.tokens.Tokens.{Users}
 use Rattle.world_ends.specs.memory_server.Held.{HoldsBook}
 use Rattle.server_core.specs.declared.disk_server.book.Book.{Book}
 use Rattle.base_outside.specs.declared.streams.mem_disk.MemDisk.{MemDisk}
@@ -36,18 +36,18 @@ pub record Marked (old : Places) (taken : ℕ) (new : Places) : Type 0 where
 
 -- ---- the server hears of an event without a message
 
-abbrev pub BookTold : model.Answer → Option (Book MemDisk) → List User → Logons → List model.Record → ℕ → Type 0
+abbrev pub BookTold : model.Answer → Option (Book MemDisk) → Users → Logons → List model.Record → ℕ → Type 0
 BookTold A book users L records status = (status ≡ A.reply.status) × HoldsBook book users A.server L (records ++ A.records)
 
 pub record Drops (old : Option (Book MemDisk)) (xs : List Channel) (moment k : ℕ) (new : Option (Book MemDisk)) (ys : List Channel)
     : Type 0 where
   pub channels : ChangedAt ClosesServer k xs ys
-  pub server : (users : List User) (s : model.Server) (L : Logons) (records : List model.Record) → HoldsBook old users s L records
+  pub server : (users : Users) (s : model.Server) (L : Logons) (records : List model.Record) → HoldsBook old users s L records
       → HoldsBook new users (step s moment (model.End k)).server L (records ++ (step s moment (model.End k)).records)
 
 pub record WorldRestarts (old : Option (Book MemDisk)) (xs : List Channel) (new : Option (Book MemDisk)) (ys : List Channel) : Type 0 where
   pub channels : ChangedAll ClosesServer xs ys
-  pub server : (users : List User) (s : model.Server) (L : Logons) (records : List model.Record) → HoldsBook old users s L records
+  pub server : (users : Users) (s : model.Server) (L : Logons) (records : List model.Record) → HoldsBook old users s L records
       → HoldsBook new users (recovered_from s records) L (records ++ recovery_records records)
 
 -- ---- the client takes an operation, or doesn't

@@ -2,7 +2,7 @@
 ghost use Rattle.std.specs.Prelude.{◌≡◌, IfOk, List, MatchResult, slice_get};
 ghost use Rattle.spec_exchange.specs.State as model;
 ghost use Rattle.spec_exchange.specs.Step.{step};
-ghost use Rattle.spec_crypto.specs.tokens.Acceptor.{User};
+ghost use Rattle.spec_crypto.specs.tokens.Tokens.{Users};
 ghost use Rattle.world_ends.specs.memory_server.Held.{HoldsBook};
 ghost use Rattle.spec_world.specs.Ends.{Logons};
 ghost use Rattle.world_ends.specs.Tests.{served_in};
@@ -39,7 +39,7 @@ pub fn close_server(channels: &mut Vec<Channel>, k: u32)
 
 /// The server hears that the connection is lost.
 fn tell_end(book: &mut Option<Book<MemDisk>>, moment: u64, k: u32) -> Result<u32, AllocError>
-    ensures { IfOk result (λ status. (users : List User) (s : model.Server) (L : Logons) (records : List model.Record)
+    ensures { IfOk result (λ status. (users : Users) (s : model.Server) (L : Logons) (records : List model.Record)
         → HoldsBook book.old users s L records → BookTold (step s moment (model.End k)) book.new users L records status) }
 {
     match book {

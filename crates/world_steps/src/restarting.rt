@@ -2,7 +2,7 @@
 ghost use Rattle.std.specs.Prelude.{◌++◌, List, MatchResult, OnOk};
 ghost use Rattle.spec_exchange.specs.Fold.{recovered_from, recovery_records};
 ghost use Rattle.spec_exchange.specs.State as model;
-ghost use Rattle.spec_crypto.specs.tokens.Acceptor.{User};
+ghost use Rattle.spec_crypto.specs.tokens.Tokens.{Users};
 ghost use Rattle.world_ends.specs.memory_server.Held.{WorldHolds, HoldsBook};
 ghost use Rattle.spec_world.specs.Ends.{Logons};
 ghost use Rattle.world_ends.specs.declared.events.WorldEvent.TheVariants as events;
@@ -26,7 +26,7 @@ fn close_servers(channels: &mut Vec<Channel>)
 
 /// The server of a disk begins anew on it.
 fn renew(place: &mut Option<Book<MemDisk>>, book: Book<MemDisk>) -> Result<(), AllocError>
-    ensures { OnOk result ((users : List User) (s : model.Server) (L : Logons) (records : List model.Record)
+    ensures { OnOk result ((users : Users) (s : model.Server) (L : Logons) (records : List model.Record)
         → WorldHolds book users s L records
         → HoldsBook place.new users (recovered_from s records) L (records ++ recovery_records records)) }
 {
@@ -41,7 +41,7 @@ fn renew(place: &mut Option<Book<MemDisk>>, book: Book<MemDisk>) -> Result<(), A
 
 /// Where memory runs out there is no server any more.
 fn restart_book(place: &mut Option<Book<MemDisk>>) -> Result<(), AllocError>
-    ensures { OnOk result ((users : List User) (s : model.Server) (L : Logons) (records : List model.Record)
+    ensures { OnOk result ((users : Users) (s : model.Server) (L : Logons) (records : List model.Record)
         → HoldsBook place.old users s L records
         → HoldsBook place.new users (recovered_from s records) L (records ++ recovery_records records)) }
 {

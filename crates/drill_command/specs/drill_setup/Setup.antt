@@ -1,5 +1,5 @@
 -- What both ends are set up with.
-use Rattle.std.specs.Prelude.{◌≡◌, ℕ, codes, map}
+use Rattle.std.specs.Prelude.{◌≡◌, ℕ, false, codes, map}
 use Rattle.law_scripts.specs.script_setup.Scripts.{ciphers_of, seals, signings_of, user_of}
 use Rattle.client_ends.specs.declared.ends.config.ClientConfig.{ClientConfig}
 use Rattle.script_words.specs.declared.text_lines.settings.Settings.{Settings}
@@ -7,7 +7,7 @@ use Rattle.script_words.specs.declared.values.User.{User}
 use Rattle.server_checks.specs.declared.tables.Config.{Config}
 
 pub record IsServerOf (s : Settings) (c : Config) : Type 0 where
-  pub users : c.users ≡ map user_of s.users
+  pub users : c.users ≡ record { list = map user_of s.users; bare = false }
   pub share : c.share ≡ s.share
   pub room : c.room ≡ s.room
   pub encrypts : c.encrypts ≡ seals s.cipher

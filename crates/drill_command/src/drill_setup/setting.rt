@@ -1,5 +1,5 @@
 // What both ends are set up with by a script.
-ghost use Rattle.std.specs.Prelude.{◌≡◌, ◌++◌, ◌∷◌, [], IfOk, OnOk, map};
+ghost use Rattle.std.specs.Prelude.{◌≡◌, ◌++◌, ◌∷◌, [], IfOk, OnOk, false, map};
 ghost use Rattle.law_scripts.specs.script_setup.Scripts.{ciphers_of, seals, signings_of, user_of};
 ghost use Rattle.script_words.specs.text_lines.Script.{nothing_given};
 ghost use Rattle.script_words.specs.text_lines.Settings.{settings_of};
@@ -16,18 +16,18 @@ use wire_messages::Numbers;
 
 /// One more who may log on.
 fn push_user(copied: &mut Users, user: &User) -> Result<(), AllocError>
-    ensures { OnOk result (copied.new ≡ copied.old ++ user_of user.now ∷ []) }
+    ensures { OnOk result (copied.new ≡ record copied.old { list = copied.old.list ++ user_of user.now ∷ [] }) }
 {
     let name = user.name.copy()?;
     let password = user.password.copy()?;
     copied.push(name, password)
 }
 
-/// Those who may log on.
+/// Those who may log on, by SPNEGO's tokens alone.
 fn users_of(alloc: Global, users: &[User]) -> Result<Users, AllocError>
-    ensures { IfOk result (λ us. us ≡ map user_of users.now) }
+    ensures { IfOk result (λ us. us ≡ record { list = map user_of users.now; bare = false }) }
 {
-    let mut copied = Users::new(alloc);
+    let mut copied = Users::new(alloc, false);
     for user in users {
         push_user(&mut copied, user)?;
     }

@@ -1,6 +1,6 @@
 -- The settings that `serve` alone knows. The lines that give them are taken out of a text before its other lines are read as those of
 -- a script: every byte of such a line becomes a `#`, so it is a comment there, and every other line keeps its number and its place.
-use Rattle.std.specs.Prelude.{ℕ, ◌+◌, ◌-◌, ◌==◌, nat_lt, Bool, not, ◌&&◌, ◌||◌, if◌then◌else◌, List, [], ◌∷◌, ◌++◌, length, codes}
+use Rattle.std.specs.Prelude.{ℕ, ◌+◌, ◌-◌, ◌==◌, nat_lt, Bool, true, false, not, ◌&&◌, ◌||◌, if◌then◌else◌, List, [], ◌∷◌, ◌++◌, length, codes}
 use Rattle.std.specs.Prelude.{replicate, slice_index_or, Option, Some, None, is_some}
 use Rattle.std.specs.List.{count_by, list_any}
 use Rattle.std.specs.Str.{bytes_eq}
@@ -33,7 +33,7 @@ unfoldable pub log_said : Own → List (List ℕ) → Option Own
 log_said own words =
     if is_some own.printed then None
     else next_printed words >>= λ level. if_last level.1
-    (record { printed = Some level.0; patience = own.patience; peers = own.peers })
+    (record { printed = Some level.0; patience = own.patience; peers = own.peers; bare = own.bare })
 
 -- a time in seconds, from one second to a day
 abbrev pub seconds_of : List ℕ → Option ℕ
@@ -48,7 +48,7 @@ unfoldable pub patience_said : Own → List (List ℕ) → Option Own
 patience_said own words =
     if is_some own.patience then None
     else next_seconds words >>= λ logon. next_seconds logon.1 >>= λ idle. if_last idle.1
-    (record { printed = own.printed; patience = Some (record { logon = logon.0; idle = idle.0 }); peers = own.peers })
+    (record { printed = own.printed; patience = Some (record { logon = logon.0; idle = idle.0 }); peers = own.peers; bare = own.bare })
 
 -- from 1 to 256
 abbrev pub peers_of : List ℕ → Option ℕ
@@ -63,7 +63,24 @@ unfoldable pub peers_said : Own → List (List ℕ) → Option Own
 peers_said own words =
     if is_some own.peers then None
     else next_peers words >>= λ peers. if_last peers.1
-    (record { printed = own.printed; patience = own.patience; peers = Some peers.0 })
+    (record { printed = own.printed; patience = own.patience; peers = Some peers.0; bare = own.bare })
+
+abbrev pub bare_of : List ℕ → Option Bool
+bare_of word =
+    if bytes_eq word (codes "any") then Some true
+    else if bytes_eq word (codes "spnego") then Some false
+    else None
+
+abbrev pub next_bare : List (List ℕ) → Option (Bool × List (List ℕ))
+next_bare [] = None
+next_bare (word ∷ more) = paired (bare_of word) more
+
+-- `tokens spnego`, or `tokens any`: NTLM's messages are taken alone too
+unfoldable pub tokens_said : Own → List (List ℕ) → Option Own
+tokens_said own words =
+    if is_some own.bare then None
+    else next_bare words >>= λ bare. if_last bare.1
+    (record { printed = own.printed; patience = own.patience; peers = own.peers; bare = Some bare.0 })
 
 -- The settings behind a line of these words that gives one of them. Where one is given again, or in another form, the line gives nothing.
 abbrev pub own_said : Own → List (List ℕ) → Option Own
@@ -72,6 +89,7 @@ own_said own (name ∷ more) =
     if bytes_eq name (codes "log") then log_said own more
     else if bytes_eq name (codes "patience") then patience_said own more
     else if bytes_eq name (codes "peers") then peers_said own more
+    else if bytes_eq name (codes "tokens") then tokens_said own more
     else None
 
 -- U+0000 to U+001F and U+007F
@@ -95,7 +113,7 @@ behind own (Some new) = new
 -- ---- all lines
 
 abbrev pub nothing_said : Own
-nothing_said = record { printed = None; patience = None; peers = None }
+nothing_said = record { printed = None; patience = None; peers = None; bare = None }
 
 -- a line feed stands in front of each line but the first
 abbrev pub feed_before : List (List ℕ) → List ℕ
@@ -129,6 +147,10 @@ line_count text =
 -- nothing is printed; 30 seconds for a logon, 15 minutes between two frames, 128 connections from one address
 abbrev pub patience_of : Own → Patience
 patience_of own = or_else (record { logon = 30; idle = 900 }) own.patience
+
+-- SPNEGO's tokens alone
+abbrev pub takes_bare : Own → Bool
+takes_bare own = or_else false own.bare
 
 abbrev pub watch_of : Own → Watch
 watch_of own = record {

@@ -15,7 +15,7 @@ use Rattle.base_outside.specs.declared.streams.address.Address.{Address}
 use Rattle.serve_command.specs.declared.server_settings.refusal.SettingsRefusal.{SettingsRefusal}
 use Rattle.serve_command.specs.declared.server_settings.refusal.SettingsRefusal.TheVariants.{Line, NoUser}
 use Rattle.serve_command.specs.declared.server_settings.settings.Setup.{Setup}
-use Rattle.serve_command.specs.server_settings.Served.{line_count, marked, own_of, watch_of}
+use Rattle.serve_command.specs.server_settings.Served.{line_count, marked, own_of, takes_bare, watch_of}
 use Rattle.spec_crypto.specs.tokens.Acceptor.{User}
 
 abbrev pub user_of : GivenUser → User
@@ -33,9 +33,10 @@ served_seals ciphers.Gcm = true
 served_seals ciphers.Ccm256 = true
 served_seals ciphers.Gcm256 = true
 
-abbrev pub config_of : Settings → Address → Config
-config_of s at = record {
-  users = users_of s.users;
+-- where the server is reached, and whether it takes NTLM's messages alone too
+abbrev pub config_of : Settings → Address → Bool → Config
+config_of s at bare = record {
+  users = record { list = users_of s.users; bare = bare };
   share = s.share;
   room = s.room;
   encrypts = served_seals s.cipher;
@@ -63,4 +64,4 @@ given_due at text =
 -- what a text of settings tells, or why it is refused; of several refused lines the first
 abbrev pub config_due : Address → List ℕ → Result Setup SettingsRefusal
 config_due at text =
-    given_due at text >>= λ given. Ok (record { config = config_of (settings_of given) at; watch = watch_of (own_of text) })
+    given_due at text >>= λ given. Ok (record { config = config_of (settings_of given) at (takes_bare (own_of text)); watch = watch_of (own_of text) })

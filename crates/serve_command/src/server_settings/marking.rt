@@ -95,6 +95,7 @@ pub(crate) fn mark(alloc: Global, text: &[u8]) -> Result<Marked, AllocError>
             printed: None,
             patience: None,
             peers: None,
+            bare: None,
         },
     };
     let mut rest = Pieces::new(text, b'\n');

@@ -1,4 +1,5 @@
-//! The settings that `serve` alone knows: how it watches over its connections, and which lines it prints meanwhile.
+//! The settings that `serve` alone knows: how it watches over its connections, which lines it prints meanwhile, and which
+//! tokens it takes.
 ghost use Rattle.std.specs.Prelude.{◌≡◌, option_map};
 ghost use Rattle.std.specs.Str.{bytes_eq};
 ghost use Rattle.script_words.specs.Pieces.{pieces};
@@ -28,6 +29,8 @@ pub(crate) struct Own {
     pub printed: Option<Printed>,
     pub patience: Option<Patience>,
     pub peers: Option<u32>,
+    /// Whether NTLM's messages are taken alone too.
+    pub bare: Option<bool>,
 }
 
 fn is_word(word: &[u8], name: &str) -> bool
@@ -74,6 +77,7 @@ fn log_said(own: &Own, words: &mut Pieces<'_>) -> Option<Own>
         printed: Some(printed),
         patience: own.patience,
         peers: own.peers,
+        bare: own.bare,
     })
 }
 
@@ -111,6 +115,7 @@ fn patience_said(own: &Own, words: &mut Pieces<'_>) -> Option<Own>
         printed: own.printed,
         patience: Some(Patience { logon, idle }),
         peers: own.peers,
+        bare: own.bare,
     })
 }
 
@@ -147,6 +152,47 @@ fn peers_said(own: &Own, words: &mut Pieces<'_>) -> Option<Own>
         printed: own.printed,
         patience: own.patience,
         peers: Some(peers),
+        bare: own.bare,
+    })
+}
+
+fn bare_of(word: &[u8]) -> Option<bool>
+    ensures { result ≡ served.bare_of word.now }
+{
+    if is_word(word, "any") {
+        Some(true)
+    } else if is_word(word, "spnego") {
+        Some(false)
+    } else {
+        None
+    }
+}
+
+fn next_bare(words: &mut Pieces<'_>) -> Option<bool>
+    ensures { option_map (λ b. (b, words.new)) result ≡ served.next_bare words.old }
+{
+    match words.next() {
+        Some(word) => bare_of(word),
+        None => None,
+    }
+}
+
+#[tactic(auto, unfolding(crate::specs::server_settings::Served::tokens_said))]
+fn tokens_said(own: &Own, words: &mut Pieces<'_>) -> Option<Own>
+    ensures { result ≡ served.tokens_said own.now words.old }
+{
+    if own.bare.is_some() {
+        return None;
+    }
+    let bare = next_bare(words)?;
+    if !words.is_empty() {
+        return None;
+    }
+    Some(Own {
+        printed: own.printed,
+        patience: own.patience,
+        peers: own.peers,
+        bare: Some(bare),
     })
 }
 
@@ -162,9 +208,18 @@ pub(crate) fn own_said(own: &Own, line: &[u8]) -> Option<Own>
         patience_said(own, &mut words)
     } else if is_word(name, "peers") {
         peers_said(own, &mut words)
+    } else if is_word(name, "tokens") {
+        tokens_said(own, &mut words)
     } else {
         None
     }
+}
+
+/// Whether the settings take NTLM's messages alone too; where they don't say it, SPNEGO's tokens alone are taken.
+pub(crate) fn takes_bare(own: &Own) -> bool
+    ensures { result ≡ served.takes_bare own.now }
+{
+    own.bare.unwrap_or(false)
 }
 
 /// What the settings tell the net, with a default for each that wasn't given.

@@ -6,7 +6,7 @@ ghost use Rattle.serve_command.specs.server_settings.Served as served;
 ghost use Rattle.serve_command.specs.server_settings.Settings as settings;
 
 use crate::server_settings::marking::{line_count, mark};
-use crate::server_settings::own::watch_of;
+use crate::server_settings::own::{takes_bare, watch_of};
 use crate::server_settings::refusal::SettingsRefusal;
 use base_outside::{Address, Printed, Watch};
 use crypto_sessions::Users;
@@ -33,7 +33,7 @@ fn seals(cipher: Cipher) -> bool
 }
 
 fn add_user(list: &mut Users, user: &User) -> Result<(), AllocError>
-    ensures { OnOk result (list.new ≡ list.old ++ settings.user_of user.now ∷ []) }
+    ensures { OnOk result (list.new ≡ record list.old { list = list.old.list ++ settings.user_of user.now ∷ [] }) }
 {
     let name = user.name.copy()?;
     let password = user.password.copy()?;
@@ -41,21 +41,21 @@ fn add_user(list: &mut Users, user: &User) -> Result<(), AllocError>
     Ok(())
 }
 
-fn users_of(alloc: Global, users: &[User]) -> Result<Users, AllocError>
-    ensures { IfOk result (λ list. list ≡ settings.users_of users.now) }
+fn users_of(alloc: Global, users: &[User], bare: bool) -> Result<Users, AllocError>
+    ensures { IfOk result (λ list. list ≡ record { list = settings.users_of users.now; bare = bare }) }
 {
-    let mut list = Users::new(alloc);
+    let mut list = Users::new(alloc, bare);
     for user in users {
         add_user(&mut list, user)?;
     }
     Ok(list)
 }
 
-fn config_of(alloc: Global, given: Given, at: Address) -> Result<Config, AllocError>
-    ensures { IfOk result (λ c. c ≡ settings.config_of (settings_of given) at) }
+fn config_of(alloc: Global, given: Given, at: Address, bare: bool) -> Result<Config, AllocError>
+    ensures { IfOk result (λ c. c ≡ settings.config_of (settings_of given) at bare) }
 {
     let settings = with_defaults(alloc, given)?;
-    let users = users_of(alloc, settings.users.as_slice())?;
+    let users = users_of(alloc, settings.users.as_slice(), bare)?;
     let share = settings.share.copy()?;
     Ok(Config {
         users,
@@ -108,7 +108,7 @@ pub fn config_in(alloc: Global, text: &[u8], at: Address) -> Result<Setup, Fault
 {
     let marked = mark(alloc, text)?;
     let given = given_in(alloc, text, marked.text.as_slice(), at)?;
-    let config = config_of(alloc, given, at)?;
+    let config = config_of(alloc, given, at, takes_bare(&marked.own))?;
     let watch = watch_of(&marked.own);
     Ok(Setup { config, watch })
 }

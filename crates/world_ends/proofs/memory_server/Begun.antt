@@ -10,7 +10,7 @@ use Rattle.server_core.specs.declared.server.Server.{Server}
 use Rattle.server_recovery.specs.journaled_tables.Holds.{JournaledHolds as HoldsState}
 use Rattle.server_recovery.specs.declared.journaled_tables.state.ServerState.{ServerState}
 use Rattle.base_outside.specs.declared.streams.mem_disk.MemDisk.{MemDisk}
-use Rattle.spec_crypto.specs.tokens.Acceptor.{User}
+use Rattle.spec_crypto.specs.tokens.Tokens.{Users}
 use Rattle.world_ends.specs.memory_server.Held.{WorldHolds, may_leave, world_seen, world_told}
 use Rattle.spec_world.specs.Ends.{Logons}
 
@@ -35,7 +35,7 @@ pub with_both : {T E : Type 0} {P Q R : T → Type 0} (r : Result T E) → IfOk 
 with_both (Ok x) p q f = f x p q
 with_both (Err e) p q f = tt
 
-pub begun_again : Again → (book b : Book MemDisk) (config : Config) (disk : MemDisk) (users : List User) (s : model.Server) (L : Logons)
+pub begun_again : Again → (book b : Book MemDisk) (config : Config) (disk : MemDisk) (users : Users) (s : model.Server) (L : Logons)
     (records : List model.Record) → config ≡ config_of book.server → disk ≡ disk_of book.server
     → ServerBegins world_told world_seen may_leave faults config disk (state_of b.server) → config_of b.server ≡ config
     → WorldHolds book users s L records

@@ -5,7 +5,7 @@ ghost use Rattle.spec_exchange.specs.State as model;
 ghost use Rattle.server_recovery.specs.server_start.Begun.{ServerBegins};
 ghost use Rattle.server_core.specs.Shown.{config_of, state_of};
 ghost use Rattle.server_recovery.specs.restart_tables.Restart.{configuration_of};
-ghost use Rattle.spec_crypto.specs.tokens.Acceptor.{User};
+ghost use Rattle.spec_crypto.specs.tokens.Tokens.{Users};
 ghost use Rattle.world_ends.specs.memory_server.Held.{WorldHolds, may_leave, world_seen, world_told};
 ghost use Rattle.spec_world.specs.Ends.{Logons};
 
@@ -46,7 +46,7 @@ pub fn begin(alloc: Global, config: Config) -> Result<Book<MemDisk>, AllocError>
 
 /// Begins anew on the disk that a server left, under the same configuration.
 pub fn restart(book: Book<MemDisk>) -> Result<Book<MemDisk>, AllocError>
-    ensures { IfOk result (λ b. (users : List User) (s : model.Server) (L : Logons) (records : List model.Record)
+    ensures { IfOk result (λ b. (users : Users) (s : model.Server) (L : Logons) (records : List model.Record)
         → WorldHolds book users s L records → WorldHolds b users (recovered_from s records) L (records ++ recovery_records records)) }
 {
     begun_law::<MemDisk>();

@@ -8,7 +8,7 @@ use std::alloc::{AllocError, Global};
 fn copy_users(alloc: Global, from: &Users) -> Result<Users, AllocError>
     ensures { IfOk result (λ users. users ≡ from.now) }
 {
-    let mut users = Users::new(alloc);
+    let mut users = Users::new(alloc, from.is_bare());
     let pairs = from.as_slice();
     for pair in pairs {
         let name = pair.0.copy()?;

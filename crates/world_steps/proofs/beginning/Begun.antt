@@ -13,7 +13,7 @@ use Rattle.server_recovery.specs.restart_tables.Restart.{configuration_of}
 use Rattle.base_outside.specs.declared.streams.mem_disk.MemDisk.{MemDisk}
 use Rattle.spec_wire.specs.messages.Places.{number_of}
 use Rattle.std.specs.Prelude.{take}
-use Rattle.spec_crypto.specs.tokens.Acceptor.{User}
+use Rattle.spec_crypto.specs.tokens.Tokens.{Users}
 use Rattle.client_ends.specs.declared.ends.config.ClientConfig.{ClientConfig}
 use Rattle.world_ends.specs.memory_server.Held.{WorldHolds, HoldsBook}
 use Rattle.spec_world.specs.Ends.{Logons, no_logons}
@@ -128,7 +128,7 @@ pub begun_book : (z : WorldSettings) (c : Config) (b : Book MemDisk) (guid : Lis
     → ((L : Logons) → WorldHolds b c.users (recovered (configuration_of c) 9 []) L (recovery_records []))
     → WorldHolds b z.server.users (start (values_of z)).server no_logons (start (values_of z)).records
 begun_book z c b guid settings seed i h =
-    subst (λ (users : List User). WorldHolds b users (start (values_of z)).server no_logons (recovery_records [])) (sym i.users)
+    subst (λ (users : Users). WorldHolds b users (start (values_of z)).server no_logons (recovery_records [])) (sym i.users)
     (subst (λ (d : Configuration). WorldHolds b c.users (recovered d 9 []) no_logons (recovery_records []))
     (sym (same_configuration z c i.shared i.room i.encrypts i.address)) (h no_logons))
 

@@ -1,15 +1,14 @@
 -- The server behind a frame is the one behind the last message that it took.
-use Rattle.std.proofs.Common.{◌≡◌, ℕ, Bool, true, false, not, ◌&&◌, if◌then◌else◌, refl, List, [], ◌∷◌, ◌++◌, length}
+use Rattle.std.proofs.Common.{◌≡◌, ℕ, Bool, true, false, not, ◌&&◌, if◌then◌else◌, refl, List, [], ◌∷◌, length}
 use Rattle.std.proofs.Common.{Option, Some, None, Result, Ok, Err}
 use Rattle.spec_exchange.specs.Network.{answer_to}
 use Rattle.spec_exchange.specs.State as model
-use Rattle.spec_wire.specs.credits.Window.{after_grant}
 use Rattle.spec_world.specs.Answering.{all_texts, each_joined, has_nonces, joined_in, text_limit}
 use Rattle.spec_world.specs.Connection.{ConnectionStep, Going, LastTaken, answered, answered_with, beginning, connection_step, ended_by}
-use Rattle.spec_world.specs.Connection.{heard_message, said_failed, step_of, taken_with, went_all, went_heard, went_turn}
+use Rattle.spec_world.specs.Connection.{heard_message, step_of, taken_with, went_all, went_heard, went_turn}
 use Rattle.spec_world.specs.Ends.{ConnEnd, Logons, ServerEnd, Spent}
-use Rattle.spec_world.specs.Hearing.{Checked, Frame, check_frame, is_cancel}
-use Rattle.spec_world.specs.Related.{Fails, Goes, Turn, failed_as, turn_of}
+use Rattle.spec_world.specs.Hearing.{Checked, Frame, check_frame}
+use Rattle.spec_world.specs.Related.{Fails, Goes, Turn, turn_of}
 use Rattle.spec_world.specs.Settings.{ServerSettings}
 
 abbrev pub server_of : Option LastTaken → model.Server → model.Server
@@ -29,18 +28,10 @@ heard_one : (z : ServerSettings) (k now : ℕ) (fresh : List ℕ) (f : ServerEnd
 heard_one z k now fresh f g c None s h = h
 heard_one z k now fresh f g c (Some m) s h = with_one g.taken m (answer_to g.server now m m.command) s
 
-either_one : (b : Bool) (g u : Going) (s : model.Server) → Keeps s g → Keeps s u → Keeps s (if b then g else u)
-either_one true g u s h i = h
-either_one false g u s h i = i
-
 turned : (z : ServerSettings) (k now : ℕ) (fresh : List ℕ) (f : ServerEnd) (g : Going) (old : Checked) (t : Turn) (s : model.Server)
     → Keeps s g → Keeps s (went_turn z k now fresh f g old t)
 turned z k now fresh f g old (Goes c) s h = heard_one z k now fresh f g c (heard_message z g.logons k f c) s h
-turned z k now fresh f g old (Fails status) s h =
-    either_one (is_cancel old.header) g (record g {
-      window = after_grant (failed_as g.carried old).header.credits g.window;
-      replies = g.replies ++ said_failed f g.window (failed_as g.carried old) status ∷ [];
-    }) s h h
+turned z k now fresh f g old (Fails status) s h = h
 
 all_turned : (z : ServerSettings) (k now : ℕ) (fresh : List ℕ) (f : ServerEnd) (g : Going) (cs : List Checked) (s : model.Server)
     → Keeps s g → Keeps s (went_all z k now fresh f g cs)

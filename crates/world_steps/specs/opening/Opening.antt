@@ -13,7 +13,7 @@ use Rattle.client_ends.specs.declared.ends.config.Fresh.{Fresh}
 use Rattle.server_core.specs.declared.disk_server.book.Book.{Book}
 use Rattle.spec_crypto.specs.declared.sessions.material.Keys.{Keys}
 use Rattle.base_outside.specs.declared.streams.mem_disk.MemDisk.{MemDisk}
-use Rattle.spec_crypto.specs.tokens.Acceptor.{User}
+use Rattle.spec_crypto.specs.tokens.Tokens.{Users}
 use Rattle.world_ends.specs.memory_server.Held.{HoldsBook}
 use Rattle.spec_world.specs.Ends.{Logons, first_server_end}
 use Rattle.spec_world.specs.Notes as notes
@@ -97,5 +97,5 @@ pub record OpeningEnters (old : Option (Book MemDisk)) (xs : List Channel) (mome
     (ys : List Channel) : Type 0 where
   pub status : ℕ
   pub stands : OpeningStands (status == 0) b k xs ys
-  pub server : (users : List User) (s : model.Server) (L : Logons) (records : List model.Record) → HoldsBook old users s L records
+  pub server : (users : Users) (s : model.Server) (L : Logons) (records : List model.Record) → HoldsBook old users s L records
       → BookTold (step s moment (model.Accept k)) new users L records status

@@ -2,7 +2,7 @@
 ghost use Rattle.std.specs.Prelude.{◌≡◌, ◌<◌, ◌^◌, ◌==◌, if◌then◌else◌, length, IfOk, List, MatchResult, None, Some};
 ghost use Rattle.spec_exchange.specs.State as model;
 ghost use Rattle.spec_exchange.specs.Step.{step};
-ghost use Rattle.spec_crypto.specs.tokens.Acceptor.{User};
+ghost use Rattle.spec_crypto.specs.tokens.Tokens.{Users};
 ghost use Rattle.world_ends.specs.memory_server.Held.{HoldsBook};
 ghost use Rattle.spec_world.specs.Ends.{Logons};
 ghost use Rattle.world_steps.specs.opening.Opening.{OpeningEnters, IsOpened, IsOpeningSaid, SaysFirst, OpeningStands};
@@ -121,7 +121,7 @@ fn place(
 
 /// The server hears that a connection is made: the status of its answer.
 fn tell_accept(book: &mut Option<Book<MemDisk>>, moment: u64, k: u32) -> Result<u32, AllocError>
-    ensures { IfOk result (λ status. (users : List User) (s : model.Server) (L : Logons) (records : List model.Record)
+    ensures { IfOk result (λ status. (users : Users) (s : model.Server) (L : Logons) (records : List model.Record)
         → HoldsBook book.old users s L records → BookTold (step s moment (model.Accept k)) book.new users L records status) }
 {
     match book {
