@@ -90,6 +90,7 @@ def hear_tokens(t):
     carried = struct.unpack_from("<HHI", t.type3, 52)
     key = f.Rc4(f.hmac_md5(owf, answer[:16])).apply(t.type3[carried[2] : carried[2] + carried[0]])
     assert key == t.key and t.type3[72:88] == f.mic(key, t.type1, t.type2, t.type3)
+    assert t.alone[72:88] == f.mic(t.base, t.type1, t.type2, t.alone) and t.alone[112:128] == f.proof(owf, t.server, t.alone[128:-8])
 
 
 # ---- written
@@ -114,6 +115,7 @@ def specs(sealed, signed):
     lists += [("client_salt", worked.draw(1)), ("server_salt", worked.draw(4)), ("server_challenge", sealed.tokens.server)]
     lists += [("create_salt", worked.draw(0)[:8]), ("second_token", sealed.tokens.second), ("final_token", sealed.tokens.final)]
     lists += [("signing_key", sealed.keys.signing), ("tree_key", signed.keys.signing)]
+    lists += [("type_1", sealed.tokens.type1), ("type_2", sealed.tokens.type2), ("alone_key", sealed.tokens.base)]
     lists += [("signed_tree_asked", signed.messages[6].frame), ("signed_tree_told", signed.messages[7].frame)]
     head = ["-- The bytes of two worked logons; written by tools/worked-logon.py."]
     head += ["use Rattle.std.specs.Prelude.{\u2115, List, [], \u25cc\u2237\u25cc}"]
@@ -158,7 +160,8 @@ def listed(data):
 def settings(logon):
     """A WorldSettings."""
     user, word = listed(worked.USER.encode()), listed(worked.PASSWORD.encode())
-    server = f"record {{ users = record {{ name = {user}; password = {word} }} \u2237 []; guid = {listed(worked.SERVER_GUID)} }}"
+    users = f"record {{ list = record {{ name = {user}; password = {word} }} \u2237 []; bare = false }}"
+    server = f"record {{ users = {users}; guid = {listed(worked.SERVER_GUID)} }}"
     client = f"record {{ user = {user}; password = {word}; guid = {listed(worked.CLIENT_GUID)}; "
     client += f"ciphers = {listed(logon.ciphers)}; signings = {listed(logon.signings)} }}"
     rest = f"share = {listed(worked.SHARE.encode())}; room = 1000000; encrypts = {str(logon.encrypts).lower()}; "
@@ -197,6 +200,21 @@ def examples(terms):
             yield f"{name}, {clause}", terms.value("examples", one) == terms.value("examples", other)
 
 
+def alone(terms):
+    """What a type 3 alone shows behind a type 1 alone: a logon with the base key, or nothing where its MIC is another."""
+    scope = "alone"
+    names = ("spec_crypto.specs.tokens.Tokens.{shown}", "spec_world.specs.Logon.{pending_by, exported}")
+    terms.modules[scope] = Module(terms, scope, "\n".join(f"use Rattle.{name}" for name in names))
+    t = worked.worked_logons()[2].tokens
+    user = f"record {{ name = {listed(worked.USER.encode())}; password = {listed(worked.PASSWORD.encode())} }}"
+    users = f"(record {{ list = {user} \u2237 []; bare = true }})"
+    behind = f"{users} (pending_by true {listed(t.type1)} {listed(t.server)} {t.now})"
+    yield "a type 3 alone is a logon", terms.value(scope, f"shown {behind} {listed(t.alone)}").name == "LoggedOn"
+    yield "its key", bytes(terms.value(scope, f"exported {behind} {listed(t.alone)}")) == t.base
+    wrong = t.alone[:72] + bytes(16) + t.alone[88:]
+    yield "one without its MIC", terms.value(scope, f"shown {behind} {listed(wrong)}").name == "Refused"
+
+
 def run_all():
     terms, bad = Terms(), 0
     for logon in worked.worked_logons():
@@ -204,7 +222,7 @@ def run_all():
         same = frames == [message.frame for message in logon.messages] and outcome == "WasOk"
         print(f"{'the same' if same else 'ANOTHER'}: {logon.name}", flush=True)
         bad += not same
-    for name, same in examples(terms):
+    for name, same in (*alone(terms), *examples(terms)):
         print(f"{'the same' if same else 'ANOTHER'}: {name}", flush=True)
         bad += not same
     STATUS.append(1 if bad else 0)

@@ -107,9 +107,9 @@ def create_request():
 
 
 def create_response(now):
-    """2.2.14, 2.2.14.2.12: created 2, an empty file of no attributes but NORMAL; kept for a minute."""
+    """2.2.14, 2.2.14.2.12: created 2, an empty file of no attributes but ARCHIVE; kept for a minute."""
     durable = create_context(b"DH2Q", struct.pack("<II", 60000, 2))
-    fixed = struct.pack("<HBBI", 89, 0, 0, 2) + struct.pack("<4Q", now, now, now, now) + struct.pack("<QQII", 0, 0, 0x80, 0)
+    fixed = struct.pack("<HBBI", 89, 0, 0, 2) + struct.pack("<4Q", now, now, now, now) + struct.pack("<QQII", 0, 0, 0x20, 0)
     return fixed + struct.pack("<QQII", FIRST_ID, FIRST_ID, 152, len(durable)) + durable
 
 
@@ -132,6 +132,7 @@ class Tokens:
         self.type3 = self.answered(pairs(*told, (6, struct.pack("<I", 2))))
         self.second = f.resp_token(token=self.type3, mic=f.message_signature(self.key, True, True, self.list))
         self.final = f.resp_token(0, mic=f.message_signature(self.key, False, True, self.list))
+        self.alone, self.base = self.plainly_answered(pairs(*told, (6, struct.pack("<I", 2))))
 
     def answered(self, info):
         """No domain; the time is the server's, so the LM response is zeros; a MIC over the three messages."""
@@ -141,6 +142,15 @@ class Tokens:
         third = Type3(CLIENT_FLAGS, bytes(24), answer + blob, b"", utf16(USER), b"", carried)
         third.mic = f.mic(self.key, self.type1, self.type2, third.spelled())
         return third.spelled()
+
+    def plainly_answered(self, info):
+        """A type 3 without a key of the client's, and the base key that both ends then have."""
+        owf, blob = f.ntowf(PASSWORD, USER, ""), f.temp(self.now, self.challenge, info)
+        answer = f.proof(owf, self.server, blob)
+        base = f.hmac_md5(owf, answer)
+        third = Type3(CLIENT_FLAGS & ~0x40000000, bytes(24), answer + blob, b"", utf16(USER), b"", b"")
+        third.mic = f.mic(base, self.type1, self.type2, third.spelled())
+        return third.spelled(), base
 
 
 # ---- the exchange

@@ -1,6 +1,6 @@
 // What stands around a request, by the options behind its words: `on=CONNECTION`, `in=SESSION`, `tree=TREE`, `message=ID`, `client=GUID`,
 // `seq=SEQUENCE`, the flags `replay` and `fault`; of a SESSION_SETUP also `prev=SESSION`, `cipher=NUMBER`, `signing=NUMBER`,
-// `by=CONNECTION` whose signing key signs it, and the flag `bind`.
+// `by=CONNECTION` whose signing key signs it, and the flags `bind` and `alone`.
 use crate::event_calls::Envelope;
 use crate::words::{has, number_or, option, short_or, small_or};
 
@@ -28,5 +28,6 @@ pub fn envelope_of(words: &[&str], session: u64) -> Envelope {
         } else {
             None
         },
+        alone: has(words, "alone"),
     }
 }

@@ -4,8 +4,10 @@ use crate::words::{
     coded, has, id, id_of, number, number_of, option, path, small, small_or, tiny, word,
 };
 use std::alloc::{AllocError, Global};
-use wire_bytes::Text;
-use wire_commands::{Basic, Command, CreateRequest, Durable, Element, Reconnect, Setting};
+use wire_bytes::{Header, Text};
+use wire_commands::{
+    Basic, Command, CreateRequest, Durable, Element, Reconnect, Request, Setting, request_of,
+};
 
 fn path_in(alloc: Global, words: &[&str], i: usize) -> Result<Text, AllocError> {
     Ok(Text::from_string(path(alloc, word(words, i))?))
@@ -196,6 +198,27 @@ fn plain(words: &[&str]) -> Option<Command<'static>> {
             Some(setting) => Some(Command::SetInfo { file, setting }),
             None => None,
         },
+    }
+}
+
+/// `raw COMMAND BODY`, whose body stands in the message behind 64 bytes of a header, with the option `charge`.
+pub fn raw<'a>(alloc: Global, words: &[&str], message: &'a [u8]) -> Result<Command<'a>, Fault> {
+    let header = Header {
+        charge: (small_or(words, "charge", 1) & 0xffff) as u16,
+        status: 0,
+        command: (small(words, 1) & 0xffff) as u16,
+        credits: 1,
+        flags: 0,
+        next: 0,
+        message: 0,
+        tree: 0,
+        session: 0,
+        signature: [0; 16],
+    };
+    match request_of(alloc, &header, message) {
+        Ok(Some(Request::Command(command))) => Ok(command),
+        Ok(_) => Err(Fault::Other),
+        Err(_) => Err(Fault::Memory),
     }
 }
 

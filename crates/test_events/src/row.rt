@@ -60,7 +60,7 @@ fn said_on<S: Runs>(
     events: &str,
 ) -> Result<(), Fault> {
     let room = number_or(words, "room", 268_435_456);
-    let mut stage = Stage::<S>::new(alloc, room, has(words, "sealed"));
+    let mut stage = Stage::<S>::new(alloc, room, has(words, "sealed"), has(words, "any"));
     answered(said, &mut stage, disk, events)
 }
 

@@ -4,7 +4,7 @@ use crate::event_calls::{
     Envelope, Fault, config, first_token, kept, second_token, setup_heard, setup_message,
 };
 use crate::event_server::Runs;
-use crate::requests::{request, write};
+use crate::requests::{raw, request, write};
 use crate::told::{push_answer, push_digits};
 use crate::words::{has, number_of, option, payload, small, word};
 use base_outside::Disk;
@@ -52,6 +52,7 @@ pub struct Stage<S: Runs> {
     alloc: Global,
     room: u64,
     encrypts: bool,
+    bare: bool,
     server: Option<S>,
     now: u64,
     token: Bytes,
@@ -60,11 +61,12 @@ pub struct Stage<S: Runs> {
 }
 
 impl<S: Runs> Stage<S> {
-    pub fn new(alloc: Global, room: u64, encrypts: bool) -> Stage<S> {
+    pub fn new(alloc: Global, room: u64, encrypts: bool, bare: bool) -> Stage<S> {
         Stage {
             alloc,
             room,
             encrypts,
+            bare,
             server: None,
             now: 5,
             token: Bytes::new(alloc),
@@ -91,7 +93,7 @@ impl<S: Runs> Stage<S> {
     /// Begins on what a disk holds: `ok`, or why there is no server.
     pub fn begin(&mut self, disk: S::D) -> Result<(), Fault> {
         self.said.clear();
-        let config = config(self.alloc, self.room, self.encrypts)?;
+        let config = config(self.alloc, self.room, self.encrypts, self.bare)?;
         match S::begin(self.alloc, disk, config) {
             Ok(server) => {
                 self.server = Some(server);
@@ -162,15 +164,17 @@ impl<S: Runs> Stage<S> {
     }
 
     fn first(&mut self, words: &[&str]) -> Result<(), Fault> {
-        let token = first_token(self.alloc)?;
+        let token = first_token(self.alloc, has(words, "alone"))?;
         self.setup(words, 0, token.as_slice())
     }
 
-    // The answer to the last challenge, of `User` or of `user=NAME:PASSWORD`; the flag `flip` changes its last byte, of the MIC.
+    // The answer to the last challenge, of `User` or of `user=NAME:PASSWORD`; the flag `flip` changes its last byte, of the MIC, or of the key
+    // where the token is a type 3 alone.
     fn second(&mut self, words: &[&str]) -> Result<(), Fault> {
         let named = option(words, "user").unwrap_or("User:Password");
         let (user, password) = named.split_once(":").unwrap_or((named, ""));
-        let token = second_token(self.alloc, user, password, self.token.as_slice())?;
+        let alone = has(words, "alone");
+        let token = second_token(self.alloc, user, password, self.token.as_slice(), alone)?;
         let mut token = token.into_vec();
         if let Some(last) = token.last_mut()
             && has(words, "flip")
@@ -192,6 +196,15 @@ impl<S: Runs> Stage<S> {
         self.event(&around, around.event(write(words, bytes.as_slice())))
     }
 
+    fn raw(&mut self, words: &[&str]) -> Result<(), Fault> {
+        let body = payload(self.alloc, word(words, 2))?;
+        let mut message = vec![in self.alloc; 0u8; 64]?;
+        kept(message.extend_from_slice(body.as_slice()))?;
+        let command = raw(self.alloc, words, message.as_slice())?;
+        let around = envelope_of(words, FIRST);
+        self.event(&around, around.event(command))
+    }
+
     fn of_words(&mut self, words: &[&str]) -> Result<(), Fault> {
         match word(words, 0) {
             "accept" => self.bare(ServerEvent::Accept {
@@ -210,6 +223,7 @@ impl<S: Runs> Stage<S> {
                 self.second(words)
             }
             "write" => self.write(words),
+            "raw" => self.raw(words),
             _ => self.request(words),
         }
     }

@@ -149,7 +149,7 @@ fn check_channel(alloc: Global, around: &Envelope, answer: &Answer) -> Result<()
     if keys != keys_behind(around) || told != number as u32 {
         return Err(Fault::Other);
     }
-    check_last(alloc, answer.token.as_slice())
+    check_last(alloc, answer.token.as_slice(), around.alone)
 }
 
 /// Puts the answer to a request that came in such an envelope.

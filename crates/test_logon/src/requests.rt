@@ -115,7 +115,7 @@ fn kept() -> ReplyContexts {
     }
 }
 
-/// The file was made at the moment of this event, and is empty and NORMAL 0x80.
+/// The file was made at the moment of this event, and is empty; its one attribute is ARCHIVE, 0x20 (MS-FSA 2.1.5.1.1).
 pub fn create_reply(lines: &mut String, alloc: Global, line: &Line) -> Result<(), AllocError> {
     let chain = write_reply_chain(alloc, &kept())?;
     let contexts = chain.as_slice();
@@ -133,7 +133,7 @@ pub fn create_reply(lines: &mut String, alloc: Global, line: &Line) -> Result<()
         change_time: now,
         allocation_size: 0,
         end_of_file: 0,
-        file_attributes: 0x80,
+        file_attributes: 0x20,
         file_id: FILE,
         contexts,
     };

@@ -91,7 +91,7 @@ fn put_user(users: &mut Users, alloc: Global) -> Result<(), AllocError> {
 
 // Whether the server takes the client's third message, and finds the client's own key in it.
 fn is_taken(alloc: Global, acceptor: &Acceptor, third: &[u8]) -> Result<bool, AllocError> {
-    let mut users = Users::new(alloc);
+    let mut users = Users::new(alloc, false);
     put_user(&mut users, alloc)?;
     match acceptor.check(alloc, &users, third) {
         Ok(found) => Ok(found.key == key()),

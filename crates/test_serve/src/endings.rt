@@ -143,7 +143,7 @@ fn refuses<W: Wait + Threads + Sync + Abort>(
 fn settings_are_refused_by_their_first_line(rt: HostRuntime) -> Result<(), Fail> {
     let alloc = rt.alloc();
     let refused =
-        "user anna First\r|log loud|patience 0 900|patience 900|peers 257|log info |peers 2\t";
+        "user anna First\r|log loud|patience 0 900|patience 900|peers 257|log info |peers 2\t|tokens ntlm|tokens any any";
     for settings in refused.split('|') {
         refuses(&rt, alloc, AT, settings, "line 1 bad-line\n")?;
     }
@@ -154,6 +154,13 @@ fn settings_are_refused_by_their_first_line(rt: HostRuntime) -> Result<(), Fail>
         AT,
         "#\t\nlog info\nlog info\n",
         "line 3 bad-line\n",
+    )?;
+    refuses(
+        &rt,
+        alloc,
+        AT,
+        "tokens any\ntokens spnego\n",
+        "line 2 bad-line\n",
     )
 }
 

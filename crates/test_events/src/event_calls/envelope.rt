@@ -1,7 +1,7 @@
 use server_checks::ServerEvent;
 use wire_commands::{Command, Message};
 
-/// What stands around a request: whence it comes, and what its header says. The last five are of a SESSION_SETUP alone.
+/// What stands around a request: whence it comes, and what its header says. The last six are of a SESSION_SETUP alone.
 #[derive(Clone, Copy)]
 pub struct Envelope {
     pub connection: u32,
@@ -20,6 +20,8 @@ pub struct Envelope {
     pub signing: u16,
     /// It is signed with the signing key that the logon on this connection gave.
     pub signed_by: Option<u32>,
+    /// Its token is NTLM's message alone.
+    pub alone: bool,
 }
 
 impl Envelope {
@@ -39,6 +41,7 @@ impl Envelope {
             cipher: 2,
             signing: 1,
             signed_by: None,
+            alone: false,
         }
     }
 

@@ -15,18 +15,18 @@ fn push_user(
     users.push(name, Text::from_str(alloc, password)?)
 }
 
-fn users(alloc: Global) -> Result<Users, AllocError> {
-    let mut users = Users::new(alloc);
+fn users(alloc: Global, bare: bool) -> Result<Users, AllocError> {
+    let mut users = Users::new(alloc, bare);
     push_user(&mut users, alloc, "User", "Password")?;
     push_user(&mut users, alloc, "other", "word")?;
     Ok(users)
 }
 
-/// What a server is told, with so many bytes for all files.
-pub fn config(alloc: Global, room: u64, encrypts: bool) -> Result<Config, AllocError> {
+/// What a server is told, with so many bytes for all files, and whether it takes NTLM's messages alone too.
+pub fn config(alloc: Global, room: u64, encrypts: bool, bare: bool) -> Result<Config, AllocError> {
     let share = Text::from_str(alloc, "data")?;
     Ok(Config {
-        users: users(alloc)?,
+        users: users(alloc, bare)?,
         share,
         room,
         encrypts,

@@ -10,9 +10,17 @@ use wire_bytes::Bytes;
 /// The key that a logon exchanges.
 pub(crate) const KEY: [u8; 16] = [5; 16];
 
-/// The first token, which names NTLM.
-pub fn first_token(alloc: Global) -> Result<Bytes, Fault> {
+/// The first token, which names NTLM, or its type 1 alone.
+pub fn first_token(alloc: Global, alone: bool) -> Result<Bytes, Fault> {
     let first = first_message(alloc)?;
+    if alone {
+        return Ok(first);
+    }
+    request_of(alloc, first)
+}
+
+// The token that hands over a type 1.
+fn request_of(alloc: Global, first: Bytes) -> Result<Bytes, Fault> {
     let token = InitToken {
         mech_list: Bytes::from_slice(alloc, &NTLM_LIST)?,
         ntlm_first: true,
@@ -67,13 +75,17 @@ fn response_in(alloc: Global, token: &[u8]) -> Result<RespToken, Fault> {
     }
 }
 
-/// The token that answers the server's challenge.
+/// The token that answers the server's challenge, or its type 3 alone.
 pub fn second_token(
     alloc: Global,
     user: &str,
     password: &str,
     challenge: &[u8],
+    alone: bool,
 ) -> Result<Bytes, Fault> {
+    if alone {
+        return third(alloc, user, password, challenge);
+    }
     let challenge = response_in(alloc, challenge)?;
     let Some(second) = &challenge.token else {
         return Err(Fault::Other);
@@ -82,8 +94,15 @@ pub fn second_token(
     response_of(alloc, third)
 }
 
-/// The server's last token accepts the logon, with the server's own MIC.
-pub fn check_last(alloc: Global, token: &[u8]) -> Result<(), Fault> {
+/// The server's last token accepts the logon, with the server's own MIC; behind messages alone it is empty.
+pub fn check_last(alloc: Global, token: &[u8], alone: bool) -> Result<(), Fault> {
+    if alone {
+        return if token.is_empty() {
+            Ok(())
+        } else {
+            Err(Fault::Other)
+        };
+    }
     let read = response_in(alloc, token)?;
     let due = sign_mech_list(&KEY, false, true, &NTLM_LIST);
     match &read.mic {

@@ -119,7 +119,7 @@ fn push_verdict(
     words: &[&str],
 ) -> Result<(), AllocError> {
     let third = bytes_in(alloc, words, 4)?;
-    let mut users = Users::new(alloc);
+    let mut users = Users::new(alloc, false);
     put_users(&mut users, alloc)?;
     match acceptor.check(alloc, &users, &third) {
         Ok(logon) => push_logon(said, &logon),
