@@ -2,6 +2,7 @@
 # Tries real clients on a server: tools/clients.sh PROGRAM serve, PROGRAM by its whole path. It is begun as PROGRAM serve ADDR with its
 # settings on standard input, in a new folder. One line a check, and a count at the end; the status is 0 where none failed.
 # It wants Debian's smbclient (4.17), python3-impacket (0.10) and rclone (1.60); what is missing is said, and its checks are left out.
+# The checks of NTLM without SPNEGO, as Linux's kernel sends it, want Python's package cryptography.
 # SIZES (bytes of the files that are put and got) and PORT may be given; LIMIT is how many seconds a client may take.
 top=$(cd "$(dirname "$0")/.." && pwd)
 sizes=${SIZES:-0 1 65536 1048577 50000000}; port=${PORT:-4450}; limit=${LIMIT:-600}
@@ -73,6 +74,17 @@ names() {
   [[ $said != *NT_STATUS* && $said == *" two "* ]]
 }
 
+# A new file has ARCHIVE.
+archived() { smb "${protection[@]}" -c "put $room/f1 held; ls held" | grep -q '^  held  *A  *1 '; }
+
+# Attributes that were taken away forbid nothing more.
+freed() {
+  local said
+  said=$(smb "${protection[@]}" -c "setmode held -h; put $room/f1 held; del held; ls held" 2>&1)
+  echo "$said"
+  [[ $said != *ACCESS_DENIED* && $said == *NT_STATUS_NO_SUCH_FILE* ]]
+}
+
 two_at_once() {
   (smb "${protection[@]}" -c "put $room/f1048577 left; get left $room/left") & local left=$!
   (smb "${protection[@]}" -c "put $room/f65536 right; get right $room/right") & local right=$!
@@ -124,6 +136,11 @@ with_smbclient() {
   check "smbclient $kind: make, rename, list, delete, remove" names
   # no short names: file class 21 is refused by name
   meets "smbclient $kind: allinfo" NT_STATUS_INVALID_INFO_CLASS smb "${protection[@]}" -c "put $room/f1 f1; allinfo f1"
+  check "smbclient $kind: a new file" archived
+  meets "smbclient $kind: a read-only file, written" NT_STATUS_ACCESS_DENIED smb "${protection[@]}" -c "setmode held +r; put $room/f1 held"
+  meets "smbclient $kind: a read-only file, deleted" NT_STATUS_CANNOT_DELETE smb "${protection[@]}" -c "del held"
+  meets "smbclient $kind: a hidden file, put anew" NT_STATUS_ACCESS_DENIED smb "${protection[@]}" -c "setmode held -r; setmode held +h; put $room/f1 held"
+  check "smbclient $kind: the same without attributes" freed
   WHO=user%wrong meets "smbclient $kind: a wrong password" NT_STATUS_LOGON_FAILURE smb "${protection[@]}" -c ls
   WHO=nobody%Password meets "smbclient $kind: an unknown user" NT_STATUS_LOGON_FAILURE smb "${protection[@]}" -c ls
   SHARE=nowhere meets "smbclient $kind: an unknown share" NT_STATUS_BAD_NETWORK_NAME smb "${protection[@]}" -c ls
@@ -138,13 +155,19 @@ killed() {
   if killed_server > "$room/said" 2>&1; then ok "$1 ($size of $whole bytes are there)"; else bad "$1" "$(tail -n 1 "$room/said")"; fi
 }
 
-# with_impacket TOOL KIND: what a script of tools/ says.
-with_impacket() {
+# lines_of COMMAND..: what it says of each of its checks.
+lines_of() {
   local line
   while IFS= read -r line; do
     case $line in ok\ *) ok "${line#ok }" ;; FAILED\ *) line=${line#FAILED }; bad "${line%: *}" "${line##*: }" ;; esac
-  done < <(timeout "$limit" /usr/bin/python3 "$top/tools/$1" "$port" "$2" user Password data 2>&1)
+  done < <(timeout "$limit" "$@" 2>&1)
 }
+
+# with_impacket TOOL KIND: what a script of tools/ says.
+with_impacket() { lines_of /usr/bin/python3 "$top/tools/$1" "$port" "$2" user Password data; }
+
+# bare KIND WORD: logons without SPNEGO, which a server takes (any) or refuses (spnego).
+bare() { lines_of python3 "$top/tools/bare_client.py" "$port" "$1" "$2" user Password data; }
 
 # Another client yet, in Go: it copies a folder here and compares the bytes.
 with_rclone() {
@@ -152,14 +175,20 @@ with_rclone() {
   hidden=$(rclone obscure Password)
   there=":smb,host=127.0.0.1,port=$port,user=user,pass=$hidden:data/rclone"
   mkdir -p "$room/some" && cp "$room/f1" "$room/f65536" "$room/f1048577" "$room/some" && : > "$room/some/f0" || exit 2
-  check "rclone $kind: copy a folder" timeout "$limit" rclone --config /dev/null --retries 1 copy "$room/some" "$there"
-  check "rclone $kind: read and compare it" timeout "$limit" rclone --config /dev/null --retries 1 check --download "$room/some" "$there"
-  check "rclone $kind: remove it" timeout "$limit" rclone --config /dev/null --retries 1 purge "$there"
+  there_by() { timeout "$limit" rclone --config /dev/null --retries 1 "$@"; }
+  check "rclone $kind: copy a folder" there_by copy "$room/some" "$there"
+  check "rclone $kind: read and compare it" there_by check --download "$room/some" "$there"
+  rm -f "$room/some/f0" && cp "$room/f1" "$room/some/g1" || exit 2
+  check "rclone $kind: make it as a changed folder is" there_by sync "$room/some" "$there"
+  check "rclone $kind: read and compare that" there_by check --download "$room/some" "$there"
+  check "rclone $kind: move a file" there_by moveto "$there/g1" "$there/moved"
+  check "rclone $kind: remove it" there_by purge "$there"
 }
 
 for size in $sizes 1 65536 1048577; do [ -e "$room/f$size" ] || head -c "$size" /dev/urandom > "$room/f$size"; done
 head -c "$whole" /dev/urandom > "$room/big"
 has_smbclient=; command -v smbclient > /dev/null && has_smbclient=yes || echo "smbclient is missing: its checks are left out"
+has_cryptography=; python3 -c 'import cryptography' 2> /dev/null && has_cryptography=yes || echo "python3's cryptography is missing: the checks of NTLM without SPNEGO are left out"
 has_impacket=; /usr/bin/python3 -c 'import impacket' 2> /dev/null && has_impacket=yes || echo "python3-impacket is missing: its checks are left out"
 has_rclone=; command -v rclone > /dev/null && has_rclone=yes || echo "rclone is missing: its checks are left out"
 
@@ -182,7 +211,13 @@ for kind in sealed signed; do
   elif [ -n "$has_smbclient" ]; then
     for name in $signings; do check "smbclient signed: put, get and list by $name" by_one "client smb3 signing algorithms" "$name"; done
   fi
+  [ -n "$has_cryptography" ] && bare "$kind" spnego
   check "$kind: 200 connections at once" timeout "$limit" python3 "$top/tools/many_connections.py" "$port" 200 0
+  stop
+  begin "$folder-any" "tokens any\n$settings"
+  [ -n "$has_cryptography" ] && bare "$kind" any
+  [ -n "$has_impacket" ] && with_impacket impacket_client.py $way-alone
+  [ -n "$has_smbclient" ] && check "smbclient $kind: a server that takes any token" smb "${protection[@]}" -c ls
   stop
 done
 echo "$well checks passed, $failed failed"

@@ -27,6 +27,7 @@ PLAIN, FOLDER = 0x40, 1  # options
 PERSISTENT = 2
 EXCLUSIVE, UNLOCK, AT_ONCE = 2, 4, 0x10
 GCM = (2, 4)
+FIRST = f.type1(CLIENT_FLAGS)
 
 
 class Closed(Exception):
@@ -280,7 +281,7 @@ class Client(Link):
 
     def log_on(self, user, password, to=None, previous=0):
         """NTLMv2 in SPNEGO (MS-NLMP 3.1.5.1, RFC 4178); `to` is the client whose session this connection is bound to."""
-        listed, first = f.mech_list(NTLM_OID), f.type1(CLIENT_FLAGS)
+        listed, first = f.mech_list(NTLM_OID), FIRST
         self.session, self.chain = (to.session if to else 0), self.greeted
         status, answer = self.set_up(f.init_token(listed, first), to, previous)
         if status != MORE:
@@ -294,6 +295,28 @@ class Client(Link):
         status, answer = self.set_up(f.resp_token(token=third, mic=mic), to, previous)
         if status != SUCCESS:
             raise Refused(status)
+        self.begin(answer, to)
+        return self
+
+    def first_alone(self, to=None, first=FIRST):
+        """A type 1 without SPNEGO around it (MS-SPNG 3.3.4), and the answer, which is a type 2 alone."""
+        self.session, self.chain = (to.session if to else 0), self.greeted
+        status, answer = self.set_up(first, to)
+        if status != MORE:
+            raise Refused(status)
+        self.noted(answer)
+        self.session = struct.unpack_from("<Q", answer, 40)[0]
+        return token_of(answer)
+
+    def log_on_alone(self, user, password, to=None, first=FIRST, answers=None):
+        """NTLMv2 by NTLM's messages alone; the last answer has no token."""
+        second, self.exported = self.first_alone(to, first), os.urandom(16)
+        self.token = (answers or answered)(second, first, user, password, self.exported)
+        status, answer = self.set_up(self.token, to)
+        if status != SUCCESS:
+            raise Refused(status)
+        if not second.startswith(b"NTLMSSP\0\2\0\0\0") or token_of(answer):
+            raise Wrong("a token that answers isn't NTLM's message alone")
         self.begin(answer, to)
         return self
 
@@ -443,6 +466,12 @@ def ioctl_body(file, code, size=4096):
     return struct.pack("<HHI", 57, 0, code) + file + struct.pack("<IIIIIIII", 0, 0, 0, 0, 0, size, 1, 0)
 
 
+def token_of(answer):
+    """The token of a SESSION_SETUP's response (MS-SMB2 2.2.6)."""
+    at, length = struct.unpack_from("<HH", answer, 68)
+    return answer[at:at + length]
+
+
 def names_of(answer):
     """The names of a listing in class 1 (MS-FSCC 2.4.10)."""
     at, length = struct.unpack_from("<HI", answer, 66)
@@ -454,10 +483,21 @@ def names_of(answer):
     return names
 
 
+def whole_of(challenge):
+    """A type 2 with whatever stands behind its target information cut off."""
+    length, at = struct.unpack_from("<HxxI", challenge, 40)
+    return challenge[:at + length]
+
+
+def told_in(challenge):
+    """The 8 bytes of a type 2, and its target information."""
+    length, at = struct.unpack_from("<HxxI", challenge, 40)
+    return challenge[24:32], challenge[at:at + length]
+
+
 def answered(challenge, first, user, password, exported):
     """The authenticate message to a challenge: NTLMv2, a MIC over the three messages, a key of the client's choice."""
-    length, at = struct.unpack_from("<HxxI", challenge, 40)
-    told, server = challenge[at:at + length], challenge[24:32]
+    server, told = told_in(challenge)
     items, place = [], 0
     while place + 4 <= len(told):
         kind, size = struct.unpack_from("<HH", told, place)
@@ -471,7 +511,7 @@ def answered(challenge, first, user, password, exported):
     answer = f.proof(owf, server, blob)
     carried = f.Rc4(f.hmac_md5(owf, answer)).apply(exported)
     third = Type3(CLIENT_FLAGS, bytes(24), answer + blob, b"", utf16(user), b"", carried)
-    third.mic = f.mic(exported, first, challenge[:at + length], third.spelled())
+    third.mic = f.mic(exported, first, whole_of(challenge), third.spelled())
     return third.spelled()
 
 

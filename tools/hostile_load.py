@@ -12,6 +12,7 @@ from hostile_work import Appender
 
 LONGEST_PATTERN = 1024
 CREDITS = 512
+INVALID_PARAMETER = 0xC000000D
 
 
 def asked_pattern(client, folder, pattern):
@@ -58,22 +59,22 @@ def answers_of(client, numbers):
 
 
 def read_at_once(server, client, file, count, charge):
-    """One frame with so many READs of 1 MiB: its time, what came, and the most memory that the server held."""
+    """One frame with so many READs of 1 MiB: its time, and what came, in words and by status."""
     begun = time.monotonic()
     numbers = client.ask_chain([(READ, read_body(file, 0, 1 << 20))] * count, charge)
     try:
         statuses, taken = answers_of(client, numbers)
     except Closed as error:
-        return time.monotonic() - begun, f"its connection was ended ({error})"
+        return time.monotonic() - begun, f"its connection was ended ({error})", {}
     told = ", ".join(f"{number} {status:08x}" for status, number in statuses.items())
-    return time.monotonic() - begun, f"answers {told} with {mebibytes(taken)}"
+    return time.monotonic() - begun, f"answers {told} with {mebibytes(taken)}", statuses
 
 
 @check("many-reads", "load")
 def many_reads(run):
     """One frame of 61 KB with 510 READs of 1 MiB, each for one credit, and one with as many as the credits pay: time, memory, others.
 
-    No rule asks yet for the credits that a READ's bytes would cost, so how long the others wait is told and not judged.
+    Those for one credit are all INVALID_PARAMETER (MS-SMB2 3.3.5.2.5). How long the others wait is told and not judged.
     """
     seen = []
     for count, charge in ((510, 1), (CREDITS // 16 - 1, 16)):
@@ -85,7 +86,8 @@ def many_reads(run):
             client.echo()
         writer, before = Appender(server, pause=0.005, timeout=300), server.peak()
         writer.start()
-        took, told = read_at_once(server, client, file, count, charge)
+        took, told, statuses = read_at_once(server, client, file, count, charge)
+        expect(statuses == {0 if charge == 16 else INVALID_PARAMETER: count}, f"{count} READs of {charge} credits: {told}")
         writer.stop_well()
         server.expect_alive("behind many READs")
         held = mebibytes(server.peak() - before)

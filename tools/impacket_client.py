@@ -1,5 +1,6 @@
 #!/usr/bin/python3
-"""Checks a running server with Debian's python3-impacket 0.10: PORT KIND USER PASSWORD SHARE, KIND being sign or seal.
+"""Checks a running server with Debian's python3-impacket 0.10: PORT KIND USER PASSWORD SHARE, KIND being sign or seal, or sign-alone or
+seal-alone, where its NTLM messages go out without SPNEGO around them, as those of Linux's kernel do.
 
 It prints one line for each check, `ok NAME` or `FAILED NAME: WHY`. Three slips of impacket 0.10 are mended here: its logon doesn't begin
 with the hash of NEGOTIATE (MS-SMB2 3.2.5.3.1), it looks for the capability of sealing, which no server of 3.1.1 tells (2.2.4), and its
@@ -19,11 +20,35 @@ PORT, KIND, USER, PASSWORD, SHARE = int(sys.argv[1]), *sys.argv[2:6]
 SIZES = (0, 1, 65536, 1048577)
 
 
+class Alone:
+    """In place of a token of SPNEGO: the message of NTLM that it would carry."""
+
+    def __init__(self, message=b""):
+        self.message = message
+
+    def __setitem__(self, name, value):
+        if name in ("MechToken", "ResponseToken"):
+            self.message = value
+
+    def __getitem__(self, name):
+        return self.message
+
+    def __len__(self):
+        return len(self.message)
+
+    def getData(self):
+        return self.message
+
+
+if KIND.endswith("-alone"):
+    smb3.SPNEGO_NegTokenInit = smb3.SPNEGO_NegTokenResp = Alone
+
+
 def connected():
     plain = smbconnection.SMBConnection(
         "127.0.0.1", "127.0.0.1", sess_port=PORT, preferredDialect=SMB2_DIALECT_311, timeout=300)
     inner = plain._SMBConnection
-    inner._Connection["SupportsEncryption"] = KIND == "seal"
+    inner._Connection["SupportsEncryption"] = KIND.startswith("seal")
     inner._Session["PreauthIntegrityHashValue"] = inner._Connection["PreauthIntegrityHashValue"]
     return plain
 

@@ -15,8 +15,9 @@ import sys
 
 from impacket import crypto, ntlm, smb3
 from impacket.smb3structs import (
-    SMB2_CLOSE, SMB2_CREATE, SMB2_DIALECT_311, SMB2_ECHO, SMB2_QUERY_INFO, SMB2_SESSION_SETUP, SMB2_TRANSFORM_HEADER, SMB2_TREE_CONNECT,
-    SMB2Close, SMB2Create, SMB2Echo, SMB2Packet, SMB2QueryInfo, SMB2SessionSetup, SMB2SessionSetup_Response, SMB2TreeConnect, SMB3Packet)
+    SMB2_CLOSE, SMB2_CREATE, SMB2_DIALECT_311, SMB2_ECHO, SMB2_QUERY_DIRECTORY, SMB2_QUERY_INFO, SMB2_READ, SMB2_SESSION_SETUP,
+    SMB2_TRANSFORM_HEADER, SMB2_TREE_CONNECT, SMB2_TREE_DISCONNECT, SMB2Close, SMB2Create, SMB2Echo, SMB2Packet, SMB2QueryDirectory,
+    SMB2QueryInfo, SMB2Read, SMB2SessionSetup, SMB2SessionSetup_Response, SMB2TreeConnect, SMB2TreeDisconnect, SMB3Packet)
 from impacket.spnego import SPNEGO_NegTokenInit, SPNEGO_NegTokenResp, TypesMech
 from Cryptodome.Cipher import AES
 
@@ -27,9 +28,12 @@ TURNS = 1000  # how often the compound is sent
 RELATED, SIGNED, BINDING = 4, 8, 1
 SUCCESS, MORE = 0, 0xC0000016
 INVALID_PARAMETER, ACCESS_DENIED, LOGON_FAILURE = 0xC000000D, 0xC0000022, 0xC000006D
+NAME_INVALID, NAME_NOT_FOUND, NO_SUCH_FILE = 0xC0000033, 0xC0000034, 0xC000000F
+FILE_CLOSED, END_OF_FILE = 0xC0000128, 0xC0000011
 NO_SUCH_CLASS, STANDARD = 200, 5
 ALL_IDS = b"\xff" * 16
 MOST_BEFORE_SESSION = 66000
+READS = 510
 
 
 class Ended(Exception):
@@ -177,6 +181,36 @@ def query_body(info_class, room):
     return body
 
 
+def read_body(file, count):
+    body = SMB2Read()
+    body["Length"], body["FileID"] = count, file
+    return body
+
+
+def list_body(directory, pattern):
+    body = SMB2QueryDirectory()
+    body["FileInformationClass"], body["Flags"], body["FileID"] = 12, 1, directory
+    body["OutputBufferLength"], body["FileNameLength"], body["Buffer"] = 65536, 2 * len(pattern), pattern.encode("utf-16le")
+    return body
+
+
+def context(name, value, last):
+    """A create context of a name of 4 bytes (MS-SMB2 2.2.13.2)."""
+    one = struct.pack("<IHHHHI", 0, 16, 4, 0, 24, len(value)) + name + bytes(4) + value
+    one += bytes(-len(one) % 8)
+    return one if last else struct.pack("<I", len(one)) + one[4:]
+
+
+def contexts_body(*contexts):
+    """A CREATE by a name that no file can have, with contexts."""
+    body = create_body("a:b", 7)
+    told = b"".join(context(name, value, at + 1 == len(contexts)) for at, (name, value) in enumerate(contexts))
+    body["Buffer"] = body["Buffer"] + bytes(2)
+    body["CreateContextsOffset"], body["CreateContextsLength"] = 120 + len(body["Buffer"]), len(told)
+    body["Buffer"] += told
+    return body
+
+
 def close_body():
     body = SMB2Close()
     body["FileID"] = ALL_IDS
@@ -203,6 +237,72 @@ def closes_behind(it):
     file = it.openFile(tree, "iheld", shareMode=0)
     it.closeFile(tree, file)
     it.deleteFile(SHARE, "iheld")
+
+
+def trees_opens(it):
+    """A request under another tree's id finds no open, and a TREE_DISCONNECT closes those of its tree (MS-SMB2 3.3.5.8, 3.3.5.12)."""
+    tree, line = it.connectTree(SHARE), Line(it._SMBConnection)
+
+    def asked(command, body, under):
+        line.send_owed([line.message(command, body, tree=under)])
+        return line.receive()[0]
+
+    connected_tree = asked(SMB2_TREE_CONNECT, tree_body(), 0)
+    expect_status(connected_tree, SUCCESS)
+    other = struct.unpack_from("<I", connected_tree, 36)[0]
+    made = asked(SMB2_CREATE, create_body("in a tree", 0), other)
+    expect_status(made, SUCCESS)
+    file = made[128:144]
+    expect_status(asked(SMB2_READ, read_body(file, 1), tree), FILE_CLOSED)
+    expect_status(asked(SMB2_READ, read_body(file, 1), other), END_OF_FILE)
+    expect_status(asked(SMB2_TREE_DISCONNECT, SMB2TreeDisconnect(), other), SUCCESS)
+    it.closeFile(tree, it.openFile(tree, "in a tree", shareMode=0))
+    it.deleteFile(SHARE, "in a tree")
+
+
+def unpaid_reads(it):
+    """READs of 1 MiB with a CreditCharge of 1, as many as the credits let through, in one frame of 61 KB (MS-SMB2 3.3.5.2.5)."""
+    tree, line = it.connectTree(SHARE), Line(it._SMBConnection)
+    file = it.createFile(tree, "unpaid")
+    it.writeFile(tree, file, bytes(65536))
+    for _ in range(8):
+        line.send_owed([line.message(SMB2_ECHO, SMB2Echo())])
+        expect_status(line.receive()[0], SUCCESS)
+    line.send_owed([line.message(SMB2_READ, read_body(file, 1 << 20), tree=tree) for _ in range(READS)])
+    heard = line.answers(READS)
+    told = {status_of(one) for one in heard}
+    assert told == {INVALID_PARAMETER}, "answered " + ", ".join(f"{status:08x}" for status in sorted(told))
+    assert sum(map(len, heard)) < 65536, f"{sum(map(len, heard))} bytes of answers"
+    for body, status in ((read_body(file, 65536), SUCCESS), (read_body(file, 65537), INVALID_PARAMETER)):
+        line.send_owed([line.message(SMB2_READ, body, tree=tree)])
+        expect_status(line.receive()[0], status)
+    line.send_owed([line.message(SMB2_QUERY_INFO, query_body(NO_SUCH_CLASS, 65537), tree=tree)])
+    expect_status(line.receive()[0], INVALID_PARAMETER)
+    it.closeFile(tree, file)
+    it.deleteFile(SHARE, "unpaid")
+
+
+def long_pattern(it):
+    """A pattern has at most the 1,024 units of a path, which is this server's own limit."""
+    tree, line = it.connectTree(SHARE), Line(it._SMBConnection)
+    root = it._SMBConnection.create(tree, "", 0x81, 7, 1, 1, 0)
+    for count, status in ((1024, NO_SUCH_FILE), (1025, NAME_INVALID)):
+        line.send_owed([line.message(SMB2_QUERY_DIRECTORY, list_body(root, "?" * count), tree=tree)])
+        expect_status(line.receive()[0], status)
+    it.closeFile(tree, root)
+
+
+def attaching(it):
+    """A CREATE with DH2C has no DH2Q, DHnQ or DHnC beside it, and is judged by nothing else (MS-SMB2 3.3.5.9.12); no context comes twice."""
+    tree, line = it.connectTree(SHARE), Line(it._SMBConnection)
+    again, durable = (b"DH2C", bytes(36)), (b"DH2Q", bytes(16) + b"x" * 16)
+    older = ((b"DHnQ", bytes(16)), (b"DHnC", bytes(16)))
+    twice = (b"MxAc", b"")
+    for contexts, status in (
+            ((again,), NAME_NOT_FOUND), ((again, durable), INVALID_PARAMETER), ((durable,), NAME_INVALID), ((again, older[0]), INVALID_PARAMETER),
+            ((older[1], again), INVALID_PARAMETER), (older, NAME_INVALID), ((twice, twice), INVALID_PARAMETER), ((twice,), NAME_INVALID)):
+        line.send_owed([line.message(SMB2_CREATE, contexts_body(*contexts), tree=tree)])
+        expect_status(line.receive()[0], status)
 
 
 def related_first(it):
@@ -354,7 +454,9 @@ def binding_refused(it, user, password, status):
 def main():
     everywhere = [
         (f"CREATE, a QUERY_INFO that fails, CLOSE in one frame, {TURNS} times", closes_behind),
-        ("the related flag on a frame's first message", related_first),
+        ("a request under another tree, and the opens of a tree that goes", trees_opens),
+        ("the related flag on a frame's first message", related_first), (f"{READS} READs of 1 MiB for a credit each", unpaid_reads),
+        ("a pattern of more than 1,024 units", long_pattern), ("a CREATE that asks to attach", attaching),
         ("an ECHO without a session after a logon", lambda it: echoes(Line(it._SMBConnection))), ("a binding", binds),
         ("a binding with a wrong signature", binding_wrong_signature), ("a binding that is not signed", binding_unsigned),
         ("a binding with a wrong password", lambda it: binding_refused(it, USER, PASSWORD + "x", LOGON_FAILURE)),
