@@ -1,7 +1,7 @@
 #!/bin/bash
 # Tries real clients on a server: tools/clients.sh PROGRAM serve, PROGRAM by its whole path. It is begun as PROGRAM serve ADDR with its
 # settings on standard input, in a new folder. One line a check, and a count at the end; the status is 0 where none failed.
-# It wants Debian's smbclient (4.17), python3-impacket (0.10) and rclone (1.60); what is missing is said, and its checks are left out.
+# It wants Debian's smbclient (4.17), python3-impacket (0.10), python3-smbc (1.0) and rclone (1.60); what is missing is said, and its checks are left out.
 # The checks of NTLM without SPNEGO, as Linux's kernel sends it, want Python's package cryptography.
 # SIZES (bytes of the files that are put and got) and PORT may be given; LIMIT is how many seconds a client may take.
 top=$(cd "$(dirname "$0")/.." && pwd)
@@ -190,6 +190,7 @@ head -c "$whole" /dev/urandom > "$room/big"
 has_smbclient=; command -v smbclient > /dev/null && has_smbclient=yes || echo "smbclient is missing: its checks are left out"
 has_cryptography=; python3 -c 'import cryptography' 2> /dev/null && has_cryptography=yes || echo "python3's cryptography is missing: the checks of NTLM without SPNEGO are left out"
 has_impacket=; /usr/bin/python3 -c 'import impacket' 2> /dev/null && has_impacket=yes || echo "python3-impacket is missing: its checks are left out"
+has_smbc=; /usr/bin/python3 -c 'import smbc' 2> /dev/null && has_smbc=yes || echo "python3-smbc is missing: its checks are left out"
 has_rclone=; command -v rclone > /dev/null && has_rclone=yes || echo "rclone is missing: its checks are left out"
 
 users='user user Password\nuser other Second\n'
@@ -203,6 +204,7 @@ for kind in sealed signed; do
     with_impacket impacket_client.py $way
     with_impacket impacket_frames.py $way
   fi
+  [ -n "$has_smbc" ] && lines_of /usr/bin/python3 "$top/tools/smbc_client.py" "$port" "$kind" user Password data
   [ -n "$has_rclone" ] && with_rclone
   if [ -n "$has_smbclient" ] && [ $kind = sealed ]; then
     check "smbclient signing: a share that seals" smb --client-protection=sign -c ls
