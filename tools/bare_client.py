@@ -55,12 +55,16 @@ def files(client):
     assert client.whole("bare") == data
 
 
-def kernels_logon():
-    client = Client(PORT).negotiate().log_on_alone(USER, PASSWORD, first=KERNELS_FIRST, answers=kernels_third).connect_tree(SHARE)
-    files(client)
+def removed(client):
     opened = client.create("bare")
     client.remove(opened.file)
     client.close_file(opened.file)
+
+
+def kernels_logon():
+    client = Client(PORT).negotiate().log_on_alone(USER, PASSWORD, first=KERNELS_FIRST, answers=kernels_third).connect_tree(SHARE)
+    files(client)
+    removed(client)
     client.log_off()
 
 
@@ -71,9 +75,7 @@ def use():
     files(client)
     channel = Client(PORT, guid=client.guid).negotiate().log_on_alone(USER, PASSWORD, to=client)
     files(channel)
-    opened = channel.create("bare")
-    channel.remove(opened.file)
-    channel.close_file(opened.file)
+    removed(channel)
     client.log_off()
 
 
