@@ -39,6 +39,7 @@ PARTS = {
     'next_file': ('NextFile', 'next_file', '', ''),
     'file_numbers': ('FileNumbers', 'entries next_file', 'y', 'h'),
     'room': ('Room', 'room', '', ''),
+    'limit': ('Limit', 'limit', '', ''),
 }
 
 HEAD = open(os.path.join(os.path.dirname(__file__), 'law_server_imports.txt')).read()
@@ -289,10 +290,10 @@ dated_first now false (Some x) row deadline d old h = old d h
     ('seals', 'Bool'), ('address', 'Address'), ('journal', 'ℕ')], [('small', 'room ≤ full_room')],
            'record s { share = share; room = room; encrypts = seals; address = address; journal = journal }', 'room', {'room': 'small'}),
     Effect('SessionEffects', 'unread', 'what nothing here reads is other',
-    [('sequence', 'ℕ → ℕ'), ('slots', 'ℕ → ℕ → Option Kept'), ('listed', 'ℕ → Option (List ℕ)'),
+    [('sequence', 'ℕ → ℕ'), ('slots', 'ℕ → ℕ → Option Kept'), ('listed', 'ℕ → Option (List ℕ)'), ('offset', 'ℕ → ℕ'),
     ('content', 'ℕ → List ℕ'), ('basic', 'ℕ → Basic'), ('connections', 'List ℕ'), ('expired_guids', 'ℕ → ℕ → Bool'),
     ('expired_count', 'ℕ'), ('version', 'ℕ'), ('journal', 'ℕ')], [],
-           'record s { sequence = sequence; lock_sequences = slots; enumeration_location = listed; content = '
+           'record s { sequence = sequence; lock_sequences = slots; enumeration_location = listed; current_byte_offset = offset; content = '
                'content; basic = basic; connections = connections; expired_guids = expired_guids; expired_count = '
                'expired_count; version = version; journal = journal }', ''),
     Effect('EndSession', 'end_session', 'a session ends: its plain opens leave, and what it kept is forgotten',

@@ -1,9 +1,9 @@
 -- A server alone, that hears one message after the other.
-use Rattle.std.specs.Prelude.{ℕ, zero, suc, ◌+◌, ◌==◌, Bool, true, false, not, ◌&&◌, List, [], ◌∷◌, length, Option, Some, None, if◌then◌else◌}
+use Rattle.std.specs.Prelude.{ℕ, zero, suc, ◌+◌, ◌==◌, Bool, true, false, not, ◌&&◌, List, [], ◌∷◌, length, Option, Some, None, if◌then◌else◌, ◌++◌}
 use Rattle.spec_exchange.specs.Content.{same_bytes}
 use Rattle.spec_exchange.specs.Commands.{Command, Setup, TreeConnect, Shows, Begins, Logon, Create, Durable, Element, Read, Basic, Close, SetBasic, SetInfo, CreateRequest}
 use Rattle.spec_exchange.specs.State.{Accept, Server, Message, ServerEvent, Heard, Body, Info, Entry, Open, Range}
-use Rattle.spec_exchange.specs.State.{Record, Origin, EpochRecord, CreateRecord, WriteRecord}
+use Rattle.spec_exchange.specs.State.{Record, Origin, EpochRecord, VersionRecord, CreateRecord, WriteRecord, DeleteRecord, RenameRecord}
 use Rattle.spec_exchange.specs.Files.{same_basic}
 use Rattle.spec_exchange.specs.Records.{lower_limit}
 use Rattle.spec_exchange.specs.Step.{step}
@@ -112,6 +112,47 @@ make_with attributes access share disposition options durable =
       maximal = false;
       disk_id = false;
     })
+
+-- the same under another path: `a\NAME`
+abbrev pub make_below : ℕ → ℕ → ℕ → Command
+make_below name access disposition =
+    Create (record {
+      path = 97 ∷ 92 ∷ name ∷ [];
+      access = access;
+      share = 7;
+      attributes = 0;
+      disposition = disposition;
+      options = 0x40;
+      durable = None;
+      reconnect = None;
+      maximal = false;
+      disk_id = false;
+    })
+
+-- a directory `a` that is open twice, the first time to delete on close, and in which the closed file `a\b` stands
+abbrev pub full_directory : List ServerEvent
+full_directory = ask (make 0x10081 7 2 0x1001 None) ∷ ask (make 0x10081 7 1 0x1 None) ∷ ask (make_below 98 0x10183 2)
+    ∷ ask (Close 4294967299 false) ∷ []
+
+-- a closed name beside it, which is open to be renamed, and then the directory, whose opens are the next two
+abbrev pub make_named : ℕ → Command
+make_named name =
+    Create (record {
+      path = name ∷ [];
+      access = 0x10183;
+      share = 7;
+      attributes = 0;
+      disposition = 2;
+      options = 0x40;
+      durable = None;
+      reconnect = None;
+      maximal = false;
+      disk_id = false;
+    })
+
+abbrev pub full_directory_behind : List ServerEvent
+full_directory_behind = ask (make 0x10081 7 2 0x1001 None) ∷ ask (make 0x10081 7 1 0x1 None) ∷ ask (make_below 98 0x10183 2)
+    ∷ ask (Close 4294967300 false) ∷ []
 
 -- the ids of the first opens
 abbrev pub first_open : ℕ
@@ -223,10 +264,18 @@ unjudged durable = record {
   disk_id = false;
 }
 
--- ---- a server whose journal holds no further record, and one that keeps as many expired guids as it may
+-- ---- a server whose journal holds no further record, one whose records may fill so many bytes, and one that keeps as many
+-- expired guids as it may
 
 abbrev pub with_full_journal : Server → Server
 with_full_journal s = record s { journal = lower_limit }
+
+abbrev pub limited_to : ℕ → Server → Server
+limited_to bytes s = record s { limit = bytes }
+
+-- its files and the next one's number, its opens and how many ids were given, the journal's bytes and their limit
+abbrev pub counts_of : Server → List ℕ
+counts_of s = length s.entries ∷ s.next_file ∷ length s.opens ∷ s.open_ids_given ∷ s.journal ∷ s.limit ∷ []
 
 abbrev pub with_all_expired_guids : Server → Server
 with_all_expired_guids s = record s { expired_count = 65536 }
@@ -264,6 +313,37 @@ first_version_disk =
       timeout = 60000;
     })) ∷
     WriteRecord its_origin 1 0 60 (104 ∷ 105 ∷ []) ∷ []
+
+-- journals that ended while a directory `a` that is delete pending was open, with the file `a\b` in it: closed, delete pending
+-- too, and so, but of the lower number
+abbrev pub marked_disk : List Record
+marked_disk =
+    VersionRecord 2 ∷ EpochRecord 1 ∷ CreateRecord its_origin 2 1 (97 ∷ []) 0 true 50 None
+    ∷ CreateRecord its_origin 2 2 (97 ∷ 92 ∷ 98 ∷ []) 0 false 60 None ∷ DeleteRecord its_origin 1 true ∷ []
+
+abbrev pub both_marked_disk : List Record
+both_marked_disk = marked_disk ++ DeleteRecord its_origin 2 true ∷ []
+
+abbrev pub moved_in_disk : List Record
+moved_in_disk =
+    VersionRecord 2 ∷ EpochRecord 1 ∷ CreateRecord its_origin 2 1 (98 ∷ []) 0 false 50 None
+    ∷ CreateRecord its_origin 2 2 (97 ∷ []) 0 true 60 None ∷ RenameRecord its_origin 1 0 (97 ∷ 92 ∷ 98 ∷ [])
+    ∷ DeleteRecord its_origin 1 true ∷ DeleteRecord its_origin 2 true ∷ []
+
+-- and one in which a persistent open has the directory
+abbrev pub held_disk : List Record
+held_disk =
+    VersionRecord 2 ∷ EpochRecord 1 ∷ CreateRecord its_origin 2 1 (97 ∷ []) 0 true 50 (Some (record {
+      id = first_open;
+      client_guid = 7;
+      create_guid = 5;
+      user = 117 ∷ [];
+      access = 0x10081;
+      share = 7;
+      options = 0x1;
+      timeout = 60000;
+    }))
+    ∷ CreateRecord its_origin 2 2 (97 ∷ 92 ∷ 98 ∷ []) 0 false 60 None ∷ DeleteRecord its_origin 1 true ∷ []
 
 -- the same with the replay flag, and on the session's second tree
 abbrev pub again : Command → ServerEvent

@@ -14,7 +14,7 @@ ghost use Rattle.std.specs.Prelude.{Some, None};
 ghost use Rattle.spec_exchange.specs.State.{Accept, Heard, End, SetUp, Connected, VolumeInfo, FileInfo, Listing};
 ghost use Rattle.spec_exchange.specs.State.{Interfaces, DeleteRecord, RemoveRecord, CloseRecord, ExpireRecord};
 ghost use Rattle.spec_exchange.specs.State.{VersionRecord, EpochRecord, CreateRecord};
-ghost use Rattle.spec_exchange.specs.Commands.{Begins, Close, Create, Ioctl, ListDirectory, Lock, Logon, QueryFile, QueryVolume, Read, TreeConnect, Write, create_form, list_form, no_file, path_form, SetInfo, SetEnd, SetDelete, TreeDisconnect};
+ghost use Rattle.spec_exchange.specs.Commands.{Begins, Close, Create, Ioctl, ListDirectory, Lock, Logon, QueryFile, QueryVolume, Read, TreeConnect, Write, create_form, list_form, no_file, path_form, SetInfo, SetEnd, SetDelete, TreeDisconnect, Rename, SetPosition, SetMode};
 ghost use Rattle.spec_exchange.specs.CheckOpen.{is_stale, query_interfaces};
 ghost use Rattle.spec_exchange.specs.CheckSetup.{pipes_name};
 ghost use Rattle.spec_exchange.specs.Listing.{matches};
@@ -26,8 +26,8 @@ ghost use Rattle.spec_exchange.specs.Network.{Cut, Drop, Open, Restart, Wait, Fi
 ghost use Rattle.examples_exchange.specs.Servers.{one_session, session, from_client, ask, after_all, status_after};
 ghost use Rattle.examples_exchange.specs.Servers.{body_after, records_after, files_after, binding, binding_logon, setup};
 ghost use Rattle.examples_exchange.specs.Servers.{in_second, second_id, make, by_guid, lock_of, made_info, first_open};
-ghost use Rattle.examples_exchange.specs.Servers.{second_open, with_full_journal, with_all_expired_guids};
-ghost use Rattle.examples_exchange.specs.Servers.{second_session, ask_second, reconnect, unjudged, journal_stands, again, disk_again, on_second_tree, read_nothing};
+ghost use Rattle.examples_exchange.specs.Servers.{second_open, with_full_journal, limited_to, counts_of, with_all_expired_guids};
+ghost use Rattle.examples_exchange.specs.Servers.{second_session, ask_second, reconnect, unjudged, journal_stands, again, disk_again, on_second_tree, read_nothing, make_below, make_named, full_directory, full_directory_behind, marked_disk, both_marked_disk, moved_in_disk, held_disk};
 ghost use Rattle.examples_exchange.specs.Servers.{on_pipes, with_next_tree, on_disk, epoch_on, version_on};
 ghost use Rattle.examples_exchange.specs.Servers.{first_version_disk, make_with, closed_file, basic_to, basic_after, access_after, its_origin};
 ghost use Rattle.examples_exchange.specs.Laws.{laws_hold};
@@ -714,6 +714,47 @@ pub fn basic_setting_example()
         ≡ 0xc0000022 }
 {}
 
+/// A directory that is marked for deletion takes no new name, and where its last open leaves while something stands in it, it
+/// stays without its mark.
+pub fn a_full_directory_stays_example()
+    ensures marked { records_after one_session full_directory (ask (Close first_open false))
+        ≡ DeleteRecord (record { session = session; connection = 0; message = 9 }) 1 true ∷ [] }
+    ensures no_new_name { status_after one_session (full_directory ++ ask (Close first_open false) ∷ []) (ask (make_below 99 0x81 2))
+        ≡ 0xc0000056 }
+    ensures no_name { status_after one_session (full_directory ++ ask (Close first_open false) ∷ []) (ask (make_below 98 0x81 1))
+        ≡ 0xc0000056 }
+    ensures no_rename { status_after one_session (ask (make_named 100) ∷ full_directory_behind ++ ask (Close second_open false) ∷ [])
+        (ask (SetInfo first_open (Rename false (97 ∷ 92 ∷ 100 ∷ [])))) ≡ 0xc0000056 }
+    ensures cleared { records_after one_session (full_directory ++ ask (Close first_open false) ∷ []) (ask (Close second_open false))
+        ≡ DeleteRecord (record { session = session; connection = 0; message = 9 }) 1 false ∷ [] }
+    ensures stays { files_after one_session (full_directory ++ ask (Close first_open false) ∷ ask (Close second_open false) ∷ []) ≡ 2 }
+    ensures new_name { status_after one_session (full_directory ++ ask (Close first_open false) ∷ ask (Close second_open false) ∷ [])
+        (ask (make_below 99 0x81 2)) ≡ 0 }
+    ensures marked_and_cleared { records_after one_session (full_directory ++ ask (Close second_open false) ∷ []) (ask (Close first_open false))
+        ≡ DeleteRecord (record { session = session; connection = 0; message = 9 }) 1 true
+        ∷ DeleteRecord (record { session = session; connection = 0; message = 9 }) 1 false ∷ [] }
+    ensures goes_when_empty { files_after one_session (full_directory ++ ask (Close first_open false) ∷ ask (Close second_open false)
+        ∷ ask (make_below 98 0x10081 1) ∷ ask (SetInfo 4294967300 (SetDelete true)) ∷ ask (Close 4294967300 false)
+        ∷ ask (make 0x10081 7 1 0x1001 None) ∷ ask (Close 4294967301 false) ∷ []) ≡ 0 }
+{}
+
+/// A start clears the mark of a directory that has no open and can't go with the new epoch: one in which something stood when
+/// its turn came, by its number.
+pub fn marks_at_a_start_example()
+    ensures cleared { recovery_records marked_disk ≡ EpochRecord 2 ∷ DeleteRecord (record { session = 0; connection = 0; message = 0 }) 1 false ∷ [] }
+    ensures again { (on_disk (marked_disk ++ recovery_records marked_disk)).delete_pending 1 ≡ false }
+    ensures its_turn { recovery_records both_marked_disk
+        ≡ EpochRecord 2 ∷ DeleteRecord (record { session = 0; connection = 0; message = 0 }) 1 false ∷ [] }
+    ensures its_turn_left { (on_disk both_marked_disk).entries ≡ record { file = 1; path = 97 ∷ [] } ∷ [] }
+    ensures all_go { recovery_records moved_in_disk ≡ EpochRecord 2 ∷ [] }
+    ensures none_left { (on_disk moved_in_disk).entries ≡ [] }
+    ensures held { recovery_records held_disk ≡ EpochRecord 2 ∷ [] }
+    ensures held_pending { (on_disk held_disk).delete_pending 1 ≡ true }
+    ensures expired { (step (step (on_disk held_disk) 0 (Accept 0)).server 600000000 (Accept 1)).records
+        ≡ ExpireRecord (record { session = 0; connection = 1; message = 0 }) first_open
+        ∷ DeleteRecord (record { session = 0; connection = 1; message = 0 }) 1 false ∷ [] }
+{}
+
 /// A plain close owes the flag and the removal, and one that leaves nothing owes no record.
 pub fn records_of_a_close_example()
     ensures delete_pending { records_after one_session (ask (make 0x10183 7 2 0x1040 None) ∷ []) (ask (Close first_open false))
@@ -764,6 +805,26 @@ pub fn full_journal_example()
     ensures end { status_after (with_full_journal (after_all one_session 50 (ask (make 0x10183 7 2 0x1040 None) ∷ []))) [] (End 0) ≡ 0 }
     ensures stays { files_after (with_full_journal (after_all one_session 50 (ask (make 0x10183 7 2 0x1040 None) ∷ []))) (End 0 ∷ []) ≡ 1 }
     ensures goes { files_after one_session (ask (make 0x10183 7 2 0x1040 None) ∷ End 0 ∷ []) ≡ 0 }
+{}
+
+/// What the records of events may fill is the server's own limit. A start left 24 bytes, and a create's record of a file with a
+/// name of one letter takes 51, in a body of 56: at 80 it fits, and at less it is refused and leaves the state as it was. What
+/// writes no record goes on at any limit.
+pub fn limited_journal_example()
+    ensures fits { status_after (limited_to 80 one_session) [] (ask (make 0x183 7 2 0x40 None)) ≡ 0 }
+    ensures filled { counts_of (after_all (limited_to 80 one_session) 100 (ask (make 0x183 7 2 0x40 None) ∷ []))
+        ≡ 1 ∷ 2 ∷ 1 ∷ 1 ∷ 80 ∷ 80 ∷ [] }
+    ensures one_less { status_after (limited_to 79 one_session) [] (ask (make 0x183 7 2 0x40 None)) ≡ 0xc000007f }
+    ensures full { status_after (limited_to 24 one_session) [] (ask (make 0x183 7 2 0x40 None)) ≡ 0xc000007f }
+    ensures below { status_after (limited_to 10 one_session) [] (ask (make 0x183 7 2 0x40 None)) ≡ 0xc000007f }
+    ensures no_record { records_after (limited_to 10 one_session) [] (ask (make 0x183 7 2 0x40 None)) ≡ [] }
+    ensures before { counts_of (limited_to 10 one_session) ≡ 0 ∷ 1 ∷ 0 ∷ 0 ∷ 24 ∷ 10 ∷ [] }
+    ensures behind { counts_of (after_all (limited_to 10 one_session) 100 (ask (make 0x183 7 2 0x40 None) ∷ []))
+        ≡ 0 ∷ 1 ∷ 0 ∷ 0 ∷ 24 ∷ 10 ∷ [] }
+    ensures no_trace { body_after (limited_to 80 (after_all (limited_to 10 one_session) 100 (ask (make 0x183 7 2 0x40 None) ∷ [])))
+        [] (ask (make 0x183 7 2 0x40 None)) ≡ body_after (limited_to 80 one_session) [] (ask (make 0x183 7 2 0x40 None)) }
+    ensures nothing_to_write { status_after (limited_to 80 one_session) (ask (make 0x183 7 2 0x40 None) ∷ [])
+        (ask (make 0x183 7 1 0x40 None)) ≡ 0 }
 {}
 
 /// A persistent open without a session leaves at the first event from its deadline on, unless as many guids are kept as there may be.
@@ -958,6 +1019,48 @@ pub fn what_a_gone_open_leaves_example()
         (ask_second false (make 0x183 7 1 0x40 (by_guid 5 false))) ≡ 0 }
 {}
 
+/// A position is the open's own, 0 at first, and is told by the classes 14 and 18; one of 2^63 or more is refused. Neither it
+/// nor a mode that is set is recorded, of a persistent open either, and neither needs an access.
+pub fn positions_example()
+    ensures at_first { body_after one_session (ask (make 0x10183 7 2 0x40 None) ∷ []) (ask (QueryFile first_open 14 8))
+        ≡ FileInfo 14 (97 ∷ []) (made_info false 100) 0x10183 0x40 0 }
+    ensures set { body_after one_session (ask (make 0x10183 7 2 0x40 None) ∷ ask (SetInfo first_open (SetPosition 9)) ∷ [])
+        (ask (QueryFile first_open 14 8)) ≡ FileInfo 14 (97 ∷ []) (made_info false 100) 0x10183 0x40 9 }
+    ensures told_with_all { body_after one_session (ask (make 0x10183 7 2 0x40 None) ∷ ask (SetInfo first_open (SetPosition 9)) ∷ [])
+        (ask (QueryFile first_open 18 104)) ≡ FileInfo 18 (97 ∷ []) (made_info false 100) 0x10183 0x40 9 }
+    ensures another_open { body_after one_session (ask (make 0x10183 7 2 0x40 None) ∷ ask (make 0x1 7 1 0x40 None)
+        ∷ ask (SetInfo second_open (SetPosition 9)) ∷ []) (ask (QueryFile first_open 14 8)) ≡ FileInfo 14 (97 ∷ []) (made_info false 100) 0x10183 0x40 0 }
+    ensures highest { status_after one_session (ask (make 0x10183 7 2 0x40 None) ∷ [])
+        (ask (SetInfo first_open (SetPosition 0x7fff_ffff_ffff_ffff))) ≡ 0 }
+    ensures past_it { status_after one_session (ask (make 0x10183 7 2 0x40 None) ∷ [])
+        (ask (SetInfo first_open (SetPosition 0x8000_0000_0000_0000))) ≡ 0xc000000d }
+    ensures by_form { status_after one_session [] (ask (SetInfo first_open (SetPosition 0x8000_0000_0000_0000))) ≡ 0xc000000d }
+    ensures without_access { status_after one_session (ask (make 0x1 7 2 0x40 None) ∷ [])
+        (ask (SetInfo first_open (SetPosition 9))) ≡ 0 }
+    ensures no_record { records_after one_session (ask (make 0x183 7 2 0x40 (by_guid 5 true)) ∷ [])
+        (ask (SetInfo first_open (SetPosition 9))) ≡ [] }
+    ensures mode_without_access { status_after one_session (ask (make 0x1 7 2 0x40 None) ∷ []) (ask (SetInfo first_open SetMode)) ≡ 0 }
+    ensures no_record_of_mode { records_after one_session (ask (make 0x183 7 2 0x40 (by_guid 5 true)) ∷ [])
+        (ask (SetInfo first_open SetMode)) ≡ [] }
+{}
+
+/// Four bytes for what needs four, and a file's stream but none of a directory; no file has a short name, whatever room there
+/// is for it. None of these classes needs an access.
+pub fn further_classes_example()
+    ensures attributes { status_after one_session (ask (make 0x1 7 2 0x40 None) ∷ []) (ask (QueryFile first_open 7 4)) ≡ 0 }
+    ensures attributes_short { status_after one_session (ask (make 0x1 7 2 0x40 None) ∷ []) (ask (QueryFile first_open 7 3)) ≡ 0xc0000004 }
+    ensures access { status_after one_session (ask (make 0x1 7 2 0x40 None) ∷ []) (ask (QueryFile first_open 8 3)) ≡ 0xc0000004 }
+    ensures name { status_after one_session (ask (make 0x1 7 2 0x40 None) ∷ []) (ask (QueryFile first_open 9 8)) ≡ 0 }
+    ensures name_short { status_after one_session (ask (make 0x1 7 2 0x40 None) ∷ []) (ask (QueryFile first_open 9 7)) ≡ 0xc0000004 }
+    ensures position_short { status_after one_session (ask (make 0x1 7 2 0x40 None) ∷ []) (ask (QueryFile first_open 14 7)) ≡ 0xc0000004 }
+    ensures stream { status_after one_session (ask (make 0x1 7 2 0x40 None) ∷ []) (ask (QueryFile first_open 22 38)) ≡ 0 }
+    ensures stream_short { status_after one_session (ask (make 0x1 7 2 0x40 None) ∷ []) (ask (QueryFile first_open 22 37)) ≡ 0xc0000004 }
+    ensures no_stream { status_after one_session (ask (make 0x1 7 2 1 None) ∷ []) (ask (QueryFile first_open 22 0)) ≡ 0 }
+    ensures no_short_name { status_after one_session (ask (make 0x1 7 2 0x40 None) ∷ []) (ask (QueryFile first_open 21 0)) ≡ 0xc0000034 }
+    ensures sectors { status_after one_session (ask (make 0x1 7 2 0x40 None) ∷ []) (ask (QueryVolume first_open 11 28)) ≡ 0 }
+    ensures sectors_short { status_after one_session (ask (make 0x1 7 2 0x40 None) ∷ []) (ask (QueryVolume first_open 11 27)) ≡ 0xc0000004 }
+{}
+
 /// What successes end_of: ENCRYPT_DATA and the channel's number, kind and capabilities of a tree, room and what is used of
 /// it, a file's class with the open's access and options, a listing's class, and the server's address.
 pub fn told_by_successes_example()
@@ -970,7 +1073,7 @@ pub fn told_by_successes_example()
     ensures volume { body_after one_session (ask (make 0x183 7 2 0x40 (by_guid 5 true)) ∷ ask (Write first_open 3 (1 ∷ 2 ∷ []) 0)
         ∷ []) (ask (QueryVolume first_open 7 32)) ≡ VolumeInfo 7 268435456 5 }
     ensures file { body_after one_session (ask (make 0x10183 7 2 0x1040 None) ∷ []) (ask (QueryFile first_open 18 104))
-        ≡ FileInfo 18 (97 ∷ []) (made_info false 100) 0x10183 0x1040 }
+        ≡ FileInfo 18 (97 ∷ []) (made_info false 100) 0x10183 0x1040 0 }
     ensures listing { body_after one_session (ask (make 0x183 7 2 1 None) ∷ [])
         (ask (ListDirectory first_open 37 true true (42 ∷ []) 200))
         ≡ Listing 37 (record { name = 46 ∷ []; info = made_info true 100 } ∷ []) }

@@ -2,7 +2,8 @@
 #![tactic(auto, unfolding(crate::specs::commands::Computed::computed))]
 
 ghost use Rattle.std.specs.Prelude.{◌≡◌, ℕ, [], ◌∷◌, ◌++◌, true, false, Some, None};
-ghost use Rattle.spec_exchange.specs.Commands.{Close, Read, Write, ListDirectory, TreeConnect, Create, Unreadable};
+ghost use Rattle.spec_exchange.specs.Commands.{Close, Read, Write, ListDirectory, TreeConnect, Create, Unreadable, SetInfo};
+ghost use Rattle.spec_exchange.specs.Commands.{SetPosition, SetMode};
 ghost use Rattle.spec_exchange.specs.State.{Count, Empty, Listing};
 ghost use Rattle.spec_commands.specs.Charges.{payload};
 ghost use Rattle.spec_commands.specs.CommandOf.{command_of};
@@ -10,10 +11,8 @@ ghost use Rattle.spec_commands.specs.BodyOf.{body_of};
 ghost use Rattle.spec_commands.specs.ReplyBody.{reply_body};
 ghost use Rattle.spec_commands.specs.ReplyOf.{reply_of};
 ghost use Rattle.spec_wire.specs.messages.Places.{le};
-ghost use Rattle.spec_commands.specs.Infos.{attributes_of, interface_bytes};
-ghost use Rattle.examples_world.specs.commands.Samples.{header_of, charged, a_read, told, zeros, a_create, replied, two_names, with_attributes};
-ghost use Rattle.examples_world.specs.commands.Samples.{a_plain_create, creating, a_context, an_attaching, old_ask, old_again, maximal, disk};
-ghost use Rattle.examples_world.specs.commands.Samples.{a_unit, half_a_pair};
+ghost use Rattle.spec_commands.specs.Infos.{attributes_of, interface_bytes, file_bytes, volume_bytes};
+ghost use Rattle.examples_world.specs.commands.Samples.{header_of, charged, a_read, told, zeros, a_create, replied, two_names, with_attributes, a_plain_create, creating, a_context, an_attaching, old_ask, old_again, maximal, disk, a_unit, half_a_pair, with_size};
 
 /// A CLOSE that asks for times and lengths (MS-SMB2 2.2.15).
 pub fn close_example()
@@ -83,6 +82,43 @@ pub fn unreadable_example()
         ≡ Some (Unreadable 0xc0000003) }
     ensures short { command_of told (header_of 7 0) zeros ≡ Some (Unreadable 0xc000000d) }
     ensures cancel { command_of told (header_of 12 0) zeros ≡ None }
+{}
+
+/// A position and a mode that are set (2.2.39, MS-FSCC 2.4.35, 2.4.26): a mode's bits are passed over, and a position is 8 bytes.
+pub fn further_settings_example()
+    ensures position { command_of told (header_of 17 0) (zeros ++ 33 ∷ 0 ∷ 1 ∷ 14 ∷ 8 ∷ 0 ∷ 0 ∷ 0 ∷ 96 ∷ 0 ∷ 0 ∷ 0 ∷ 0 ∷ 0 ∷ 0 ∷ 0 ∷ 5 ∷ 0 ∷ 0 ∷ 0 ∷ 0 ∷ 0 ∷ 0 ∷ 0 ∷ 5 ∷ 0 ∷ 0
+        ∷ 0 ∷ 0 ∷ 0 ∷ 0 ∷ 0 ∷ 9 ∷ 0 ∷ 0 ∷ 0 ∷ 0 ∷ 0 ∷ 0 ∷ 0 ∷ [])
+        ≡ Some (SetInfo 5 (SetPosition 9)) }
+    ensures position_written { body_of (SetInfo 5 (SetPosition 9))
+        ≡ 33 ∷ 0 ∷ 1 ∷ 14 ∷ 8 ∷ 0 ∷ 0 ∷ 0 ∷ 96 ∷ 0 ∷ 0 ∷ 0 ∷ 0 ∷ 0 ∷ 0 ∷ 0 ∷ 5 ∷ 0 ∷ 0 ∷ 0 ∷ 0 ∷ 0 ∷ 0 ∷ 0 ∷ 5 ∷ 0 ∷ 0
+        ∷ 0 ∷ 0 ∷ 0 ∷ 0 ∷ 0 ∷ 9 ∷ 0 ∷ 0 ∷ 0 ∷ 0 ∷ 0 ∷ 0 ∷ 0 ∷ [] }
+    ensures short { command_of told (header_of 17 0) (zeros ++ 33 ∷ 0 ∷ 1 ∷ 14 ∷ 7 ∷ 0 ∷ 0 ∷ 0 ∷ 96 ∷ 0 ∷ 0 ∷ 0 ∷ 0 ∷ 0 ∷ 0 ∷ 0 ∷ 5 ∷ 0 ∷ 0 ∷ 0 ∷ 0 ∷ 0 ∷ 0 ∷ 0 ∷ 5 ∷ 0 ∷ 0
+        ∷ 0 ∷ 0 ∷ 0 ∷ 0 ∷ 0 ∷ 9 ∷ 0 ∷ 0 ∷ 0 ∷ 0 ∷ 0 ∷ 0 ∷ [])
+        ≡ Some (Unreadable 0xc000000d) }
+    ensures mode { command_of told (header_of 17 0) (zeros ++ 33 ∷ 0 ∷ 1 ∷ 16 ∷ 4 ∷ 0 ∷ 0 ∷ 0 ∷ 96 ∷ 0 ∷ 0 ∷ 0 ∷ 0 ∷ 0 ∷ 0 ∷ 0 ∷ 5 ∷ 0 ∷ 0 ∷ 0 ∷ 0 ∷ 0 ∷ 0 ∷ 0 ∷ 5 ∷ 0 ∷ 0
+        ∷ 0 ∷ 0 ∷ 0 ∷ 0 ∷ 0 ∷ 2 ∷ 0 ∷ 0 ∷ 0 ∷ [])
+        ≡ Some (SetInfo 5 SetMode) }
+    ensures mode_written { body_of (SetInfo 5 SetMode)
+        ≡ 33 ∷ 0 ∷ 1 ∷ 16 ∷ 4 ∷ 0 ∷ 0 ∷ 0 ∷ 96 ∷ 0 ∷ 0 ∷ 0 ∷ 0 ∷ 0 ∷ 0 ∷ 0 ∷ 5 ∷ 0 ∷ 0 ∷ 0 ∷ 0 ∷ 0 ∷ 0 ∷ 0 ∷ 5 ∷ 0 ∷ 0
+        ∷ 0 ∷ 0 ∷ 0 ∷ 0 ∷ 0 ∷ 0 ∷ 0 ∷ 0 ∷ 0 ∷ [] }
+{}
+
+/// What the further classes tell of a file `a` of 5 bytes and of a directory (MS-FSCC 2.4.12, 2.4.1, 2.1.7, 2.4.35, 2.4.26, 2.4.3,
+/// 2.4.43), and of a volume's sectors (2.5.7).
+pub fn further_answers_example()
+    ensures attributes { file_bytes 7 (97 ∷ []) (with_size false 5) 0x12019f 2 9 ≡ 0 ∷ 0 ∷ 0 ∷ 0 ∷ [] }
+    ensures access { file_bytes 8 (97 ∷ []) (with_size false 5) 0x12019f 2 9 ≡ 159 ∷ 1 ∷ 18 ∷ 0 ∷ [] }
+    ensures name { file_bytes 9 (97 ∷ []) (with_size false 5) 0x12019f 2 9 ≡ 4 ∷ 0 ∷ 0 ∷ 0 ∷ 92 ∷ 0 ∷ 97 ∷ 0 ∷ [] }
+    ensures position { file_bytes 14 (97 ∷ []) (with_size false 5) 0x12019f 2 9 ≡ 9 ∷ 0 ∷ 0 ∷ 0 ∷ 0 ∷ 0 ∷ 0 ∷ 0 ∷ [] }
+    ensures mode { file_bytes 16 (97 ∷ []) (with_size false 5) 0x12019f 2 9 ≡ 0 ∷ 0 ∷ 0 ∷ 0 ∷ [] }
+    ensures alignment { file_bytes 17 (97 ∷ []) (with_size false 5) 0x12019f 2 9 ≡ 0 ∷ 0 ∷ 0 ∷ 0 ∷ [] }
+    ensures stream { file_bytes 22 (97 ∷ []) (with_size false 5) 0x12019f 2 9
+        ≡ 0 ∷ 0 ∷ 0 ∷ 0 ∷ 14 ∷ 0 ∷ 0 ∷ 0 ∷ 5 ∷ 0 ∷ 0 ∷ 0 ∷ 0 ∷ 0 ∷ 0 ∷ 0 ∷ 0 ∷ 16 ∷ 0 ∷ 0 ∷ 0 ∷ 0 ∷ 0 ∷ 0 ∷ 58 ∷ 0 ∷ 58
+        ∷ 0 ∷ 36 ∷ 0 ∷ 68 ∷ 0 ∷ 65 ∷ 0 ∷ 84 ∷ 0 ∷ 65 ∷ 0 ∷ [] }
+    ensures no_stream { file_bytes 22 (97 ∷ []) (with_size true 0) 0x12019f 2 9 ≡ [] }
+    ensures sectors { volume_bytes 11 4096 0
+        ≡ 0 ∷ 2 ∷ 0 ∷ 0 ∷ 0 ∷ 16 ∷ 0 ∷ 0 ∷ 0 ∷ 16 ∷ 0 ∷ 0 ∷ 0 ∷ 16 ∷ 0 ∷ 0 ∷ 3 ∷ 0 ∷ 0 ∷ 0 ∷ 0 ∷ 0 ∷ 0 ∷ 0 ∷ 0 ∷ 0 ∷ 0
+        ∷ 0 ∷ [] }
 {}
 
 /// A READ of 65,537 bytes costs two credits, and one of 65,536 or of none costs one, for which 0 stands too (3.1.5.2, 3.3.5.2.5).

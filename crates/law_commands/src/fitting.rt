@@ -7,7 +7,7 @@ ghost use Rattle.std.specs.Prelude.{◌≡◌, ◌<◌, ◌^◌, ℕ, Bool, true
 ghost use Rattle.spec_exchange.specs.Commands.{form, Read, ListDirectory, QueryFile, QueryVolume};
 ghost use Rattle.spec_exchange.specs.State.{Server, Reply, Info, Named, Content, Listing, FileInfo, VolumeInfo};
 ghost use Rattle.spec_exchange.specs.Operations.{Op, keeps_limits, request_of, reconnect_of};
-ghost use Rattle.spec_exchange.specs.Verdict.{Tell, Show};
+ghost use Rattle.spec_exchange.specs.Verdict.{Tell, Show, Place};
 ghost use Rattle.spec_exchange.specs.CheckOpen.{read_check, file_query_check, list_check};
 ghost use Rattle.spec_commands.specs.Fits.{FitsAsked, FitsSuccess, FitsReply};
 ghost use Rattle.law_commands.specs.commands.Fitting.{IsFittingAnswer, AreTexts};
@@ -31,13 +31,13 @@ pub fn success_fits_law()
         → form (Read o at size minimum channel) ≡ None → read_check s o at size minimum ≡ Tell o (Content bytes)
         → FitsSuccess token (Read o at size minimum channel) (Content bytes) }
     ensures list { (token : List ℕ) (s : Server) (o class : ℕ) (restart single : Bool) (pattern : List ℕ) (room told : ℕ)
-        (last : Option (List ℕ)) (entries : List Named) → form (ListDirectory o class restart single pattern room) ≡ None
-        → list_check s o class restart single pattern room ≡ Show o last (Listing told entries) → AreTexts entries
+        (place : Place) (entries : List Named) → form (ListDirectory o class restart single pattern room) ≡ None
+        → list_check s o class restart single pattern room ≡ Show o place (Listing told entries) → AreTexts entries
         → FitsSuccess token (ListDirectory o class restart single pattern room) (Listing told entries) }
-    ensures file { (token : List ℕ) (s : Server) (o class room told : ℕ) (path : List ℕ) (info : Info) (access options : ℕ)
+    ensures file { (token : List ℕ) (s : Server) (o class room told : ℕ) (path : List ℕ) (info : Info) (access options position : ℕ)
         → form (QueryFile o class room) ≡ None
-        → file_query_check s o class room ≡ Tell o (FileInfo told path info access options) → IsUtf8 path
-        → FitsSuccess token (QueryFile o class room) (FileInfo told path info access options) }
+        → file_query_check s o class room ≡ Tell o (FileInfo told path info access options position) → IsUtf8 path
+        → FitsSuccess token (QueryFile o class room) (FileInfo told path info access options position) }
     ensures volume { (token : List ℕ) (file class room told size used : ℕ)
         → FitsSuccess token (QueryVolume file class room) (VolumeInfo told size used) }
 {}

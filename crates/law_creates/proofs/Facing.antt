@@ -8,7 +8,7 @@ use Rattle.spec_exchange.specs.Commands.{Command, TreeDisconnect, Create, Create
 use Rattle.spec_exchange.specs.State.{Server, Tree, Making}
 use Rattle.spec_exchange.specs.CheckSetup.{tree_in, is_new}
 use Rattle.spec_exchange.specs.Files.{set_delete_pending}
-use Rattle.spec_exchange.specs.Opens.{drop_open, leave_open, pending_behind, goes}
+use Rattle.spec_exchange.specs.Opens.{drop_open, leave_open, pending_behind, goes, is_kept_back}
 use Rattle.spec_exchange.specs.Step.{expire, add_expired_guid}
 use Rattle.spec_exchange.specs.Client.{Client, guid_for}
 use Rattle.spec_exchange.specs.Network.{Conn, Sent, Token, ForDialog, ForOp, ForAttach}
@@ -52,7 +52,8 @@ drop_rest s o false = refl
 leave_rest : (s : Server) (o : ℕ) (b : Bool) → rest (leave_open s o) ≡ rest s
 leave_rest s o b =
     let d = drop_open (pending_behind s o) o in
-    either (λ u. rest u ≡ rest s) (goes d (s.opened o).file) _ _ (λ _. drop_rest s o _) (λ _. drop_rest s o _)
+    either (λ u. rest u ≡ rest s) (is_kept_back d (s.opened o).file) _ _ (λ _. drop_rest s o _)
+    (λ _. either (λ u. rest u ≡ rest s) (goes d (s.opened o).file) _ _ (λ _. drop_rest s o _) (λ _. drop_rest s o _))
 
 expired_rest : (s : Server) (client : ℕ) (q : Option ℕ) → rest (add_expired_guid s client q) ≡ rest s
 expired_rest s client None = refl

@@ -1,7 +1,7 @@
 -- What holds of creates on every run, and what it says of their acts.
 use Rattle.std.proofs.Common.{◌≡◌, ℕ, ◌≤◌, true, false, List, [], ◌∷◌, ◌++◌, refl, arith, subst, ◌∙◌, ap}
 use Rattle.spec_exchange.specs.State.{Server, Open}
-use Rattle.spec_exchange.specs.Fold.{fold_from, sweep, recovered_from}
+use Rattle.spec_exchange.specs.Fold.{fold_from, sweep, recovered_from, unmark_records}
 use Rattle.spec_exchange.specs.Operations.{Op, Outcome, is_create, is_ok, is_unsettled}
 use Rattle.spec_exchange.specs.Network.{World, Event, Serve, Sent, Settings, happens, run, start, later, may_serve}
 use Rattle.spec_exchange.specs.Network.{serve_front, absorb_front}
@@ -78,7 +78,7 @@ known z es =
     }
 
 begins : (z : Settings) → CreatesHold (start z) (λ g. 0)
-unfolding fold_from sweep
+unfolding fold_from sweep unmark_records
 begins z =
     record {
       made = λ p o h. absurd (cc);

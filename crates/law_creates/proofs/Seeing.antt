@@ -4,7 +4,7 @@ use Rattle.spec_exchange.specs.Table.{put, put2}
 use Rattle.spec_exchange.specs.Commands.{CreateRequest, Durable, deletes_on_close}
 use Rattle.spec_exchange.specs.State.{Server, Message, Open}
 use Rattle.spec_exchange.specs.Files.{set_delete_pending}
-use Rattle.spec_exchange.specs.Opens.{drop_open, leave_open, pending_behind, goes, with_guid}
+use Rattle.spec_exchange.specs.Opens.{drop_open, leave_open, pending_behind, goes, is_kept_back, with_guid}
 use Rattle.spec_exchange.specs.CheckCreate.{empties}
 use Rattle.spec_exchange.specs.CheckOpen.{is_late, is_slot}
 use Rattle.spec_exchange.specs.Effects.{reach, keep_closed, keep_slot, change_file, make_open, open_row, new_file}
@@ -39,9 +39,11 @@ drop_seen s o false = refl
 pub leave_seen : (s : Server) (o : ℕ) → seen (leave_open s o) ≡ leave_by (seen s) o (s.opened o).create_guid
 leave_seen s o =
     let d = drop_open (pending_behind s o) o in
-    either (λ u. seen u ≡ leave_by (seen s) o (s.opened o).create_guid) (goes d (s.opened o).file) _ _
+    either (λ u. seen u ≡ leave_by (seen s) o (s.opened o).create_guid) (is_kept_back d (s.opened o).file) _ _
     (λ _. drop_seen s o (deletes_on_close (s.opened o).options))
+    (λ _. either (λ u. seen u ≡ leave_by (seen s) o (s.opened o).create_guid) (goes d (s.opened o).file) _ _
     (λ _. drop_seen s o (deletes_on_close (s.opened o).options))
+    (λ _. drop_seen s o (deletes_on_close (s.opened o).options)))
 
 closed_seen : (s : Server) (x : ℕ) (q : Option ℕ) → seen (keep_closed s x q) ≡ record (seen s) { closed = closed_by (seen s).closed x q }
 closed_seen s x None = refl

@@ -1,4 +1,4 @@
--- An answer that owes no record leaves the files as they are.
+-- An answer that owes no record leaves the files as they are; one that owes ends alone lets files go.
 use Rattle.std.proofs.lemmas.Bool.{eqb-false}
 use Rattle.std.proofs.Common.{eqb-true, ◌≡◌, ◌≢◌, ℕ, ◌==◌, Bool, true, false, not, ◌&&◌, if◌then◌else◌, List, [], ◌∷◌, ◌++◌}
 use Rattle.std.proofs.Common.{Option, Some, None, is_some, refl, arith, sym, ◌∙◌, ap, subst}
@@ -6,10 +6,8 @@ use Rattle.std.proofs.lemmas.Bool.Decides.{nat_tests}
 use Rattle.spec_exchange.specs.Table.{put, has, placed_in}
 use Rattle.spec_exchange.specs.Commands.{TreeDisconnect, CreateRequest, deletes_on_close, asks_directory}
 use Rattle.spec_exchange.specs.State.{Server, Message, Open, Record, Origin, CreateRecord, DeleteRecord, RemoveRecord, CloseRecord, Kept}
-use Rattle.spec_exchange.specs.Files.{set_delete_pending}
-use Rattle.spec_exchange.specs.Opens.{goes, drop_open, leave_open, pending_behind, leave_records, pending_records}
-use Rattle.spec_exchange.specs.Opens.{shut_records, gone_records}
-use Rattle.spec_exchange.specs.Opens.{granted}
+use Rattle.spec_exchange.specs.Files.{set_delete_pending, remove_file}
+use Rattle.spec_exchange.specs.Opens.{goes, drop_open, leave_open, pending_behind, leave_records, pending_records, shut_records, gone_records, granted, is_kept_back, without_gone, left_file_records}
 use Rattle.spec_exchange.specs.CheckCreate.{empties, action_on_found}
 use Rattle.spec_exchange.specs.CheckOpen.{is_late, is_slot, file_of}
 use Rattle.spec_exchange.specs.Records.{origin_of}
@@ -22,10 +20,11 @@ use Rattle.spec_exchange.specs.Verdict.{Verdict, Refuse, Give, KeepRefusal, Repe
 use Rattle.spec_exchange.specs.Verdict.{KeepSlot, PutRanges, Alter, CloseOpen, Challenge, ChallengeBinding, Begin, Join}
 use Rattle.spec_exchange.specs.Verdict.{EndSession, AddTree, DropTree, Change, PutBytes, PutEnd, PutBasic}
 use Rattle.spec_exchange.specs.Verdict.{PutDeletePending, PutPath, PutNothing}
-use Rattle.law_server.proofs.tables.Logic.{either, front_of}
+use Rattle.spec_exchange.specs.Step.{expire, add_expired_guid}
+use Rattle.law_server.proofs.tables.Logic.{either, both, front_of, back_of}
 use Rattle.law_server.proofs.tables.Lists.{has-placed, has-without, has-staying}
 use Rattle.law_server.proofs.tables.Found.{Facts, MakeFacts}
-use Rattle.law_locks.proofs.Steady.{Steady, steady_same, steady_on}
+use Rattle.law_locks.proofs.Calm.{Steady, Calm, steady_same, steady_on, calm_of, calm_on, is_end, all_ends}
 
 steady_self : (t : Server) → Steady t t
 steady_self t = steady_same t t refl refl refl refl refl
@@ -64,13 +63,15 @@ pending_if s origin o e p d = of_bools (s.opened o).persistent (deletes_on_close
     of_bools false false c e p d = absurd (cc)
     of_bools true b c e p d = absurd (cc)
 
-stays_if : (s : Server) (origin : Origin) (f : ℕ) → gone_records s origin f ≡ [] → goes s f ≡ false
-unfolding gone_records
-stays_if s origin f e = of_bool (goes s f) e
+stays_if : (s : Server) (origin : Origin) (f : ℕ) → left_file_records s origin f ≡ [] → is_kept_back s f ≡ false × goes s f ≡ false
+unfolding left_file_records gone_records
+stays_if s origin f e = of_bools (is_kept_back s f) (goes s f) e
   where
-    of_bool : (b : Bool) → (if b then RemoveRecord origin f ∷ [] else []) ≡ [] → b ≡ false
-    of_bool true e = absurd (cc)
-    of_bool false e = refl
+    of_bools : (k b : Bool) → (if k then DeleteRecord origin f false ∷ [] else (if b then RemoveRecord origin f ∷ [] else [])) ≡ []
+        → k ≡ false × b ≡ false
+    of_bools true b e = absurd (cc)
+    of_bools false true e = absurd (cc)
+    of_bools false false e = (refl, refl)
 
 set_pending_steady : (s : Server) (f : ℕ) → s.delete_pending f ≡ true → Steady s (set_delete_pending s f true)
 set_pending_steady s f m = record { entries = refl; delete_pending = λ g. grind arith; directory = λ g. refl; others = λ p g h k l. (h, k) }
@@ -88,16 +89,45 @@ pending_steady : (s : Server) (o : ℕ) → (deletes_on_close (s.opened o).optio
 pending_steady s o m = steady_if s (deletes_on_close (s.opened o).options) _ _
     (λ d. set_pending_steady s (s.opened o).file (m d)) (λ _. steady_self s)
 
+-- where its file neither goes nor is kept back
+left_steady : (s : Server) (o : ℕ) → (deletes_on_close (s.opened o).options ≡ true → s.delete_pending (s.opened o).file ≡ true)
+    → is_kept_back (drop_open (pending_behind s o) o) (s.opened o).file ≡ false
+    → goes (drop_open (pending_behind s o) o) (s.opened o).file ≡ false → Steady s (leave_open s o)
+left_steady s o m k g =
+    let w = drop_open (pending_behind s o) o in
+    either (λ u. Steady s u) (is_kept_back w (s.opened o).file) _ _ (λ t. absurd (off (is_kept_back w (s.opened o).file) k t))
+    (λ _. either (λ u. Steady s u) (goes w (s.opened o).file) _ _ (λ t. absurd (off (goes w (s.opened o).file) g t))
+    (λ _. steady_on s (pending_behind s o) w (pending_steady s o m) (drop_steady (pending_behind s o) o)))
+  where
+    off : (b : Bool) → b ≡ false → b ≡ true → ⊥
+    off b e f = cc
+
 pub leave_steady : (s : Server) (origin : Origin) (o : ℕ) → leave_records s origin o ≡ [] → Steady s (leave_open s o)
 unfolding leave_records
 leave_steady s origin o e =
     let b = no_back (pending_records s origin o) _ e in
     let p = plain_if s origin o (no_front (shut_records s origin o) _ b) in
-    let g = stays_if (drop_open (pending_behind s o) o) origin (s.opened o).file (no_back (shut_records s origin o) _ b) in
-    either (λ u. Steady s u) (goes (drop_open (pending_behind s o) o) (s.opened o).file) _ _ (λ t. absurd (grind arith))
-    (λ _. steady_on s (pending_behind s o) (drop_open (pending_behind s o) o)
-    (pending_steady s o (pending_if s origin o (no_front (pending_records s origin o) _ e) p))
-    (drop_steady (pending_behind s o) o))
+    let x = stays_if (drop_open (pending_behind s o) o) origin (s.opened o).file (no_back (shut_records s origin o) _ b) in
+    left_steady s o (pending_if s origin o (no_front (pending_records s origin o) _ e) p) x.0 x.1
+
+-- an open that expires so, and doesn't delete on close
+guid_steady : (t s : Server) (client : ℕ) (g : Option ℕ) → Steady t s → Steady t (add_expired_guid s client g)
+guid_steady t s client None st = st
+guid_steady t s client (Some g) st = record {
+  entries = st.entries;
+  delete_pending = st.delete_pending;
+  directory = st.directory;
+  others = st.others;
+}
+
+pub expire_steady : (s : Server) (o : ℕ) → deletes_on_close (s.opened o).options ≡ false
+    → is_kept_back (drop_open (pending_behind s o) o) (s.opened o).file ≡ false
+    → goes (drop_open (pending_behind s o) o) (s.opened o).file ≡ false → Steady s (expire s o)
+expire_steady s o d k g = guid_steady s (leave_open s o) (s.opened o).client_guid (s.opened o).create_guid
+    (left_steady s o (λ e. absurd (off (deletes_on_close (s.opened o).options) d e)) k g)
+  where
+    off : (b : Bool) → b ≡ false → b ≡ true → ⊥
+    off b e f = cc
 
 leave_all_steady : (s : Server) (origin : Origin) (os : List ℕ) → leave_all_records s origin os ≡ [] → Steady s (leave_all s os)
 unfolding leave_all_records leave_all
@@ -262,3 +292,142 @@ bare_steady t m now (Join session) kept f e = steady_same t _ refl refl refl ref
 bare_steady t m now (EndSession session is_quiet) kept f e = end_steady t (origin_of m) session now is_quiet e
 bare_steady t m now (AddTree pipes) kept f e = steady_same t _ refl refl refl refl refl
 bare_steady t m now DropTree kept f e = absurd (kept f.command)
+
+-- ---- one that owes ends alone lets files go, and unmarks none
+
+ends_front : (xs ys : List Record) → all_ends (xs ++ ys) ≡ true → all_ends xs ≡ true
+unfolding all_ends
+ends_front [] ys e = refl
+ends_front (x ∷ xs) ys e = both (is_end x) (all_ends xs) (front_of (is_end x) (all_ends (xs ++ ys)) e)
+    (ends_front xs ys (back_of (is_end x) (all_ends (xs ++ ys)) e))
+
+ends_back : (xs ys : List Record) → all_ends (xs ++ ys) ≡ true → all_ends ys ≡ true
+unfolding all_ends
+ends_back [] ys e = e
+ends_back (x ∷ xs) ys e = ends_back xs ys (back_of (is_end x) (all_ends (xs ++ ys)) e)
+
+calm_self : (t : Server) → Calm t t
+calm_self t = calm_of t t (steady_self t)
+
+unkept : (s : Server) (origin : Origin) (f : ℕ) → all_ends (left_file_records s origin f) ≡ true → is_kept_back s f ≡ false
+unfolding left_file_records all_ends is_end
+unkept s origin f e = of_bool (is_kept_back s f) e
+  where
+    of_bool : (k : Bool) → all_ends (if k then DeleteRecord origin f false ∷ [] else gone_records s origin f) ≡ true → k ≡ false
+    of_bool true e = absurd (cc)
+    of_bool false e = refl
+
+pending_calm : (s : Server) (o : ℕ) → Calm s (pending_behind s o)
+pending_calm s o = either (λ u. Calm s u) (deletes_on_close (s.opened o).options) (set_delete_pending s (s.opened o).file true) s
+    (λ _. record { delete_pending = λ f e. grind arith; others = λ p f h k l. (h, k) }) (λ _. calm_self s)
+
+gone_calm : (s : Server) (f : ℕ) → Calm s (without_gone s f)
+gone_calm s f = either (λ u. Calm s u) (goes s f) (remove_file s f) s
+    (λ _. record { delete_pending = λ g e. e; others = λ p g h k l. (h, k) }) (λ _. calm_self s)
+
+leave_calm : (s : Server) (origin : Origin) (o : ℕ) → all_ends (leave_records s origin o) ≡ true → Calm s (leave_open s o)
+unfolding leave_records
+leave_calm s origin o e =
+    let w = drop_open (pending_behind s o) o in
+    let k = unkept w origin (s.opened o).file (ends_back (shut_records s origin o) _ (ends_back (pending_records s origin o) _ e)) in
+    either (λ u. Calm s u) (is_kept_back w (s.opened o).file) _ _ (λ t. absurd (off (is_kept_back w (s.opened o).file) k t))
+    (λ _. calm_on s (pending_behind s o) (without_gone w (s.opened o).file) (pending_calm s o)
+    (calm_on (pending_behind s o) w (without_gone w (s.opened o).file)
+    (calm_of (pending_behind s o) w (drop_steady (pending_behind s o) o)) (gone_calm w (s.opened o).file)))
+  where
+    off : (b : Bool) → b ≡ false → b ≡ true → ⊥
+    off b e f = cc
+
+leave_all_calm : (s : Server) (origin : Origin) (os : List ℕ) → all_ends (leave_all_records s origin os) ≡ true → Calm s (leave_all s os)
+unfolding leave_all_records leave_all
+leave_all_calm s origin [] e = calm_self s
+leave_all_calm s origin (o ∷ os) e =
+    calm_on s (leave_open s o) _ (leave_calm s origin o (ends_front (leave_records s origin o) _ e))
+    (leave_all_calm (leave_open s o) origin os (ends_back (leave_records s origin o) _ e))
+
+behind_calm : (s : Server) (origin : Origin) (session : ℕ) (quiet : Bool) → all_ends (end_records s origin session quiet) ≡ true
+    → Calm s (files_behind s session quiet)
+unfolding end_records
+behind_calm s origin session true e = calm_self s
+behind_calm s origin session false e = leave_all_calm s origin (plain_of s session) e
+
+end_calm : (s : Server) (origin : Origin) (session now : ℕ) (quiet : Bool) → all_ends (end_records s origin session quiet)
+    ≡ true → Calm s (end_session s session now quiet)
+end_calm s origin session now quiet e =
+    let b = behind_calm s origin session quiet e in
+    record {
+      delete_pending = b.delete_pending;
+      others = λ p f h k l. (let w = has-staying s session p s.opens in front_of (has p s.opens) (not (leaves s session p)) (sym w ∙ h), k);
+    }
+
+pub named_calm : (s : Server) (origin : Origin) (now : ℕ) (named : Option ℕ) (quiet : Bool)
+    → all_ends (records_if_named s origin named quiet) ≡ true → Calm s (end_if_named s now named quiet)
+named_calm s origin now None quiet e = calm_self s
+named_calm s origin now (Some session) quiet e = end_calm s origin session now quiet e
+
+-- ---- the verdicts
+
+-- a file that is made, a lock and a change owe other records
+create_bare : (s : Server) (m : Message) (r : CreateRequest) (found : Option ℕ) (action now : ℕ)
+    → all_ends (create_records s m r found action now) ≡ true → create_records s m r found action now ≡ []
+unfolding create_records all_ends is_end
+create_bare s m r found action now e = of_bool ((action == 1) && not (is_persistent r.durable)) e
+  where
+    of_bool : (b : Bool) → all_ends (if b then [] else CreateRecord (origin_of m) action (new_file s found) r.path
+        (final_attributes s r found) (asks_directory r) now
+        (new_open s m r (granted s (new_file s found) r.access) r.durable) ∷ []) ≡ true
+        → (if b then [] else CreateRecord (origin_of m) action (new_file s found) r.path
+        (final_attributes s r found) (asks_directory r) now
+        (new_open s m r (granted s (new_file s found) r.access) r.durable) ∷ []) ≡ []
+    of_bool true e = refl
+    of_bool false e = absurd (cc)
+
+change_bare : (m : Message) (f now : ℕ) (change : Change) → all_ends (change_records m f now change) ≡ true
+    → change_records m f now change ≡ []
+unfolding change_records all_ends is_end
+change_bare m f now (PutBytes at bytes) e = absurd (cc)
+change_bare m f now (PutEnd size) e = absurd (cc)
+change_bare m f now (PutBasic basic) e = absurd (cc)
+change_bare m f now (PutDeletePending flag) e = absurd (cc)
+change_bare m f now (PutPath replaced path) e = absurd (cc)
+change_bare m f now PutNothing e = refl
+
+pub ends_calm : (t : Server) (m : Message) (now : ℕ) (v : Verdict) → m.command ≢ TreeDisconnect → Facts t m v
+    → all_ends (apply t m now v).records ≡ true → Calm t (apply t m now v).server
+ends_calm t m now (Refuse status) kept f e = calm_self t
+ends_calm t m now (Give body) kept f e = calm_self t
+ends_calm t m now (KeepRefusal guid status) kept f e = calm_of t _ (bare_steady t m now (KeepRefusal guid status) kept f refl)
+ends_calm t m now (Repeat o r) kept f e = calm_of t _ (bare_steady t m now (Repeat o r) kept f refl)
+ends_calm t m now (Attach o r) kept f e = calm_of t _ (bare_steady t m now (Attach o r) kept f refl)
+ends_calm t m now (Make r found action) kept f e = calm_of t _ (bare_steady t m now (Make r found action) kept f
+    (create_bare t m r found action now e))
+ends_calm t m now (TurnDown o status) kept f e = calm_of t _ (bare_steady t m now (TurnDown o status) kept f refl)
+ends_calm t m now (Tell o body) kept f e = calm_of t _ (bare_steady t m now (Tell o body) kept f refl)
+ends_calm t m now (Show o last body) kept f e = calm_of t _ (bare_steady t m now (Show o last body) kept f refl)
+ends_calm t m now (KeepSlot o index number status elements) kept f e =
+    let st = slot_steady t (reach t m o) o index number status (reach_steady t m o) in calm_of t _ st
+ends_calm t m now (PutRanges o index number ranges elements) kept f e =
+    let st = reach_steady t m o in
+    calm_of t _ (slot_steady t (set_ranges (reach t m o) (file_of t o) ranges) o index number 0
+    (record {
+      entries = st.entries;
+      delete_pending = st.delete_pending;
+      directory = st.directory;
+      others = st.others;
+    }))
+ends_calm t m now (Alter o change body) kept f e = calm_of t _ (change_steady t (reach t m o) m (file_of t o) now change (reach_steady t m o)
+    (change_bare m (file_of t o) now change e))
+ends_calm t m now (CloseOpen o body) kept f e =
+    closed_calm (leave_open t o) (t.opened o).create_guid (leave_calm t (origin_of m) o e)
+  where
+    closed_calm : (s : Server) (q : Option ℕ) → Calm t s → Calm t (keep_closed s m.session_id q)
+    closed_calm s None c = c
+    closed_calm s (Some g) c = record { delete_pending = c.delete_pending; others = c.others }
+ends_calm t m now Challenge kept f e = calm_of t _ (bare_steady t m now Challenge kept f refl)
+ends_calm t m now (ChallengeBinding session) kept f e = calm_of t _ (bare_steady t m now (ChallengeBinding session) kept f refl)
+ends_calm t m now (Begin session user previous r is_quiet) kept f e =
+    let c = named_calm t (origin_of m) now previous is_quiet e in record { delete_pending = c.delete_pending; others = c.others }
+ends_calm t m now (Join session) kept f e = calm_of t _ (bare_steady t m now (Join session) kept f refl)
+ends_calm t m now (EndSession session is_quiet) kept f e = end_calm t (origin_of m) session now is_quiet e
+ends_calm t m now (AddTree pipes) kept f e = calm_of t _ (bare_steady t m now (AddTree pipes) kept f refl)
+ends_calm t m now DropTree kept f e = absurd (kept f.command)

@@ -18,19 +18,21 @@ use Rattle.spec_exchange.specs.Network.{Conn, Sent, Received, ForOp}
 use Rattle.spec_exchange.specs.Runs.{is_send_of}
 use Rattle.spec_exchange.specs.Verdict.{Verdict, TurnDown, CloseOpen}
 use Rattle.law_sessions.specs.messages.Connections.{makes_open, shuts_open, create_at, its_request}
+use Rattle.law_server.specs.tables.Fits.{Limit}
 use Rattle.law_server.proofs.tables.Logic.{either}
 use Rattle.law_server.proofs.tables.Doors.{recorded}
 use Rattle.law_server.proofs.tables.Checked.{found}
 use Rattle.law_sessions.specs.sessions.Sessions.{is_ops}
-use Rattle.law_locks.specs.Locks.{Locks, locking, open_at, goes_with}
+use Rattle.law_locks.specs.Locks.{Locks, locking, open_at, is_stuck}
 use Rattle.law_locks.proofs.Words.{lock_kind, lock_stays, close_kind, ok_of, made_of}
 use Rattle.law_locks.proofs.Views.{reach_view, shut_view}
 use Rattle.law_locks.proofs.Verdicts.{closes_in, is_slot_verdict}
 use Rattle.law_locks.proofs.Rooms.{full_persistent, full_plain, stuck_fits}
-use Rattle.law_locks.proofs.Steady.{bare_of, heads_apply}
+use Rattle.law_locks.proofs.Calm.{Ending}
+use Rattle.law_locks.proofs.Steady.{ends_of, big_apply}
 use Rattle.law_locks.proofs.Sees.{CloseSees, Deleted2, NoTree2, Away2, Shuts}
 use Rattle.law_locks.proofs.Serving.{Serving, Served, counted, not_sent, of_other, of_unmade, plain_other, quiet_serve}
-use Rattle.law_locks.proofs.Locking.{same_file, goes_same, same_op, not_ask, clash, no_unfit}
+use Rattle.law_locks.proofs.Locking.{same_file, stuck_same, same_op, not_ask, clash, no_unfit}
 use Rattle.law_locks.proofs.Say.{MaySay}
 
 close_request : (op : Op) (guid file slot number : ℕ) → shuts_open op ≡ true → its_request op guid file slot number ≡ Close file false
@@ -71,7 +73,7 @@ pub record Says (c : Client) (u : Server) (h status : ℕ) : Type 0 where
   pub full : status ≢ user_session_deleted → status ≢ file_closed → u.standing (open_at c h) ≡ true
       → (u.opened (open_at c h)).persistent ≡ true → lower_limit < u.journal + 66
   pub stuck : status ≢ user_session_deleted → status ≢ file_closed → u.standing (open_at c h) ≡ true
-      → (u.opened (open_at c h)).persistent ≡ false → lower_limit < u.journal + 34 × goes_with u (open_at c h) ≡ true
+      → (u.opened (open_at c h)).persistent ≡ false → is_stuck u (open_at c h) ≡ true
 
 pub say_close : (c : Client) (u : Server) (b : ℕ → ℕ) (h : ℕ) (y0 : Received) → y0.token ≡ ForOp h → shuts_open (c.op h)
     ≡ true → Says c u h y0.reply.status → MaySay c u b y0
@@ -101,7 +103,7 @@ say_close c u b h y0 tk sh s =
       of_close_full = λ g e m n1 n2. subst (λ z. u.standing (open_at c z) ≡ true → (u.opened (open_at c z)).persistent
           ≡ true → lower_limit < u.journal + 66) (same_op h g y0.token tk e) (s.full n1 n2);
       of_close_stuck = λ g e m n1 n2. subst (λ z. u.standing (open_at c z) ≡ true → (u.opened (open_at c z)).persistent
-          ≡ false → lower_limit < u.journal + 34 × goes_with u (open_at c z) ≡ true) (same_op h g y0.token tk e)
+          ≡ false → is_stuck u (open_at c z) ≡ true) (same_op h g y0.token tk e)
           (s.stuck n1 n2);
     }
 
@@ -121,7 +123,7 @@ quiet_close : (c : Client) (conns : ℕ → Conn) (t : Server) (a : ℕ → ℕ)
     (counted a x0.token (apply t x0.message now v).acted)
 quiet_close c conns t a k h x0 now v rs w is off bare same =
     quiet_serve c conns t a k x0 now v rs (counted a x0.token (apply t x0.message now v).acted) w.serving
-    (found t x0.message v is) off (λ big. bare) (plain_other c conns t a k x0 _ w.serving
+    (found t x0.message v is) off (λ _. inl bare) (plain_other c conns t a k x0 _ w.serving
     (λ p m. ap (is_send_of p) w.token ∙ of_unmade c h p (close_kind (c.op h) w.shuts) m))
     (counts c conns t a k h x0 (apply t x0.message now v).acted w)
     (λ g m s0 u lv p st cl gone. absurd (let x = clash _ gone (ap (λ z. z (open_at c g)) same ∙ st) in cc))
@@ -139,12 +141,12 @@ settled_not b e f = sym e ∙ f
 
 -- a lock that is unsettled where the open is closed never acted
 shut_idle : (c : Client) (conns : ℕ → Conn) (d t : Server) (a : ℕ → ℕ) (k h g : ℕ) (x0 : Sent) (front : List Record)
-    → Copy c conns t a k h x0 → t.journal ≡ d.journal
+    → Copy c conns t a k h x0 → Limit d → t.journal ≡ d.journal
     → fits d (front ++ leave_records t (origin_of x0.message) (open_at c h)) ≡ true → t.present x0.message.session_id
     ≡ true
     → locking (c.op g) ≡ true → c.sent g ≡ true → is_unsettled (c.outcome g) ≡ true → c.live ≡ true
     → t.standing (open_at c h) ≡ true → create_at c h ≡ create_at c g → a g ≡ 0
-shut_idle c conns d t a k h g x0 front w same room p m s0 un lv st its =
+shut_idle c conns d t a k h g x0 front w whole same room p m s0 un lv st its =
     let i = w.serving.locks in let C = w.serving.links in
     let tg = C.taken g s0 in let th = C.taken h w.sent in let kind = lock_kind (c.op g) m in
     elim (nat_lt h g) as (λ b. nat_lt h g ≡ b → a g ≡ 0) [
@@ -160,16 +162,13 @@ shut_idle c conns d t a k h g x0 front w same room p m s0 un lv st its =
     above : (h g : ℕ) → nat_lt h g ≡ false → g ≢ h → g < h
     above h g l d = grind (arith, nat_tests)
 
-    no_room : (n m : ℕ) → n ≡ m → lower_limit < n + 34 → m + 34 ≤ lower_limit → true ≡ false
-    no_room n m e l f = absurd (omega (arith, e, l, f))
-
     by_kind : is_unsettled (c.outcome h) ≡ false → is_ok (c.outcome h) ≡ false → h < g → (b : Bool)
         → (t.opened (open_at c h)).persistent ≡ b → a g ≡ 0
     by_kind se no1 l true pe = w.serving.locks.left_idle k 0 h g x0 w.serving.front w.token w.shuts p lv se no1 st pe m (sym its) l
     by_kind se no1 l false pe =
         let ls = w.serving.locks.left_stuck k 0 h x0 w.serving.front w.token w.shuts p lv se no1 st pe in
-        let r = stuck_fits d t front (origin_of x0.message) (open_at c h) pe (w.serving.locks.kept_files (open_at c h) st) ls.1 room in
-        absurd (let x = no_room t.journal d.journal same ls.0 r in cc)
+        absurd (let x = stuck_fits d t front (origin_of x0.message) (open_at c h) whole same
+        (w.serving.low.fits.open_files (open_at c h) st) pe (w.serving.locks.kept_files (open_at c h) st) ls room in cc)
 
 left_standing : (t : Server) (m : Message) (o : ℕ) → (apply t m 0 (CloseOpen o Empty)).server.standing o ≡ false
 left_standing t m o = ap (λ z. z.standing o) (shut_view t o m.session_id) ∙ put_same t.standing o
@@ -178,11 +177,11 @@ left_standing t m o = ap (λ z. z.standing o) (shut_view t o m.session_id) ∙ p
     put_same f o = grind arith
 
 pub close_fits : (c : Client) (conns : ℕ → Conn) (d t : Server) (a : ℕ → ℕ) (k h : ℕ) (x0 : Sent) (now : ℕ)
-    (front : List Record) (v : Verdict) → Copy c conns t a k h x0 → t.journal ≡ d.journal → v ≡ check t x0.message
+    (front : List Record) (v : Verdict) → Copy c conns t a k h x0 → Limit d → t.journal ≡ d.journal → v ≡ check t x0.message
     → fits d (front ++ (apply t x0.message now v).records) ≡ true
     → CloseSees t x0.message (open_at c h) v
     → Served c conns a k x0 (recorded (apply t x0.message now v) (front ++ (apply t x0.message now v).records))
-close_fits c conns d t a k h x0 now front v w same is room Deleted2 = (
+close_fits c conns d t a k h x0 now front v w whole same is room Deleted2 = (
   quiet_close c conns t a k h x0 now v _ w (inl is) refl refl refl,
   λ o place. say_close c _ _ h _ w.token w.shuts (record {
     done = λ s. absurd (cc);
@@ -190,10 +189,10 @@ close_fits c conns d t a k h x0 now front v w same is room Deleted2 = (
     stuck = λ n1. absurd (n1 refl);
   }),
 )
-close_fits c conns d t a k h x0 now front v w same is room (NoTree2 on e) =
+close_fits c conns d t a k h x0 now front v w whole same is room (NoTree2 on e) =
     let p = w.serving.low.fits.on_present x0.message.connection x0.message.session_id on in let tr =
     w.serving.trees (ap is_ops w.token) p in absurd (grind arith)
-close_fits c conns d t a k h x0 now front v w same is room Away2 = (
+close_fits c conns d t a k h x0 now front v w whole same is room Away2 = (
   quiet_close c conns t a k h x0 now v _ w (inl is) refl refl refl,
   λ o place. say_close c _ _ h _ w.token w.shuts (record {
     done = λ s. absurd (cc);
@@ -201,17 +200,17 @@ close_fits c conns d t a k h x0 now front v w same is room Away2 = (
     stuck = λ n1 n2. absurd (n2 refl);
   }),
 )
-close_fits c conns d t a k h x0 now front v w same is room (Shuts on st) =
+close_fits c conns d t a k h x0 now front v w whole same is room (Shuts on st) =
     let m = x0.message in let o1 = open_at c h in let A = apply t m now v in
     let p = w.serving.low.fits.on_present m.connection m.session_id on in
-    let big_bare : lower_limit < t.journal + 34 → A.records ≡ [] = λ big. bare_of d front A.records
-    (heads_apply t m now v) room (subst (λ z. lower_limit < z + 34) same big) in (
+    let full_ends : lower_limit < t.journal + 35 → Ending A.records (front ++ A.records) = λ full. ends_of d front A.records
+    whole (big_apply t m now v) room (subst (λ z. lower_limit < z + 35) same full) in (
       quiet_serve c conns t a k x0 now v (front ++ A.records) (counted a x0.token A.acted) w.serving
-          (found t m v (inl is)) refl big_bare (plain_other c conns t a k x0 A.acted w.serving
+          (found t m v (inl is)) refl full_ends (plain_other c conns t a k x0 A.acted w.serving
           (λ p mq. ap (is_send_of p) w.token ∙ of_unmade c h p (close_kind (c.op h) w.shuts) mq))
           (counts c conns t a k h x0 A.acted w)
           (λ g mg s0 u lv pr sg cl gone. let so = closes_same m.command o1 (open_at c g) w.command cl in let kind = lock_kind (c.op g) mg in
-          shut_idle c conns d t a k h g x0 front w same room p mg s0 u lv st
+          shut_idle c conns d t a k h g x0 front w whole same room p mg s0 u lv st
           (same_file c conns t a w.serving.creates (create_at c h) (create_at c g) w.made w.ok
           (made_of c w.serving.links.taken w.serving.links.creates g s0 kind)
           (ok_of c w.serving.links.has_open g s0 kind) st so))
@@ -238,24 +237,14 @@ reached_full d m o n f pe = either (λ u. (u.opened o).persistent ≡ true → l
     more : (j : ℕ) → lower_limit < j + 66 → lower_limit < j + n + 66
     more j l = omega (arith, l)
 
-reached_stuck : (d : Server) (m : Message) (o n : ℕ) → ((d.opened o).persistent ≡ false → goes_with d o ≡ true
-    × lower_limit < d.journal + 34) → ((reach d m o).opened o).persistent ≡ false
-    → lower_limit < (reach d m o).journal + n + 34 × goes_with (record (reach d m o) { journal = (reach d m o).journal + n }) o ≡ true
+reached_stuck : (d : Server) (m : Message) (o n : ℕ) → ((d.opened o).persistent ≡ false → is_stuck d o ≡ true)
+    → ((reach d m o).opened o).persistent ≡ false
+    → is_stuck (record (reach d m o) { journal = (reach d m o).journal + n }) o ≡ true
 reached_stuck d m o n f pe =
-    either (λ u. (u.opened o).persistent ≡ false → lower_limit < u.journal + n + 34 × goes_with (record u {
-      journal = u.journal + n;
-    }) o ≡ true) (is_late d m o) d (record d {
-      sequence = put d.sequence o m.channel_sequence;
-    })
-    (λ _ e. (more d.journal (f e).1, goes_same d d.sequence d.ranges d.lock_sequences (d.journal + n) o ∙ (f e).0))
-    (λ _ e. (
-      more d.journal (f e).1,
-      goes_same d (put d.sequence o m.channel_sequence) d.ranges d.lock_sequences
-          (d.journal + n) o ∙ (f e).0,
-    )) pe
-  where
-    more : (j : ℕ) → lower_limit < j + 34 → lower_limit < j + n + 34
-    more j l = omega (arith, l)
+    either (λ u. (u.opened o).persistent ≡ false → is_stuck (record u { journal = u.journal + n }) o ≡ true) (is_late d m o) d
+    (record d { sequence = put d.sequence o m.channel_sequence })
+    (λ _ e. stuck_same d d.sequence d.ranges d.lock_sequences (d.journal + n) o (omega arith) (f e))
+    (λ _ e. stuck_same d (put d.sequence o m.channel_sequence) d.ranges d.lock_sequences (d.journal + n) o (omega arith) (f e)) pe
 
 close_down : (c : Client) (conns : ℕ → Conn) (d : Server) (a : ℕ → ℕ) (k h : ℕ) (x0 : Sent) (now : ℕ)
     → Copy c conns d a k h x0 → TurnDown (open_at c h) disk_full ≡ without_room (check d x0.message)
@@ -266,9 +255,9 @@ close_down c conns d a k h x0 now w is st room =
       quiet_close c conns d a k h x0 now (TurnDown o1 disk_full) [] w (inr is) refl refl (ap (λ z. z.standing) (reach_view d m o1)),
       λ o place. say_close c _ _ h _ w.token w.shuts (record {
         done = λ s. absurd (cc);
-        full = λ n1 n2 sd pe. reached_full d m o1 (entry_bytes []) (λ e. full_persistent d (origin_of m) o1 e room) pe;
+        full = λ n1 n2 sd pe. reached_full d m o1 (entry_bytes []) (λ e. full_persistent d (origin_of m) o1 w.serving.low.fits.limit e room) pe;
         stuck = λ n1 n2 sd pe. reached_stuck d m o1 (entry_bytes [])
-            (λ e. full_plain d (origin_of m) o1 e (w.serving.locks.kept_files o1 st) room) pe;
+            (λ e. full_plain d (origin_of m) o1 w.serving.low.fits.limit e (w.serving.locks.kept_files o1 st) room) pe;
       }),
     )
 

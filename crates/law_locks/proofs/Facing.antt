@@ -6,7 +6,7 @@ use Rattle.spec_exchange.specs.Status.{success}
 use Rattle.spec_exchange.specs.Commands.{deletes_on_close}
 use Rattle.spec_exchange.specs.State.{Server}
 use Rattle.spec_exchange.specs.Files.{set_delete_pending}
-use Rattle.spec_exchange.specs.Opens.{drop_open, leave_open, pending_behind, goes}
+use Rattle.spec_exchange.specs.Opens.{drop_open, leave_open, pending_behind, goes, is_kept_back}
 use Rattle.spec_exchange.specs.CheckSetup.{is_new}
 use Rattle.spec_exchange.specs.Records.{lower_limit}
 use Rattle.spec_exchange.specs.Step.{with_deadlines, due, due_in, is_past, expire, add_expired_guid}
@@ -17,12 +17,15 @@ use Rattle.law_sessions.specs.messages.Connections.{Connections, makes_open, cre
 use Rattle.law_server.specs.tables.Fits.{Fits}
 use Rattle.law_server.proofs.tables.Logic.{either}
 use Rattle.law_server.proofs.tables.Doors.{Before}
-use Rattle.law_server.proofs.tables.Applied.{expired_keeps}
+use Rattle.law_server.proofs.tables.Applied.{expired_keeps, due_stands}
 use Rattle.law_server.proofs.tables.SessionEffects.{deadlines_keeps}
 use Rattle.law_sessions.specs.sessions.Sessions.{RankedUp}
 use Rattle.law_locks.specs.Locks.{Locks, locking, open_at, piped}
 use Rattle.law_locks.proofs.Views.{View, view, Quiet, same, leaves_by, without_guid, expire_view, still_named}
-use Rattle.law_locks.proofs.Steady.{Steady, steady_same, goes_on}
+use Rattle.law_locks.proofs.Calm.{Steady, Steadies, steady_same}
+use Rattle.law_locks.proofs.Steady.{stuck_on}
+use Rattle.law_locks.proofs.Bare.{expire_steady}
+use Rattle.law_locks.proofs.Rooms.{InFront}
 use Rattle.law_locks.proofs.Moves.{moves_keeps}
 use Rattle.law_locks.proofs.Words.{lock_kind, ok_of, made_of}
 
@@ -52,7 +55,7 @@ was_there c begins closes v u q un x ranked p = elim (v.present x) as (λ b. v.p
 pub quiet_keeps : (c : Client) (conns : ℕ → Conn) (t : Server) (a : ℕ → ℕ) (u : Server) (a2 : ℕ → ℕ) (k : ℕ) (closes : ℕ → Bool)
     → Lower c conns t → Connections c conns a → ((p : ℕ) → locking (c.op p) ≡ true → a2 p ≡ a p)
     → Quiet (λ x. is_new x (t.making k)) closes (view t) (view u)
-    → (lower_limit < t.journal + 34 → Steady t u) → ((q : ℕ) → makes_open (c.op q) ≡ true → 1 ≤ a2 q → piped c.who.share
+    → (lower_limit < t.journal + 35 → Steadies t u) → ((q : ℕ) → makes_open (c.op q) ≡ true → 1 ≤ a2 q → piped c.who.share
     ≡ false) → ((o : ℕ) → u.standing o ≡ true → deletes_on_close (u.opened o).options ≡ false)
     → ((g : ℕ) → locking (c.op g) ≡ true → c.sent g ≡ true → is_unsettled (c.outcome g) ≡ true → c.live ≡ true
     → u.present c.session ≡ true → t.standing (open_at c g) ≡ true → closes (open_at c g) ≡ true
@@ -69,7 +72,7 @@ quiet_keeps c conns t a u a2 k closes l C same_a q steady plain keeps shut joine
     (λ o y at st p. q.session_of_open o y (l.attached o y at).0 at st p)
     (λ p r m ok st. q.lock_sequences (c.file p) r (l.given p m ok))
     (λ p m ok st. ap (λ z. z.persistent) (q.opened (c.file p) (l.given p m ok)))
-    (λ p m ok st pl g big. goes_on t u (c.file p) (steady big) (q.opened (c.file p) (l.given p m ok))
+    (λ p m ok st pl g. stuck_on t u (c.file p) q.journal steady (q.opened (c.file p) (l.given p m ok))
     (i.kept_files (c.file p) (q.standing (c.file p) (l.given p m ok) st)) g)
     (λ p r o m ok e. unmade p r o m ok e)
     plain keeps
@@ -141,9 +144,11 @@ drop_making s o false = refl
 
 leave_making : (s : Server) (o : ℕ) → (leave_open s o).making ≡ s.making
 leave_making s o =
-    either (λ (u : Server). u.making ≡ s.making) (goes (drop_open (pending_behind s o) o) (s.opened o).file) _ _
+    either (λ (u : Server). u.making ≡ s.making) (is_kept_back (drop_open (pending_behind s o) o) (s.opened o).file) _ _
     (λ _. drop_making s o (deletes_on_close (s.opened o).options))
+    (λ _. either (λ (u : Server). u.making ≡ s.making) (goes (drop_open (pending_behind s o) o) (s.opened o).file) _ _
     (λ _. drop_making s o (deletes_on_close (s.opened o).options))
+    (λ _. drop_making s o (deletes_on_close (s.opened o).options)))
 
 expired_making : (s : Server) (client : ℕ) (q : Option ℕ) → (add_expired_guid s client q).making ≡ s.making
 expired_making s client None = refl
@@ -174,12 +179,12 @@ due_keeps c conns s a now l C i = (
   },
   quiet_keeps c conns s a (with_deadlines s now) a 0 none_of l C (λ p m. refl)
       (same (λ x. is_new x (s.making 0)) none_of (view s) (view (with_deadlines s now)) refl)
-      (λ _. steady_same s (with_deadlines s now) refl refl refl refl refl)
+      (λ _. inl (steady_same s (with_deadlines s now) refl refl refl refl refl))
       i.made_plain i.kept_files (λ g m s0 u lv p st e off. absurd (cc)) (λ j n g y h e ok lv p st x off. absurd (cc)) i,
 )
 
 expire_keeps : (c : Client) (conns : ℕ → Conn) (s : Server) (a : ℕ → ℕ) (now o : ℕ) → due s now ≡ Some o
-    → (lower_limit < s.journal + 34 → expire s o ≡ s) → Lower c conns s → Connections c conns a → Locks c conns s a
+    → (lower_limit < s.journal + 35 → Steady s (expire s o)) → Lower c conns s → Connections c conns a → Locks c conns s a
     → Behind c conns a (expire s o)
 unfolding none_of
 expire_keeps c conns s a now o e full l C i =
@@ -202,7 +207,7 @@ expire_keeps c conns s a now o e full l C i =
           (leaves_by (λ x. is_new x (s.making 0)) none_of (view s) o (without_guid s o)
           (λ p y n at. unattached p y at apart) (λ d g p h. still_named s.by_guid (s.opened o).client_guid
           (s.opened o).create_guid d g p h)))
-          (λ big. subst (λ z. Steady s z) (sym (full big)) (steady_same s s refl refl refl refl refl))
+          (λ big. inl (full big))
           i.made_plain
           (λ p st. let row : (expire s o).opened ≡ s.opened = ap (λ z. z.opened) v in let st2 : put s.standing o false p
           ≡ true = subst (λ z. z.standing p ≡ true) v st in subst (λ z. deletes_on_close (z p).options ≡ false)
@@ -216,11 +221,20 @@ expire_keeps c conns s a now o e full l C i =
     unattached : (p y : ℕ) → s.session_of_open p ≡ Some y → s.session_of_open o ≡ None → p ≢ o
     unattached p y h n = λ same. absurd (grind arith)
 
+-- an open that expired in front of an event on a full journal left the files as they were
+front_steady : (s : Server) (now : ℕ) (t : Server) → Fits s
+    → ((o : ℕ) → s.standing o ≡ true → deletes_on_close (s.opened o).options ≡ false) → InFront s now t
+    → Steady (with_deadlines s now) t
+front_steady s now t f kept (inl e) = subst (λ z. Steady (with_deadlines s now) z) (sym e)
+    (steady_same (with_deadlines s now) (with_deadlines s now) refl refl refl refl refl)
+front_steady s now t f kept (inr x) = subst (λ z. Steady (with_deadlines s now) z) (sym x.2)
+    (expire_steady (with_deadlines s now) x.0 (kept x.0 (due_stands (with_deadlines s now) now x.0 x.1 f.listed)) x.3 x.4)
+
 pub before_keeps : (c : Client) (conns : ℕ → Conn) (s : Server) (a : ℕ → ℕ) (now : ℕ) (t : Server) → Before s now t
-    → (lower_limit < s.journal + 34 → t ≡ with_deadlines s now) → Lower c conns s → Connections c conns a
+    → (lower_limit < s.journal + 35 → InFront s now t) → Lower c conns s → Connections c conns a
     → Locks c conns s a → Behind c conns a t
 before_keeps c conns s a now t (inl e) full l C i = subst (λ z. Behind c conns a z) (sym e) (due_keeps c conns s a now l C i)
 before_keeps c conns s a now t (inr x) full l C i =
     let d = due_keeps c conns s a now l C i in
     subst (λ z. Behind c conns a z) (sym x.2) (expire_keeps c conns (with_deadlines s now) a now x.0 x.1
-    (λ big. sym x.2 ∙ full big) d.0 C d.1)
+    (λ big. subst (λ z. Steady (with_deadlines s now) z) x.2 (front_steady s now t l.fits i.kept_files (full big))) d.0 C d.1)

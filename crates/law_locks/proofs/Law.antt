@@ -1,6 +1,6 @@
 -- What holds of locks on every run, and what creates, locks and unlocks do once.
 use Rattle.std.proofs.Common.{◌≡◌, ℕ, ◌+◌, Bool, true, false, if◌then◌else◌, List, [], ◌∷◌, ◌++◌, refl, arith, subst, ◌∙◌, ap, Option}
-use Rattle.spec_exchange.specs.Fold.{fold_from, sweep}
+use Rattle.spec_exchange.specs.Fold.{fold_from, sweep, unmark_records}
 use Rattle.spec_exchange.specs.Operations.{Op, Outcome, is_create, is_lock, is_unsettled}
 use Rattle.spec_exchange.specs.ClientStep.{Pick}
 use Rattle.spec_exchange.specs.Network.{World, Event, Push, Serve, Sent, Settings, happens, run, start, changed, later}
@@ -81,7 +81,7 @@ known z es =
     }
 
 begins : (z : Settings) → LocksHold (start z) (λ g. 0)
-unfolding fold_from sweep
+unfolding fold_from sweep unmark_records
 begins z =
     record {
       slot_index = λ g s. absurd (cc);

@@ -1,5 +1,6 @@
 pub mod Words
 pub mod Views
+pub mod Calm
 pub mod Rooms
 pub mod Verdicts
 pub mod Steady

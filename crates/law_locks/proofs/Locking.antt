@@ -1,6 +1,7 @@
 -- The server takes a copy of a lock or unlock.
+use Rattle.law_server.specs.tables.Fits.{Limit}
 use Rattle.law_server.proofs.tables.Logic.{both}
-use Rattle.std.proofs.Common.{eqb-true, ◌≡◌, ◌≢◌, ◌⊎◌, inl, inr, ℕ, ◌+◌, ◌==◌, ◌≤◌, Bool, true, false, ◌&&◌}
+use Rattle.std.proofs.Common.{eqb-true, ◌≡◌, ◌≢◌, ◌⊎◌, inl, inr, ℕ, ◌+◌, ◌==◌, ◌≤◌, ◌<◌, Bool, true, false, ◌&&◌}
 use Rattle.std.proofs.Common.{if◌then◌else◌, List, [], ◌∷◌, ◌++◌, length, Option, Some, None, slice_get, is_some, refl}
 use Rattle.std.proofs.Common.{arith, sym, ◌∙◌, ap, subst}
 use Rattle.spec_exchange.specs.Table.{put, put2, is_at}
@@ -8,7 +9,7 @@ use Rattle.spec_exchange.specs.Status.{success, user_session_deleted, disk_full}
 use Rattle.spec_exchange.specs.Commands.{Command, Lock, Element, lock_form, deletes_on_close}
 use Rattle.spec_exchange.specs.State.{Server, Message, Record, LockRecord, Kept, Range}
 use Rattle.spec_exchange.specs.Files.{set_delete_pending, exists, is_full_directory, is_directory, path_of}
-use Rattle.spec_exchange.specs.Opens.{goes, drop_open, file_has_open, is_of_tree}
+use Rattle.spec_exchange.specs.Opens.{is_kept_back, drop_open, file_has_open, is_of_tree}
 use Rattle.spec_exchange.specs.CheckOpen.{is_late, is_slot, file_of}
 use Rattle.spec_exchange.specs.Check.{check}
 use Rattle.spec_exchange.specs.Records.{lower_limit, fits, entry_bytes, origin_of}
@@ -30,10 +31,10 @@ use Rattle.law_sessions.specs.sessions.Sessions.{is_ops}
 use Rattle.law_creates.specs.Creates.{Creates, seen, guid_at}
 use Rattle.law_creates.proofs.Words.{guid_once}
 use Rattle.law_creates.proofs.Requests.{same_guid}
-use Rattle.law_locks.specs.Locks.{Locks, locking, open_at, user_at, kept_of, kept_at, goes_with, firm, in_slots}
+use Rattle.law_locks.specs.Locks.{Locks, locking, open_at, user_at, kept_of, kept_at, kept_with, is_alone, is_stuck, firm, in_slots}
 use Rattle.law_locks.proofs.Words.{lock_kind, lock_stays, lock_once, ok_of, made_of, kept_same, up_on, down_on}
 use Rattle.law_locks.proofs.Verdicts.{closes_in, is_slot_verdict}
-use Rattle.law_locks.proofs.Rooms.{room_for_lock}
+use Rattle.law_locks.proofs.Rooms.{room_for_lock, Why, stuck_why, stuck_near, stuck_kept}
 use Rattle.law_locks.proofs.Sees.{LockSees, Deleted, NoTree, Away, Done, Again, Refused, Granted}
 use Rattle.law_locks.proofs.Serving.{Serving, Served, counted, not_acted, of_unmade, plain_other, quiet_serve}
 use Rattle.law_locks.proofs.Writes.{writes_keeps}
@@ -108,12 +109,12 @@ unmade_at c conns t a cr q r no1 mr or1 st = λ e.
 
 -- ---- what doesn't look at slots
 
-pub goes_same : (t : Server) (sq : ℕ → ℕ) (rg : ℕ → List Range) (sl : ℕ → ℕ → Option Kept) (j0 o : ℕ)
-    → goes_with (record t { sequence = sq; ranges = rg; lock_sequences = sl; journal = j0 }) o ≡ goes_with t o
-unfolding goes_with goes exists file_has_open is_full_directory is_directory path_of
-goes_same t sq rg sl j0 o = by_kind (deletes_on_close (t.opened o).options)
+kept_same_with : (t : Server) (sq : ℕ → ℕ) (rg : ℕ → List Range) (sl : ℕ → ℕ → Option Kept) (j0 o : ℕ)
+    → kept_with (record t { sequence = sq; ranges = rg; lock_sequences = sl; journal = j0 }) o ≡ kept_with t o
+unfolding kept_with is_kept_back exists file_has_open is_full_directory is_directory path_of
+kept_same_with t sq rg sl j0 o = by_kind (deletes_on_close (t.opened o).options)
   where
-    by_kind : (b : Bool) → goes (drop_open (if b then set_delete_pending (record t {
+    by_kind : (b : Bool) → is_kept_back (drop_open (if b then set_delete_pending (record t {
       sequence = sq;
       ranges = rg;
       lock_sequences = sl;
@@ -124,9 +125,24 @@ goes_same t sq rg sl j0 o = by_kind (deletes_on_close (t.opened o).options)
       lock_sequences = sl;
       journal = j0;
     }) o) (t.opened o).file
-        ≡ goes (drop_open (if b then set_delete_pending t (t.opened o).file true else t) o) (t.opened o).file
+        ≡ is_kept_back (drop_open (if b then set_delete_pending t (t.opened o).file true else t) o) (t.opened o).file
     by_kind true = refl
     by_kind false = refl
+
+pub stuck_same : (t : Server) (sq : ℕ → ℕ) (rg : ℕ → List Range) (sl : ℕ → ℕ → Option Kept) (j0 o : ℕ) → t.journal ≤ j0
+    → is_stuck t o ≡ true → is_stuck (record t { sequence = sq; ranges = rg; lock_sequences = sl; journal = j0 }) o ≡ true
+unfolding is_alone
+stuck_same t sq rg sl j0 o grown e = by (stuck_why t o e)
+  where
+    u : Server
+    u = record t { sequence = sq; ranges = rg; lock_sequences = sl; journal = j0 }
+
+    more : (k : ℕ) → lower_limit < t.journal + k → lower_limit < j0 + k
+    more k l = omega (arith, grown, l)
+
+    by : Why t o → is_stuck u o ≡ true
+    by (inl x) = stuck_near u o (more 34 x.0) x.1
+    by (inr x) = stuck_kept u o (more 35 x.0) (kept_same_with t sq rg sl j0 o ∙ x.1)
 
 -- ---- the slot keeps its answer
 
@@ -189,7 +205,7 @@ lock_written c conns t a k g st0 j0 x0 sq rg acted w tk lk p st free grown room 
     (λ q m. other_count a g q acted
     (λ e. absurd (let x = clash (makes_open (c.op q)) (subst (λ z. makes_open (c.op z) ≡ false) (sym e) kind) m in
     cc))) room
-    (λ o. goes_same t sq rg _ j0 o)
+    (λ o e. stuck_same t sq rg _ j0 o grown e)
     (λ q mq oq sq1 e. same_file c conns t a w.creates q (create_at c g) mq oq mk ok sq1 e)
     (λ q mq no1. unmade_at c conns t a w.creates q (create_at c g) no1 mk ok st)
     (λ bf j n y h. no_reply_beside c conns a k g x0 C w.front tk lk bf j n y h) C i
@@ -304,7 +320,7 @@ quiet_lock : (c : Client) (conns : ℕ → Conn) (t : Server) (a : ℕ → ℕ) 
     (counted a x0.token (apply t x0.message now v).acted)
 quiet_lock c conns t a k g x0 now v rs w is off bare quiet =
     quiet_serve c conns t a k x0 now v rs (counted a x0.token (apply t x0.message now v).acted) w.serving
-    (found t x0.message v is) off (λ big. bare)
+    (found t x0.message v is) off (λ _. inl bare)
     (plain_other c conns t a k x0 _ w.serving (λ p m. ap (is_send_of p) w.token ∙ of_unmade c g p (lock_kind (c.op g) w.lock) m))
     (λ p m. not_acted a x0.token (apply t x0.message now v).acted p quiet)
     (λ h m s0 u lv p st cl off2. let n = no_close x0.message.command (open_at c g) (c.slot_of g) (c.number_of g)
@@ -377,11 +393,11 @@ says_count b g st e f = grind arith
 
 -- where its records fit
 pub lock_fits : (c : Client) (conns : ℕ → Conn) (d t : Server) (a : ℕ → ℕ) (k g : ℕ) (x0 : Sent) (now : ℕ)
-    (front : List Record) (v : Verdict) → Copy c conns t a k g x0 → t.journal ≡ d.journal → v ≡ check t x0.message
+    (front : List Record) (v : Verdict) → Copy c conns t a k g x0 → Limit d → t.journal ≡ d.journal → v ≡ check t x0.message
     → fits d (front ++ (apply t x0.message now v).records) ≡ true
     → LockSees t x0.message (open_at c g) (c.slot_of g) (c.number_of g) (elements_in (c.op g)) v
     → Served c conns a k x0 (recorded (apply t x0.message now v) (front ++ (apply t x0.message now v).records))
-lock_fits c conns d t a k g x0 now front v w same is room Deleted = (
+lock_fits c conns d t a k g x0 now front v w whole same is room Deleted = (
   quiet_lock c conns t a k g x0 now v _ w (inl is) refl refl refl,
   λ o place. say_lock c _ _ g _ w.token w.lock (record {
     ok = λ s. absurd (cc);
@@ -390,9 +406,9 @@ lock_fits c conns d t a k g x0 now front v w same is room Deleted = (
     first = λ n1 bf. count_same a x0.token g 0 (sole_idle c conns t a k g x0 w bf);
   }),
 )
-lock_fits c conns d t a k g x0 now front v w same is room (NoTree on e) =
+lock_fits c conns d t a k g x0 now front v w whole same is room (NoTree on e) =
     let p = present_of c conns t a k g x0 w on in let tr = w.serving.trees (ap is_ops w.token) p in absurd (grind arith)
-lock_fits c conns d t a k g x0 now front v w same is room (Away on e) =
+lock_fits c conns d t a k g x0 now front v w whole same is room (Away on e) =
     let p = present_of c conns t a k g x0 w on in let off = away_gone c conns t a k g x0 w p e in (
       quiet_lock c conns t a k g x0 now v _ w (inl is) refl refl refl,
       λ o place. say_lock c _ _ g _ w.token w.lock (record {
@@ -402,7 +418,7 @@ lock_fits c conns d t a k g x0 now front v w same is room (Away on e) =
         first = λ n1 bf. count_same a x0.token g 0 (sole_idle c conns t a k g x0 w bf);
       }),
     )
-lock_fits c conns d t a k g x0 now front v w same is room (Done on st e) =
+lock_fits c conns d t a k g x0 now front v w whole same is room (Done on st e) =
     let p = present_of c conns t a k g x0 w on in let user = w.serving.locks.users k 0 g x0 w.serving.front w.token w.lock p in (
       quiet_lock c conns t a k g x0 now v _ w (inl is) refl refl refl,
       λ o place. say_lock c _ _ g _ w.token w.lock (record {
@@ -412,7 +428,7 @@ lock_fits c conns d t a k g x0 now front v w same is room (Done on st e) =
         first = λ n1. absurd (n1 refl);
       }),
     )
-lock_fits c conns d t a k g x0 now front v w same is room (Again status on st e bad) =
+lock_fits c conns d t a k g x0 now front v w whole same is room (Again status on st e bad) =
     let p = present_of c conns t a k g x0 w on in let user = w.serving.locks.users k 0 g x0 w.serving.front w.token w.lock p in
     let idle = says_count a g status bad (w.serving.locks.kept_says g status user st e) in (
       quiet_lock c conns t a k g x0 now v _ w (inl is) refl refl refl,
@@ -426,11 +442,11 @@ lock_fits c conns d t a k g x0 now front v w same is room (Again status on st e 
   where
     is_it : (st : ℕ) → (st == success) ≡ false → st ≡ success → true ≡ false
     is_it st e f = grind arith
-lock_fits c conns d t a k g x0 now front v w same is room (Refused status on st free bad) =
+lock_fits c conns d t a k g x0 now front v w whole same is room (Refused status on st free bad) =
     let p = present_of c conns t a k g x0 w on in
     let m = x0.message in let o1 = open_at c g in let es = elements_in (c.op g) in
     let roomy : (t.opened o1).persistent ≡ true → t.journal + 66 ≤ lower_limit = λ pe. subst (λ z. z + 66 ≤ lower_limit)
-    (sym same) (room_for_lock d front (origin_of m) o1 (recorded_index (c.slot_of g)) (c.number_of g) status es
+    (sym same) (room_for_lock d front (origin_of m) o1 (recorded_index (c.slot_of g)) (c.number_of g) status es whole
     (one_element (c.op g) w.lock)
     (subst (λ z. fits d (front ++ z) ≡ true) (lock_persistent t m o1 (c.slot_of g) (c.number_of g) status es pe)
     room)) in
@@ -474,11 +490,11 @@ lock_fits c conns d t a k g x0 now front v w same is room (Refused status on st 
     journal_of c conns t m o1 st1 front rs b slot f = slot_written t m (λ u. Locks c conns (record u {
       journal = u.journal + entry_bytes (front ++ rs);
     }) b) o1 (c.slot_of g) (c.number_of g) st1 slot f
-lock_fits c conns d t a k g x0 now front v w same is room (Granted ranges on st free) =
+lock_fits c conns d t a k g x0 now front v w whole same is room (Granted ranges on st free) =
     let p = present_of c conns t a k g x0 w on in
     let m = x0.message in let o1 = open_at c g in let es = elements_in (c.op g) in
     let roomy : (t.opened o1).persistent ≡ true → t.journal + 66 ≤ lower_limit = λ pe. subst (λ z. z + 66 ≤ lower_limit)
-    (sym same) (room_for_lock d front (origin_of m) o1 (recorded_index (c.slot_of g)) (c.number_of g) success es
+    (sym same) (room_for_lock d front (origin_of m) o1 (recorded_index (c.slot_of g)) (c.number_of g) success es whole
     (one_element (c.op g) w.lock)
     (subst (λ z. fits d (front ++ z) ≡ true) (lock_persistent t m o1 (c.slot_of g) (c.number_of g) success es pe)
     room)) in

@@ -3,13 +3,12 @@ use Rattle.std.proofs.Common.{◌≡◌, ℕ, ◌+◌, ◌≤◌, ◌<◌, true,
 use Rattle.spec_exchange.specs.Status.{success}
 use Rattle.spec_exchange.specs.Commands.{deletes_on_close}
 use Rattle.spec_exchange.specs.State.{Server}
-use Rattle.spec_exchange.specs.Records.{lower_limit}
 use Rattle.spec_exchange.specs.Operations.{is_unsettled, is_ok, id_in}
 use Rattle.spec_exchange.specs.Client.{Client, guid_for}
 use Rattle.spec_exchange.specs.Network.{Conn, Sent, Received, ForOp, ForAttach}
 use Rattle.law_sessions.specs.messages.Connections.{Connections, makes_open, create_at, Taken, Creates, HasOpen, Bodies, SentReplies}
 use Rattle.law_sessions.specs.sessions.Sessions.{is_ops}
-use Rattle.law_locks.specs.Locks.{Locks, locking, open_at, goes_with, piped, UserBody, AskDown, Users, CopyNow}
+use Rattle.law_locks.specs.Locks.{Locks, locking, open_at, is_stuck, piped, UserBody, AskDown, Users, CopyNow}
 use Rattle.law_locks.specs.Locks.{RetriedOn, RetriedDone, CopyAttached, NowAttached, OpenedReply, JoinReply, JoinedReply}
 use Rattle.law_locks.specs.Locks.{LostReply, KeptSays, NotKept, FirmKept, NoUser, NoSlots, FullDead, OkReply, NoReply}
 use Rattle.law_locks.specs.Locks.{KeptReply, FirstReply, ClosedNot, KeptFiles, LeftFull, LeftStuck, LeftIdle, CloseDone}
@@ -223,8 +222,7 @@ moves_left_stuck : (c : Client) (conns : ℕ → Conn) (s : Server) (a : ℕ →
     → s.standing (c.file q) ≡ true) → ((q : ℕ) → makes_open (c.op q) ≡ true → is_ok (c.outcome q) ≡ true
     → s2.standing (c.file q) ≡ true → (s2.opened (c.file q)).persistent ≡ (s.opened (c.file q)).persistent)
     → ((q : ℕ) → makes_open (c.op q) ≡ true → is_ok (c.outcome q) ≡ true → s2.standing (c.file q) ≡ true
-    → (s.opened (c.file q)).persistent ≡ false → goes_with s (c.file q) ≡ true → lower_limit < s.journal + 34
-    → goes_with s2 (c.file q) ≡ true) → Bodies c conns → Creates c → HasOpen c → Taken c → LeftStuck c conns s
+    → (s.opened (c.file q)).persistent ≡ false → is_stuck s (c.file q) ≡ true → is_stuck s2 (c.file q) ≡ true) → Bodies c conns → Creates c → HasOpen c → Taken c → LeftStuck c conns s
     → LeftStuck c conns s2
 moves_left_stuck c conns s a s2 a2 journal stay stands opened stuck C_bodies C_creates C_has_open C_taken i_left_stuck =
     λ j n p x h t m. let old = i_left_stuck j n p x h t m in let b = C_bodies j n p x h t in let sent = b.0 in let m1 =
@@ -274,8 +272,7 @@ moves_close_stuck : (c : Client) (conns : ℕ → Conn) (s : Server) (a : ℕ �
     → ((q : ℕ) → makes_open (c.op q) ≡ true → is_ok (c.outcome q) ≡ true → s2.standing (c.file q) ≡ true
     → (s2.opened (c.file q)).persistent ≡ (s.opened (c.file q)).persistent)
     → ((q : ℕ) → makes_open (c.op q) ≡ true → is_ok (c.outcome q) ≡ true → s2.standing (c.file q) ≡ true
-    → (s.opened (c.file q)).persistent ≡ false → goes_with s (c.file q) ≡ true → lower_limit < s.journal + 34
-    → goes_with s2 (c.file q) ≡ true) → Creates c → HasOpen c → SentReplies c conns → Taken c → CloseStuck c conns s
+    → (s.opened (c.file q)).persistent ≡ false → is_stuck s (c.file q) ≡ true → is_stuck s2 (c.file q) ≡ true) → Creates c → HasOpen c → SentReplies c conns → Taken c → CloseStuck c conns s
     → CloseStuck c conns s2
 moves_close_stuck c conns s a s2 a2 journal stands opened stuck C_creates C_has_open C_sent_replies C_taken i_close_stuck =
     λ j n p y h t m. let old = i_close_stuck j n p y h t m in let sent = C_sent_replies j n p y h t in let m1 =
@@ -316,8 +313,7 @@ pub moves_keeps : (c : Client) (conns : ℕ → Conn) (s : Server) (a : ℕ → 
     → ((q : ℕ) → makes_open (c.op q) ≡ true → is_ok (c.outcome q) ≡ true → s2.standing (c.file q) ≡ true
     → (s2.opened (c.file q)).persistent ≡ (s.opened (c.file q)).persistent)
     → ((q : ℕ) → makes_open (c.op q) ≡ true → is_ok (c.outcome q) ≡ true → s2.standing (c.file q) ≡ true
-    → (s.opened (c.file q)).persistent ≡ false → goes_with s (c.file q) ≡ true → lower_limit < s.journal + 34
-    → goes_with s2 (c.file q) ≡ true) → ((q r o : ℕ) → makes_open (c.op q) ≡ true → is_ok (c.outcome q) ≡ false
+    → (s.opened (c.file q)).persistent ≡ false → is_stuck s (c.file q) ≡ true → is_stuck s2 (c.file q) ≡ true) → ((q r o : ℕ) → makes_open (c.op q) ≡ true → is_ok (c.outcome q) ≡ false
     → s2.by_guid c.who.guid (guid_for c q) ≡ Some o → s2.lock_sequences o r ≡ None)
     → ((q : ℕ) → makes_open (c.op q) ≡ true → 1 ≤ a2 q → piped c.who.share ≡ false)
     → ((o : ℕ) → s2.standing o ≡ true → deletes_on_close (s2.opened o).options ≡ false)

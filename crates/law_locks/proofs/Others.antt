@@ -32,6 +32,7 @@ use Rattle.law_creates.specs.Creates.{seen, named, guid_at, keeps_form}
 use Rattle.law_creates.proofs.Requests.{create_asked, asks_create, asks_durable, asks_new, same_guid}
 use Rattle.law_locks.specs.Locks.{Locks, locking, open_at, piped}
 use Rattle.law_sessions.specs.sessions.Kinds.{TreeKinds}
+use Rattle.law_locks.proofs.Calm.{Ending}
 use Rattle.law_locks.proofs.Views.{make_view}
 use Rattle.law_locks.proofs.Verdicts.{closes_in, is_slot_verdict}
 use Rattle.law_locks.proofs.Sees.{AskSees, Deleted3, NoTree3, Gone, Other, Held, Attached, ask_sees, create_says, create_sees}
@@ -40,10 +41,10 @@ use Rattle.law_locks.proofs.Say.{MaySay}
 
 -- ---- what isn't a lock's
 
-abbrev pub Quietly : Client → (ℕ → Conn) → Server → (ℕ → ℕ) → ℕ → Sent → ℕ → Verdict → Type 0
-Quietly c conns t a k x0 now v =
+abbrev pub Quietly : Client → (ℕ → Conn) → Server → (ℕ → ℕ) → ℕ → Sent → ℕ → Verdict → List Record → Type 0
+Quietly c conns t a k x0 now v rs =
     ((v ≡ check t x0.message) ⊎ (v ≡ without_room (check t x0.message)))
-    × (lower_limit < t.journal + 34 → (apply t x0.message now v).records ≡ [])
+    × (lower_limit < t.journal + 35 → Ending (apply t x0.message now v).records rs)
 
 -- a verdict that changes slots is a lock's
 pub slots_of : (t : Server) (m : Message) (v : Verdict) → Facts t m v → ((o i n : ℕ) (es : List Element) → m.command
@@ -84,7 +85,7 @@ unfolding is_other closes_in
 no_close x o e = grind arith
 
 pub other_keeps : (c : Client) (conns : ℕ → Conn) (t : Server) (a : ℕ → ℕ) (k : ℕ) (x0 : Sent) (now : ℕ) (v : Verdict)
-    (rs : List Record) → Serving c conns t a k x0 → Quietly c conns t a k x0 now v → is_other x0.message.command ≡ true
+    (rs : List Record) → Serving c conns t a k x0 → Quietly c conns t a k x0 now v rs → is_other x0.message.command ≡ true
     → ((p : ℕ) → locking (c.op p) ≡ true → is_send_of p x0.token ≡ false)
     → ((q : ℕ) → makes_open (c.op q) ≡ true → 1 ≤ counted a x0.token (apply t x0.message now v).acted q
     → piped c.who.share ≡ false)
@@ -132,7 +133,7 @@ unfolding is_dialog is_other
 dialog_other x e = grind arith
 
 pub serves_dialog : (c : Client) (conns : ℕ → Conn) (t : Server) (a : ℕ → ℕ) (k : ℕ) (x0 : Sent) (now : ℕ) (v : Verdict)
-    (rs : List Record) → Serving c conns t a k x0 → Quietly c conns t a k x0 now v → x0.token ≡ ForDialog
+    (rs : List Record) → Serving c conns t a k x0 → Quietly c conns t a k x0 now v rs → x0.token ≡ ForDialog
     → Served c conns a k x0 (recorded (apply t x0.message now v) rs)
 serves_dialog c conns t a k x0 now v rs w q tk = (
   other_keeps c conns t a k x0 now v rs w q (dialog_other x0.message.command (w.dialog (ap is_ops tk)))
@@ -169,7 +170,7 @@ not_ask : (g h : ℕ) (t : Token) → t ≡ ForOp g → t ≡ ForAttach h → tr
 not_ask g h t e f = absurd (grind arith)
 
 pub serves_other : (c : Client) (conns : ℕ → Conn) (t : Server) (a : ℕ → ℕ) (k : ℕ) (x0 : Sent) (now : ℕ) (v : Verdict)
-    (rs : List Record) (g : ℕ) → Serving c conns t a k x0 → Quietly c conns t a k x0 now v → x0.token ≡ ForOp g
+    (rs : List Record) (g : ℕ) → Serving c conns t a k x0 → Quietly c conns t a k x0 now v rs → x0.token ≡ ForOp g
     → locking (c.op g) ≡ false → shuts_open (c.op g) ≡ false → makes_open (c.op g) ≡ false
     → Served c conns a k x0 (recorded (apply t x0.message now v) rs)
 serves_other c conns t a k x0 now v rs g w q tk l s m = (
@@ -318,7 +319,7 @@ plain_create c conns t a k x0 now (AddTree pipes) w f e q m l = absurd (cc)
 plain_create c conns t a k x0 now DropTree w f e q m l = absurd (cc)
 
 pub serves_create : (c : Client) (conns : ℕ → Conn) (t : Server) (a : ℕ → ℕ) (k : ℕ) (x0 : Sent) (now : ℕ) (v : Verdict)
-    (rs : List Record) (g : ℕ) → Serving c conns t a k x0 → Quietly c conns t a k x0 now v → x0.token ≡ ForOp g
+    (rs : List Record) (g : ℕ) → Serving c conns t a k x0 → Quietly c conns t a k x0 now v rs → x0.token ≡ ForOp g
     → makes_open (c.op g) ≡ true → Served c conns a k x0 (recorded (apply t x0.message now v) rs)
 serves_create c conns t a k x0 now v rs g w q tk mk =
     let l = create_unlocked (c.op g) mk in let s = create_unshut (c.op g) mk in
@@ -509,7 +510,7 @@ same_ask : (g h : ℕ) (t : Token) → t ≡ ForAttach g → t ≡ ForAttach h �
 same_ask g h t e f = grind arith
 
 pub serves_ask : (c : Client) (conns : ℕ → Conn) (t : Server) (a : ℕ → ℕ) (k : ℕ) (x0 : Sent) (now : ℕ) (v : Verdict)
-    (rs : List Record) (g : ℕ) → Serving c conns t a k x0 → Quietly c conns t a k x0 now v → x0.token ≡ ForAttach g
+    (rs : List Record) (g : ℕ) → Serving c conns t a k x0 → Quietly c conns t a k x0 now v rs → x0.token ≡ ForAttach g
     → Served c conns a k x0 (recorded (apply t x0.message now v) rs)
 serves_ask c conns t a k x0 now v rs g w q tk =
     let ad = w.locks.ask_up k 0 g x0 w.front tk in

@@ -198,7 +198,7 @@ anew_locks c conns s u a C grown r i =
     (λ o y at st p. no_two (u.present y) _ p (r.bare.absent y))
     (λ q n m ok st. r.lock_sequences (c.file q) n (sym (r.standing (c.file q)) ∙ st))
     (λ q m ok st. ap (λ (z : OpenRow). z.persistent) (stood s u r (c.file q) st).2)
-    (λ q m ok st pl g big. no_two (s.opened (c.file q)).persistent _ (stood s u r (c.file q) st).1 pl)
+    (λ q m ok st pl g. no_two (s.opened (c.file q)).persistent _ (stood s u r (c.file q) st).1 pl)
     (λ q n o m ok e. let wn = was_named s u r c.who.guid (guid_for c q) o e in r.lock_sequences o n wn.1 ∙ i.no_slots q n o m ok wn.0)
     i.made_plain
     (λ o st. let t = stood s u r o st in subst (λ (z : OpenRow). deletes_on_close z.options ≡ false) (sym t.2) (i.kept_files o t.0))

@@ -9,7 +9,7 @@ use Rattle.spec_exchange.specs.Client.{Client}
 use Rattle.spec_exchange.specs.Network.{Conn, Received, ForOp, ForAttach}
 use Rattle.law_sessions.specs.messages.Connections.{makes_open, shuts_open, create_at}
 use Rattle.law_sessions.proofs.messages.Lists.{get-push}
-use Rattle.law_locks.specs.Locks.{Locks, locking, open_at, kept_of, goes_with, Unanswered, AskUp, AskDown, Users}
+use Rattle.law_locks.specs.Locks.{Locks, locking, open_at, kept_of, is_stuck, Unanswered, AskUp, AskDown, Users}
 use Rattle.law_locks.specs.Locks.{CopyNow, RetriedOn, RetriedDone, CopyAttached, OpenedReply, JoinReply, JoinedReply}
 use Rattle.law_locks.specs.Locks.{LostReply, FullDead, OkReply, NoReply, KeptReply, FirstReply, LeftFull, LeftStuck}
 use Rattle.law_locks.specs.Locks.{LeftIdle, CloseDone, CloseFull, CloseStuck}
@@ -41,7 +41,7 @@ pub record MaySay (c : Client) (s : Server) (a : ℕ → ℕ) (y0 : Received) : 
       → lower_limit < s.journal + 66
   pub of_close_stuck : (h : ℕ) → y0.token ≡ ForOp h → shuts_open (c.op h) ≡ true
       → y0.reply.status ≢ user_session_deleted → y0.reply.status ≢ file_closed → s.standing (open_at c h) ≡ true
-      → (s.opened (open_at c h)).persistent ≡ false → lower_limit < s.journal + 34 × goes_with s (open_at c h) ≡ true
+      → (s.opened (open_at c h)).persistent ≡ false → is_stuck s (open_at c h) ≡ true
 
 say_unanswered : (c : Client) (conns : ℕ → Conn) (s : Server) (a : ℕ → ℕ) (k : ℕ) (y0 : Received) → Unanswered c conns
     → Unanswered c (put conns k (record (conns k) { down = (conns k).down ++ y0 ∷ [] }))
@@ -177,7 +177,7 @@ say_close_full c conns s a k y0 of_close_full i_close_full =
 say_close_stuck : (c : Client) (conns : ℕ → Conn) (s : Server) (a : ℕ → ℕ) (k : ℕ) (y0 : Received)
     → ((h : ℕ) → y0.token ≡ ForOp h → shuts_open (c.op h) ≡ true → y0.reply.status ≢ user_session_deleted
     → y0.reply.status ≢ file_closed → s.standing (open_at c h) ≡ true → (s.opened (open_at c h)).persistent ≡ false
-    → lower_limit < s.journal + 34 × goes_with s (open_at c h) ≡ true) → CloseStuck c conns s
+    → is_stuck s (open_at c h) ≡ true) → CloseStuck c conns s
     → CloseStuck c (put conns k (record (conns k) { down = (conns k).down ++ y0 ∷ [] })) s
 say_close_stuck c conns s a k y0 of_close_stuck i_close_stuck =
     λ j n p y. let old = i_close_stuck j n p y in let m1 = of_close_stuck p in grind (arith, get-push)
@@ -204,7 +204,7 @@ pub say_keeps : (c : Client) (conns : ℕ → Conn) (s : Server) (a : ℕ → �
     → (s.opened (open_at c h)).persistent ≡ true → lower_limit < s.journal + 66)
     → ((h : ℕ) → y0.token ≡ ForOp h → shuts_open (c.op h) ≡ true → y0.reply.status ≢ user_session_deleted
     → y0.reply.status ≢ file_closed → s.standing (open_at c h) ≡ true → (s.opened (open_at c h)).persistent ≡ false
-    → lower_limit < s.journal + 34 × goes_with s (open_at c h) ≡ true) → Locks c conns s a
+    → is_stuck s (open_at c h) ≡ true) → Locks c conns s a
     → Locks c (put conns k (record (conns k) { down = (conns k).down ++ y0 ∷ [] })) s a
 say_keeps c conns s a k y0 of_ask_down of_opened_reply of_join_reply of_joined_reply of_lost_reply of_ok_reply
     of_no_reply of_kept_reply of_first_reply of_close_done of_close_full of_close_stuck i =

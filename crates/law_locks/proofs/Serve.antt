@@ -17,7 +17,7 @@ use Rattle.spec_exchange.specs.Operations.{Op, reconnect_of}
 use Rattle.spec_exchange.specs.Client.{Client}
 use Rattle.spec_exchange.specs.Network.{Conn, Sent, Token, ForDialog, ForOp, ForAttach, answer_to, untouched}
 use Rattle.law_sessions.specs.messages.Connections.{Connections, makes_open, shuts_open, create_at, its_request}
-use Rattle.law_server.specs.tables.Fits.{Fits}
+use Rattle.law_server.specs.tables.Fits.{Fits, Limit}
 use Rattle.law_server.proofs.tables.Doors.{recorded, Before}
 use Rattle.law_sessions.specs.sessions.Sessions.{Sessions, logon_user}
 use Rattle.law_sessions.specs.sessions.Kinds.{TreeKinds}
@@ -28,8 +28,9 @@ use Rattle.law_creates.proofs.ExpireBy.{expire_by_creates}
 use Rattle.law_creates.proofs.Facing.{Rest, rest, expire_rest}
 use Rattle.law_locks.specs.Locks.{Locks, locking, open_at}
 use Rattle.law_locks.proofs.Views.{expire_view}
-use Rattle.law_locks.proofs.Rooms.{by_room}
-use Rattle.law_locks.proofs.Steady.{bare_of, heads_apply}
+use Rattle.law_locks.proofs.Rooms.{by_room, InFront}
+use Rattle.law_locks.proofs.Calm.{Ending}
+use Rattle.law_locks.proofs.Steady.{ends_of, big_apply}
 use Rattle.law_locks.proofs.Facing.{Lower, before_keeps}
 use Rattle.law_locks.proofs.Serving.{Serving, Served, counted, not_acted, bare_full}
 use Rattle.law_locks.proofs.Others.{say_nothing, serves_dialog, serves_other, serves_create, serves_ask}
@@ -78,7 +79,7 @@ journal_before s now t (inr x) = ap (λ z. z.journal) x.2 ∙ ap (λ z. z.journa
 
 serving_at : (c : Client) (conns : ℕ → Conn) (s : Server) (a : ℕ → ℕ) (k : ℕ) (x0 : Sent) (now : ℕ) (t : Server)
     → Under c conns s a → Locks c conns s a → slice_get (conns k).up 0 ≡ Some x0 → Before s now t
-    → (lower_limit < s.journal + 34 → t ≡ with_deadlines s now) → Serving c conns t a k x0
+    → (lower_limit < s.journal + 35 → InFront s now t) → Serving c conns t a k x0
 serving_at c conns s a k x0 now t u i front b full =
     let x = before_keeps c conns s a now t b full (lower_of c conns s a u) u.links i in
     let r : rest t ≡ rest s = rest_before s now t b in
@@ -121,19 +122,19 @@ by_lock c conns a k g x0 A f1 f2 f3 f4 = by_kinds (locking (c.op g)) (shuts_open
     by_kinds false false false e f h = f4 e f h
 
 fitting : (c : Client) (conns : ℕ → Conn) (s : Server) (a : ℕ → ℕ) (k : ℕ) (x0 : Sent) (now : ℕ) (t : Server)
-    (v : Verdict) (front : List Record) → Serving c conns t a k x0 → Before s now t → v ≡ check t x0.message
+    (v : Verdict) (front : List Record) → Serving c conns t a k x0 → Before s now t → Limit s → v ≡ check t x0.message
     → fits (with_deadlines s now) (front ++ (apply t x0.message now v).records) ≡ true
     → (tk : Token) → x0.token ≡ tk
     → Served c conns a k x0 (recorded (apply t x0.message now v) (front ++ (apply t x0.message now v).records))
-fitting c conns s a k x0 now t v front w b is room tk e =
+fitting c conns s a k x0 now t v front w b whole is room tk e =
     by_token tk e
   where
     same : t.journal ≡ (with_deadlines s now).journal
     same = journal_before s now t b
 
-    bare : lower_limit < t.journal + 34 → (apply t x0.message now v).records ≡ []
-    bare big = bare_of (with_deadlines s now) front (apply t x0.message now v).records (heads_apply t x0.message now v)
-        room (subst (λ z. lower_limit < z + 34) same big)
+    bare : lower_limit < t.journal + 35 → Ending (apply t x0.message now v).records (front ++ (apply t x0.message now v).records)
+    bare big = ends_of (with_deadlines s now) front (apply t x0.message now v).records whole (big_apply t x0.message now v)
+        room (subst (λ z. lower_limit < z + 35) same big)
 
     by_token : (tk : Token) → x0.token ≡ tk
         → Served c conns a k x0 (recorded (apply t x0.message now v) (front ++ (apply t x0.message now v).records))
@@ -142,12 +143,12 @@ fitting c conns s a k x0 now t v front w b is room tk e =
     by_token (ForOp g) e =
         by_lock c conns a k g x0 (recorded (apply t x0.message now v) (front ++ (apply t x0.message now v).records))
         (λ l. let y = lock_copy c conns t a k g x0 w e l in lock_fits c conns (with_deadlines s now) t a k g x0 now
-        front v y same is room
+        front v y whole same is room
         (subst (λ z. LockSees t x0.message (open_at c g) (c.slot_of g) (c.number_of g) (elements_in (c.op g)) z)
         (sym is) (lock_sees t x0.message (open_at c g) (c.slot_of g) (c.number_of g) (elements_in (c.op g)) w.fault
         y.command (lock_formed (c.op g) l) y.slot)))
         (λ l sh. let y = close_copy c conns t a k g x0 w e sh in close_fits c conns (with_deadlines s now) t a k g x0
-        now front v y same is room (subst (λ z. CloseSees t x0.message (open_at c g) z) (sym is)
+        now front v y whole same is room (subst (λ z. CloseSees t x0.message (open_at c g) z) (sym is)
         (close_sees t x0.message (open_at c g) w.fault y.command)))
         (λ m. serves_create c conns t a k x0 now v _ g w (inl is, bare) e m)
         (λ l sh m. serves_other c conns t a k x0 now v _ g w (inl is, bare) e l sh m)
@@ -160,9 +161,10 @@ full : (c : Client) (conns : ℕ → Conn) (s : Server) (a : ℕ → ℕ) (k : �
     (apply (with_deadlines s now) x0.message now v).records)
 full c conns s a k x0 now v w is room tk e = by_token tk e
   where
-    bare : lower_limit < (with_deadlines s now).journal + 34 → (apply (with_deadlines s now) x0.message now v).records ≡ []
-    bare big = subst (λ z. (apply (with_deadlines s now) x0.message now z).records ≡ []) (sym is)
-        (bare_full (with_deadlines s now) x0.message now (check (with_deadlines s now) x0.message))
+    bare : lower_limit < (with_deadlines s now).journal + 35 → Ending (apply (with_deadlines s now) x0.message now v).records
+        (apply (with_deadlines s now) x0.message now v).records
+    bare big = inl (subst (λ z. (apply (with_deadlines s now) x0.message now z).records ≡ []) (sym is)
+        (bare_full (with_deadlines s now) x0.message now (check (with_deadlines s now) x0.message)))
 
     by_token : (tk : Token) → x0.token ≡ tk
         → Served c conns a k x0 (recorded (apply (with_deadlines s now) x0.message now v)
@@ -184,10 +186,10 @@ heard_served : (c : Client) (conns : ℕ → Conn) (s : Server) (a : ℕ → ℕ
     → Under c conns s a → Locks c conns s a → slice_get (conns k).up 0 ≡ Some x0
     → Served c conns a k x0 (step s now (Heard x0.message))
 heard_served c conns s a k x0 now u i front =
-    by_room (λ A. Served c conns a k x0 A) s now x0.message
-    (λ t v fr b fl is room. fitting c conns s a k x0 now t v fr (serving_at c conns s a k x0 now t u i front b fl) b is room x0.token refl)
+    by_room (λ A. Served c conns a k x0 A) s now x0.message u.fits.limit
+    (λ t v fr b fl is room. fitting c conns s a k x0 now t v fr (serving_at c conns s a k x0 now t u i front b fl) b u.fits.limit is room x0.token refl)
     (λ v is room. full c conns s a k x0 now v (serving_at c conns s a k x0 now (with_deadlines s now) u i front
-    (inl refl) (λ _. refl)) is room x0.token refl)
+    (inl refl) (λ _. inl refl)) is room x0.token refl)
 
 -- ---- NEGOTIATE and ECHO
 

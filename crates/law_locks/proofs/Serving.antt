@@ -1,6 +1,6 @@
 -- What is known where the server takes the front of a connection, and how a verdict that isn't a lock's keeps it.
 use Rattle.law_sessions.proofs.sessions.Serving.{work_keeps, dialog_keeps}
-use Rattle.std.proofs.Common.{eqb-true, ◌≡◌, ◌≢◌, ℕ, ◌+◌, ◌==◌, ◌≤◌, ◌<◌, Bool, true, false, ◌&&◌, if◌then◌else◌, List, []}
+use Rattle.std.proofs.Common.{eqb-true, ◌≡◌, ◌≢◌, ◌⊎◌, inl, inr, ℕ, ◌+◌, ◌==◌, ◌≤◌, ◌<◌, Bool, true, false, ◌&&◌, if◌then◌else◌, List, []}
 use Rattle.std.proofs.Common.{Option, Some, None, slice_get, is_some, refl, arith, sym, ◌∙◌, subst}
 use Rattle.spec_exchange.specs.Status.{success, disk_full}
 use Rattle.spec_exchange.specs.Commands.{Command, TreeDisconnect, Create, CreateRequest, Durable, deletes_on_close}
@@ -27,11 +27,11 @@ use Rattle.law_creates.specs.Creates.{Creates, seen}
 use Rattle.law_creates.proofs.Facing.{own_create}
 use Rattle.law_creates.proofs.Requests.{create_asked, asks_create, asks_to_keep}
 use Rattle.law_locks.specs.Locks.{Locks, locking, open_at, piped}
-use Rattle.law_locks.proofs.Views.{view, grows}
+use Rattle.law_locks.proofs.Views.{view, Quiet, grows}
 use Rattle.law_locks.proofs.Verdicts.{closes_in, news, verdict_quiet, is_slot_verdict}
 use Rattle.law_locks.proofs.Undeleting.{undeleting, NewKept}
-use Rattle.law_locks.proofs.Steady.{Steady}
-use Rattle.law_locks.proofs.Bare.{bare_steady}
+use Rattle.law_locks.proofs.Calm.{Steady, Calm, Steadies, Ending}
+use Rattle.law_locks.proofs.Bare.{bare_steady, ends_calm}
 use Rattle.law_locks.proofs.Facing.{Lower, quiet_keeps}
 use Rattle.law_locks.proofs.Say.{MaySay}
 
@@ -165,13 +165,16 @@ of_unmade c g p e f = elim (g == p) as (λ b. g == p ≡ b → (g == p) ≡ fals
 
 -- ---- a verdict that isn't a lock's
 
+calm_recorded : (t u : Server) (n : ℕ) → Calm t u → Calm t (record u { journal = n })
+calm_recorded t u n c = record { delete_pending = c.delete_pending; others = c.others }
+
 steady_recorded : (t u : Server) (n : ℕ) → Steady t u → Steady t (record u { journal = n })
 steady_recorded t u n s = record { entries = s.entries; delete_pending = s.delete_pending; directory = s.directory; others = s.others }
 
 pub quiet_serve : (c : Client) (conns : ℕ → Conn) (t : Server) (a : ℕ → ℕ) (k : ℕ) (x0 : Sent) (now : ℕ) (v : Verdict)
     (rs : List Record) (a2 : ℕ → ℕ)
     → Serving c conns t a k x0 → Facts t x0.message v → is_slot_verdict v ≡ false
-    → (lower_limit < t.journal + 34 → (apply t x0.message now v).records ≡ [])
+    → (lower_limit < t.journal + 35 → Ending (apply t x0.message now v).records rs)
     → ((q : ℕ) → makes_open (c.op q) ≡ true → 1 ≤ a2 q → piped c.who.share ≡ false)
     → ((p : ℕ) → locking (c.op p) ≡ true → a2 p ≡ a p)
     → ((g : ℕ) → locking (c.op g) ≡ true → c.sent g ≡ true → is_unsettled (c.outcome g) ≡ true → c.live ≡ true
@@ -188,7 +191,23 @@ quiet_serve c conns t a k x0 now v rs a2 w f off bare plain same_a shut joined =
     let m = x0.message in let A = apply t m now v in
     quiet_keeps c conns t a (recorded A rs).server a2 m.connection (closes_in m.command) w.low w.links same_a
     (grows (news t m) (closes_in m.command) (view t) (view A.server) (entry_bytes rs)
-    (verdict_quiet t m now v (λ o y h. (w.low.attached o y h).1) (keeps_trees c conns t a k x0 w) f off))
-    (λ big. steady_recorded t A.server _ (bare_steady t m now v (keeps_trees c conns t a k x0 w) f (bare big)))
+    quiet)
+    (λ big. by_ends big (bare big))
     plain
     (undeleting t m now v (new_kept c conns t a k x0 v w f) w.locks.kept_files) shut joined w.locks
+  where
+    fuller : (n m b : ℕ) → n ≤ m → lower_limit < n + 35 → 34 ≤ b → lower_limit < m + b + 34
+    fuller n m b g l e = omega (arith, g, l, e)
+
+    quiet : Quiet (news t x0.message) (closes_in x0.message.command) (view t) (view (apply t x0.message now v).server)
+    quiet = verdict_quiet t x0.message now v (λ o y h. (w.low.attached o y h).1) (keeps_trees c conns t a k x0 w) f off
+
+    by_ends : lower_limit < t.journal + 35 → Ending (apply t x0.message now v).records rs
+        → Steadies t (recorded (apply t x0.message now v) rs).server
+    by_ends big (inl e) = inl (steady_recorded t (apply t x0.message now v).server _
+        (bare_steady t x0.message now v (keeps_trees c conns t a k x0 w) f e))
+    by_ends big (inr e) = inr (
+      calm_recorded t (apply t x0.message now v).server _
+          (ends_calm t x0.message now v (keeps_trees c conns t a k x0 w) f e.0),
+      fuller t.journal (apply t x0.message now v).server.journal (entry_bytes rs) quiet.journal big e.1,
+    )

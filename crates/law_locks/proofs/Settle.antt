@@ -8,7 +8,7 @@ use Rattle.spec_exchange.specs.Client.{Client}
 use Rattle.spec_exchange.specs.Network.{Conn, Sent, ForOp}
 use Rattle.law_sessions.specs.messages.Connections.{Connections, makes_open, shuts_open, create_at, Settled, Taken, Fresh, Bodies}
 use Rattle.law_locks.specs.Locks.{Locks, locking, firm, is_unsent, refused_for_good, user_at, open_at, kept_of}
-use Rattle.law_locks.specs.Locks.{goes_with, InUse, FullFree, ShutOk, ShutMade, ShutGone, CloseBefore, CloseAfter}
+use Rattle.law_locks.specs.Locks.{is_stuck, InUse, FullFree, ShutOk, ShutMade, ShutGone, CloseBefore, CloseAfter}
 use Rattle.law_locks.specs.Locks.{UnsentGone, AskUp, AskDown, Users, RetriedOn, RetriedDone, NowAttached, FirmKept}
 use Rattle.law_locks.specs.Locks.{NoUser, NoSlots, FullDead, ClosedNot, LeftFull, LeftStuck, LeftIdle, OkActed}
 use Rattle.law_locks.specs.Locks.{RefusedNot}
@@ -339,8 +339,7 @@ settle_left_stuck : (c : Client) (conns : ℕ → Conn) (s : Server) (a : ℕ �
     → ((h : ℕ) → h ≢ g → is_unsettled (c.outcome h) ≡ true → is_unsettled (new h) ≡ false → is_unsent (new h) ≡ true
     × c.sent h ≡ false) → ((j n : ℕ) (x : Sent) → slice_get (conns j).up n ≡ Some x → x.token ≡ ForOp g
     → shuts_open (c.op g) ≡ true → is_ok o0 ≡ false → s.present x.message.session_id ≡ true → s.standing (open_at c g)
-    ≡ true → (s.opened (open_at c g)).persistent ≡ false → lower_limit < s.journal + 34 × goes_with s (open_at c g)
-    ≡ true) → Bodies c conns → LeftStuck c conns s → LeftStuck (record c {
+    ≡ true → (s.opened (open_at c g)).persistent ≡ false → is_stuck s (open_at c g) ≡ true) → Bodies c conns → LeftStuck c conns s → LeftStuck (record c {
       outcome = new;
       outstanding_on = put c.outstanding_on g None;
       settled_by = by0;
@@ -428,7 +427,7 @@ pub settle_keeps : (c : Client) (conns : ℕ → Conn) (s : Server) (a : ℕ →
     → s.standing (open_at c g) ≡ true → (s.opened (open_at c g)).persistent ≡ true → lower_limit < s.journal + 66)
     → ((j n : ℕ) (x : Sent) → slice_get (conns j).up n ≡ Some x → x.token ≡ ForOp g → shuts_open (c.op g) ≡ true
     → is_ok o0 ≡ false → s.present x.message.session_id ≡ true → s.standing (open_at c g) ≡ true
-    → (s.opened (open_at c g)).persistent ≡ false → lower_limit < s.journal + 34 × goes_with s (open_at c g) ≡ true)
+    → (s.opened (open_at c g)).persistent ≡ false → is_stuck s (open_at c g) ≡ true)
     → (locking (c.op g) ≡ true → is_ok o0 ≡ true → a g ≡ 1) → (locking (c.op g) ≡ true → refused_for_good o0 ≡ true
     → a g ≡ 0) → Connections c conns a → Locks c conns s a → Locks (record c {
       outcome = new;

@@ -14,7 +14,7 @@ use Rattle.spec_exchange.specs.Network.{Conn, Sent, ForOp}
 use Rattle.law_sessions.specs.messages.Connections.{Connections, makes_open, shuts_open, its_create, create_at}
 use Rattle.law_sessions.proofs.messages.Run.{without_same}
 use Rattle.law_server.proofs.tables.Logic.{either, back_off}
-use Rattle.law_locks.specs.Locks.{Locks, locking, open_at, user_at, kept_of, firm, is_unsent, refused_for_good, goes_with}
+use Rattle.law_locks.specs.Locks.{Locks, locking, open_at, user_at, kept_of, firm, is_unsent, refused_for_good, is_stuck}
 use Rattle.law_locks.proofs.Words.{close_kind, ok_settled, unsettled_ok, unsent_ok, split_at}
 use Rattle.law_locks.proofs.Settle.{settle_keeps}
 
@@ -35,7 +35,7 @@ pub record OperationSettles (d : Client) (conns : ℕ → Conn) (s : Server) (a 
       → (s.opened (open_at d g)).persistent ≡ true → lower_limit < s.journal + 66
   pub stuck : (j n : ℕ) (x : Sent) → slice_get (conns j).up n ≡ Some x → x.token ≡ ForOp g → shuts_open (d.op g) ≡ true
       → is_ok o ≡ false → s.present x.message.session_id ≡ true → s.standing (open_at d g) ≡ true
-      → (s.opened (open_at d g)).persistent ≡ false → lower_limit < s.journal + 34 × goes_with s (open_at d g) ≡ true
+      → (s.opened (open_at d g)).persistent ≡ false → is_stuck s (open_at d g) ≡ true
   pub acted : locking (d.op g) ≡ true → is_ok o ≡ true → a g ≡ 1
   pub unacted : locking (d.op g) ≡ true → refused_for_good o ≡ true → a g ≡ 0
 

@@ -8,10 +8,10 @@ use Rattle.spec_exchange.specs.Opens.{id_of, leave_open, with_guid}
 use Rattle.spec_exchange.specs.CheckSetup.{is_new}
 use Rattle.spec_exchange.specs.CheckOpen.{is_late, file_of}
 use Rattle.spec_exchange.specs.Effects.{apply, reach, attached, keep_closed, make_open, open_row, new_file, next_open}
-use Rattle.spec_exchange.specs.Effects.{guid_of, guid_staying, leaves, cleared}
+use Rattle.spec_exchange.specs.Effects.{guid_of, guid_staying, leaves, cleared, listed_at, positioned_at}
 use Rattle.spec_exchange.specs.Verdict.{Verdict, Refuse, Give, KeepRefusal, Repeat, Attach, Make, TurnDown, Tell, Show}
 use Rattle.spec_exchange.specs.Verdict.{KeepSlot, PutRanges, Alter, CloseOpen, Challenge, ChallengeBinding, Begin, Join}
-use Rattle.spec_exchange.specs.Verdict.{EndSession, AddTree, DropTree}
+use Rattle.spec_exchange.specs.Verdict.{EndSession, AddTree, DropTree, Place}
 use Rattle.law_server.proofs.tables.Logic.{either, none_of}
 use Rattle.law_server.proofs.tables.Found.{Facts}
 use Rattle.law_locks.proofs.Views.{View, view, Quiet, stays, same, attaches, makes, leaves_by, ended_view, begins_one}
@@ -98,11 +98,14 @@ begin_quiet t m now session user (Some p) r is_quiet making absent =
     (λ c g. guid_staying t p (t.by_guid c g)) (is_new_of (t.making m.connection) m.session_id making)
     (its_session t p) (λ c g o e. staying_named t p (t.by_guid c g) o e) absent
 
-pub show_view : (s : Server) (m : Message) (o : ℕ) (last : Option (List ℕ)) → view (record (reach s m o) {
-  enumeration_location = put s.enumeration_location o last;
+pub show_view : (s : Server) (m : Message) (o : ℕ) (place : Place) → view (record (reach s m o) {
+  enumeration_location = listed_at s.enumeration_location o place;
+  current_byte_offset = positioned_at s.current_byte_offset o place;
 }) ≡ view s
-show_view s m o last = either (λ u. view (record u { enumeration_location = put s.enumeration_location o last })
-    ≡ view s) (is_late s m o) _ _ (λ _. refl) (λ _. refl)
+show_view s m o place = either (λ u. view (record u {
+  enumeration_location = listed_at s.enumeration_location o place;
+  current_byte_offset = positioned_at s.current_byte_offset o place;
+}) ≡ view s) (is_late s m o) _ _ (λ _. refl) (λ _. refl)
 
 absent_of : (present : ℕ → Bool) (at : ℕ → Option ℕ) (x : ℕ) → ((o y : ℕ) → at o ≡ Some y → present y ≡ true)
     → present x ≡ false → (o y : ℕ) → at o ≡ Some y → y ≢ x

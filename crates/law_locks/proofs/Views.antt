@@ -5,7 +5,7 @@ use Rattle.spec_exchange.specs.Table.{put, is_at}
 use Rattle.spec_exchange.specs.Commands.{CreateRequest, deletes_on_close}
 use Rattle.spec_exchange.specs.State.{Server, Message, Open, Kept}
 use Rattle.spec_exchange.specs.Files.{set_delete_pending}
-use Rattle.spec_exchange.specs.Opens.{id_of, drop_open, leave_open, pending_behind, goes, with_guid}
+use Rattle.spec_exchange.specs.Opens.{id_of, drop_open, leave_open, pending_behind, goes, is_kept_back, with_guid}
 use Rattle.spec_exchange.specs.CheckCreate.{empties}
 use Rattle.spec_exchange.specs.CheckOpen.{is_late}
 use Rattle.spec_exchange.specs.Effects.{reach, keep_closed, change_file, make_open, open_row, new_file, next_open}
@@ -220,9 +220,11 @@ drop_view s o false = refl
 pub leave_view : (s : Server) (o : ℕ) → view (leave_open s o) ≡ left_view (view s) o (without_guid s o)
 leave_view s o =
     let d = drop_open (pending_behind s o) o in
-    either (λ u. view u ≡ left_view (view s) o (without_guid s o)) (goes d (s.opened o).file) _ _
+    either (λ u. view u ≡ left_view (view s) o (without_guid s o)) (is_kept_back d (s.opened o).file) _ _
     (λ _. drop_view s o (deletes_on_close (s.opened o).options))
+    (λ _. either (λ u. view u ≡ left_view (view s) o (without_guid s o)) (goes d (s.opened o).file) _ _
     (λ _. drop_view s o (deletes_on_close (s.opened o).options))
+    (λ _. drop_view s o (deletes_on_close (s.opened o).options)))
 
 closed_view : (s : Server) (x : ℕ) (q : Option ℕ) → view (keep_closed s x q) ≡ view s
 closed_view s x None = refl

@@ -10,7 +10,7 @@ use Rattle.spec_exchange.specs.Client.{Client, guid_for}
 use Rattle.spec_exchange.specs.Network.{Conn, Received, ForOp}
 use Rattle.law_sessions.specs.messages.Connections.{Connections, makes_open, create_at, Outstanding, DownOpen, Settled, Taken}
 use Rattle.law_sessions.specs.messages.Connections.{Creates, HasOpen, SentReplies}
-use Rattle.law_locks.specs.Locks.{Locks, locking, kept_at, firm, user_at, open_at, kept_of, goes_with, UserBody, InUse}
+use Rattle.law_locks.specs.Locks.{Locks, locking, kept_at, firm, user_at, open_at, kept_of, is_stuck, UserBody, InUse}
 use Rattle.law_locks.specs.Locks.{UnsentGone, KeptSays, NotKept, FirmKept, NoUser, NoSlots, OkReply, NoReply, KeptReply}
 use Rattle.law_locks.specs.Locks.{FirstReply, ClosedNot, LeftFull, LeftStuck, LeftIdle, CloseFull, CloseStuck, MadePlain}
 use Rattle.law_locks.specs.Locks.{AtMost, OkActed, RefusedNot}
@@ -337,7 +337,7 @@ writes_left_full c conns s a g st0 j0 sq rg a2 lock sent user free stands unfirm
 writes_left_stuck : (c : Client) (conns : ℕ → Conn) (s : Server) (a : ℕ → ℕ) (g st0 j0 : ℕ) (sq : ℕ → ℕ)
     (rg : ℕ → List Range) (a2 : ℕ → ℕ) → (locking (c.op g) ≡ true) → (c.sent g ≡ true) → (user_at c g ≡ Some g)
     → (kept_of c s g ≡ None) → (s.standing (open_at c g) ≡ true) → (firm (c.outcome g) ≡ false) → (s.journal ≤ j0)
-    → (a2 g ≡ (if st0 == success then 1 else 0)) → ((o : ℕ) → goes_with (record s {
+    → (a2 g ≡ (if st0 == success then 1 else 0)) → ((o : ℕ) → is_stuck s o ≡ true → is_stuck (record s {
       sequence = sq;
       ranges = rg;
       lock_sequences = put2 s.lock_sequences (open_at c g) (c.slot_of g) (Some (record {
@@ -345,7 +345,7 @@ writes_left_stuck : (c : Client) (conns : ℕ → Conn) (s : Server) (a : ℕ �
         status = st0;
       }));
       journal = j0;
-    }) o ≡ goes_with s o) → LeftStuck c conns s → LeftStuck c conns (record s {
+    }) o ≡ true) → LeftStuck c conns s → LeftStuck c conns (record s {
       sequence = sq;
       ranges = rg;
       lock_sequences = put2 s.lock_sequences (open_at c g) (c.slot_of g) (Some (record {
@@ -354,8 +354,8 @@ writes_left_stuck : (c : Client) (conns : ℕ → Conn) (s : Server) (a : ℕ �
       }));
       journal = j0;
     })
-writes_left_stuck c conns s a g st0 j0 sq rg a2 lock sent user free stands unfirm journal own goes_same i_left_stuck =
-    λ j n p x h t. let old = i_left_stuck j n p x h t in let gs = goes_same (open_at c p) in grind arith
+writes_left_stuck c conns s a g st0 j0 sq rg a2 lock sent user free stands unfirm journal own stuck_same i_left_stuck =
+    λ j n p x h t. let old = i_left_stuck j n p x h t in let sk = stuck_same (open_at c p) in grind arith
 
 writes_left_idle : (c : Client) (conns : ℕ → Conn) (s : Server) (a : ℕ → ℕ) (g st0 j0 : ℕ) (sq : ℕ → ℕ)
     (rg : ℕ → List Range) (a2 : ℕ → ℕ) → (locking (c.op g) ≡ true) → (c.sent g ≡ true) → (user_at c g ≡ Some g)
@@ -391,7 +391,7 @@ writes_close_full c conns s a g st0 j0 sq rg a2 lock sent user free stands unfir
 writes_close_stuck : (c : Client) (conns : ℕ → Conn) (s : Server) (a : ℕ → ℕ) (g st0 j0 : ℕ) (sq : ℕ → ℕ)
     (rg : ℕ → List Range) (a2 : ℕ → ℕ) → (locking (c.op g) ≡ true) → (c.sent g ≡ true) → (user_at c g ≡ Some g)
     → (kept_of c s g ≡ None) → (s.standing (open_at c g) ≡ true) → (firm (c.outcome g) ≡ false) → (s.journal ≤ j0)
-    → (a2 g ≡ (if st0 == success then 1 else 0)) → ((o : ℕ) → goes_with (record s {
+    → (a2 g ≡ (if st0 == success then 1 else 0)) → ((o : ℕ) → is_stuck s o ≡ true → is_stuck (record s {
       sequence = sq;
       ranges = rg;
       lock_sequences = put2 s.lock_sequences (open_at c g) (c.slot_of g) (Some (record {
@@ -399,7 +399,7 @@ writes_close_stuck : (c : Client) (conns : ℕ → Conn) (s : Server) (a : ℕ �
         status = st0;
       }));
       journal = j0;
-    }) o ≡ goes_with s o) → CloseStuck c conns s → CloseStuck c conns (record s {
+    }) o ≡ true) → CloseStuck c conns s → CloseStuck c conns (record s {
       sequence = sq;
       ranges = rg;
       lock_sequences = put2 s.lock_sequences (open_at c g) (c.slot_of g) (Some (record {
@@ -408,8 +408,8 @@ writes_close_stuck : (c : Client) (conns : ℕ → Conn) (s : Server) (a : ℕ �
       }));
       journal = j0;
     })
-writes_close_stuck c conns s a g st0 j0 sq rg a2 lock sent user free stands unfirm journal own goes_same i_close_stuck =
-    λ j n p y h t. let old = i_close_stuck j n p y h t in let gs = goes_same (open_at c p) in grind arith
+writes_close_stuck c conns s a g st0 j0 sq rg a2 lock sent user free stands unfirm journal own stuck_same i_close_stuck =
+    λ j n p y h t. let old = i_close_stuck j n p y h t in let sk = stuck_same (open_at c p) in grind arith
 
 writes_made_plain : (c : Client) (conns : ℕ → Conn) (s : Server) (a : ℕ → ℕ) (g st0 j0 : ℕ) (sq : ℕ → ℕ)
     (rg : ℕ → List Range) (a2 : ℕ → ℕ) → (locking (c.op g) ≡ true) → (c.sent g ≡ true) → (user_at c g ≡ Some g)
@@ -449,7 +449,7 @@ pub writes_keeps : (c : Client) (conns : ℕ → Conn) (s : Server) (a : ℕ →
     → (kept_of c s g ≡ None) → (s.standing (open_at c g) ≡ true) → (firm (c.outcome g) ≡ false) → (s.journal ≤ j0)
     → ((p : ℕ) → locking (c.op p) ≡ true → p ≢ g → a2 p ≡ a p) → (a2 g ≡ (if st0 == success then 1 else 0))
     → ((q : ℕ) → makes_open (c.op q) ≡ true → a2 q ≡ a q) → ((s.opened (open_at c g)).persistent ≡ true
-    → s.journal + 66 ≤ lower_limit) → ((o : ℕ) → goes_with (record s {
+    → s.journal + 66 ≤ lower_limit) → ((o : ℕ) → is_stuck s o ≡ true → is_stuck (record s {
       sequence = sq;
       ranges = rg;
       lock_sequences = put2 s.lock_sequences (open_at c g) (c.slot_of g) (Some (record {
@@ -457,7 +457,7 @@ pub writes_keeps : (c : Client) (conns : ℕ → Conn) (s : Server) (a : ℕ →
         status = st0;
       }));
       journal = j0;
-    }) o ≡ goes_with s o) → ((q : ℕ) → makes_open (c.op q) ≡ true → is_ok (c.outcome q)
+    }) o ≡ true) → ((q : ℕ) → makes_open (c.op q) ≡ true → is_ok (c.outcome q)
     ≡ true → s.standing (c.file q) ≡ true → c.file q ≡ open_at c g → q ≡ create_at c g)
     → ((q : ℕ) → makes_open (c.op q) ≡ true → is_ok (c.outcome q) ≡ false → s.by_guid c.who.guid (guid_for c q) ≢ Some
     (open_at c g)) → (c.unanswered g ≡ false → (j n : ℕ) (y : Received) → slice_get (conns j).down n ≡ Some y
@@ -469,7 +469,7 @@ pub writes_keeps : (c : Client) (conns : ℕ → Conn) (s : Server) (a : ℕ →
       journal = j0;
     }) a2
 writes_keeps c conns s a g st0 j0 sq rg a2 lock sent user free stands unfirm journal others own creates_same room
-    goes_same inj unmade alone C i =
+    stuck_same inj unmade alone C i =
     record {
       slot_index = i.slot_index;
       user_body = i.user_body;
@@ -513,12 +513,12 @@ writes_keeps c conns s a g st0 j0 sq rg a2 lock sent user free stands unfirm jou
       closed_not = writes_closed_not c conns s a g st0 j0 sq rg a2 lock sent user free stands unfirm journal others own i.closed_not;
       kept_files = i.kept_files;
       left_full = writes_left_full c conns s a g st0 j0 sq rg a2 lock sent user free stands unfirm journal own i.left_full;
-      left_stuck = writes_left_stuck c conns s a g st0 j0 sq rg a2 lock sent user free stands unfirm journal own goes_same i.left_stuck;
+      left_stuck = writes_left_stuck c conns s a g st0 j0 sq rg a2 lock sent user free stands unfirm journal own stuck_same i.left_stuck;
       left_idle = writes_left_idle c conns s a g st0 j0 sq rg a2 lock sent user free stands unfirm journal others own
           room i.left_idle i.left_full;
       close_done = i.close_done;
       close_full = writes_close_full c conns s a g st0 j0 sq rg a2 lock sent user free stands unfirm journal own i.close_full;
-      close_stuck = writes_close_stuck c conns s a g st0 j0 sq rg a2 lock sent user free stands unfirm journal own goes_same i.close_stuck;
+      close_stuck = writes_close_stuck c conns s a g st0 j0 sq rg a2 lock sent user free stands unfirm journal own stuck_same i.close_stuck;
       made_plain = writes_made_plain c conns s a g st0 j0 sq rg a2 lock sent user free stands unfirm journal own creates_same i.made_plain;
       at_most = writes_at_most c conns s a g st0 j0 sq rg a2 lock sent user free stands unfirm journal others own i.at_most;
       ok_acted = writes_ok_acted c conns s a g st0 j0 sq rg a2 lock sent user free stands unfirm journal others own i.ok_acted;

@@ -1,12 +1,14 @@
 -- What holds of locks and unlocks in every world that a run leads to, where each operation acted a g times: between the
 -- client's slots, what waits on the connections, and what the server's opens keep.
-use Rattle.std.specs.Prelude.{◌≡◌, ◌≢◌, ℕ, ◌+◌, ◌≤◌, ◌<◌, ◌==◌, Bool, true, false, if◌then◌else◌, List, Option, Some}
+use Rattle.std.specs.Prelude.{◌≡◌, ◌≢◌, ℕ, ◌+◌, ◌≤◌, ◌<◌, ◌==◌, nat_lt, Bool, true, false, not, ◌&&◌, ◌||◌, if◌then◌else◌, List, Option, Some}
 use Rattle.std.specs.Prelude.{None, is_some, slice_get}
 use Rattle.spec_exchange.specs.Status.{success, user_session_deleted, file_closed, object_name_not_found, disk_full}
 use Rattle.spec_exchange.specs.Texts.{same_name}
 use Rattle.spec_exchange.specs.Commands.{deletes_on_close}
 use Rattle.spec_exchange.specs.State.{Server, Kept}
-use Rattle.spec_exchange.specs.Opens.{goes, drop_open, pending_behind}
+use Rattle.spec_exchange.specs.Table.{is_filled, without}
+use Rattle.spec_exchange.specs.Files.{root}
+use Rattle.spec_exchange.specs.Opens.{is_kept_back, drop_open, pending_behind, opens_in}
 use Rattle.spec_exchange.specs.CheckSetup.{pipes_name}
 use Rattle.spec_exchange.specs.CheckOpen.{is_slot, kept_status}
 use Rattle.spec_exchange.specs.Records.{lower_limit}
@@ -245,11 +247,21 @@ ClosedNot c s a = (g : ℕ) → locking (c.op g) ≡ true → c.sent g ≡ true 
     ≡ true → c.attached (create_at c g) ≡ c.session_number → s.present c.session ≡ true → s.standing (open_at c g)
     ≡ false → a g ≡ 0
 
--- Where a close was refused on a full disk: a record of a lock takes 66 bytes of the journal, one of a persistent open
--- that leaves with its file 63, and no record takes less than 34. An open that owes no record where it locks, a plain
--- one, can't be closed there, since it is the last one of a file that is delete pending.
-unfoldable pub goes_with : Server → ℕ → Bool
-goes_with s o = goes (drop_open (pending_behind s o) o) (s.opened o).file
+-- Where a close was refused on a full disk: a record of a lock takes 66 bytes of the journal, those of a persistent open that
+-- leaves 64 at most, and no record takes less than 34. An open that owes no record where it locks, a plain one, can't be closed
+-- there, since it is the last one of a file that is delete pending: the file goes with it, by a record of 34 bytes, or can't go and
+-- loses its mark, by one of 35.
+unfoldable pub kept_with : Server → ℕ → Bool
+kept_with s o = is_kept_back (drop_open (pending_behind s o) o) (s.opened o).file
+
+-- its file is delete pending, and no other open has it
+unfoldable pub is_alone : Server → ℕ → Bool
+is_alone s o = s.delete_pending (s.opened o).file && (not ((s.opened o).file == root)
+    && not (is_filled (opens_in s.opened (without o s.opens) (s.opened o).file)))
+
+-- so the records of its leaving don't fit
+unfoldable pub is_stuck : Server → ℕ → Bool
+is_stuck s o = (nat_lt lower_limit (s.journal + 34) && is_alone s o) || (nat_lt lower_limit (s.journal + 35) && kept_with s o)
 
 -- no open deletes its file on close
 abbrev pub KeptFiles : Server → Type 0
@@ -262,12 +274,12 @@ LeftFull c conns s = (k n h : ℕ) (x : Sent) → slice_get (conns k).up n ≡ S
     ≡ false → is_ok (c.outcome h) ≡ false → s.standing (open_at c h) ≡ true → (s.opened (open_at c h)).persistent ≡ true
     → lower_limit < s.journal + 66
 
--- the same of a plain open, which goes with its file
+-- the same of a plain open
 abbrev pub LeftStuck : Client → (ℕ → Conn) → Server → Type 0
 LeftStuck c conns s = (k n h : ℕ) (x : Sent) → slice_get (conns k).up n ≡ Some x → x.token ≡ ForOp h
     → shuts_open (c.op h) ≡ true → s.present x.message.session_id ≡ true → c.live ≡ true → is_unsettled (c.outcome h)
     ≡ false → is_ok (c.outcome h) ≡ false → s.standing (open_at c h) ≡ true → (s.opened (open_at c h)).persistent
-    ≡ false → lower_limit < s.journal + 34 × goes_with s (open_at c h) ≡ true
+    ≡ false → is_stuck s (open_at c h) ≡ true
 
 -- and no lock behind it has acted, where each owes a record
 abbrev pub LeftIdle : Client → (ℕ → Conn) → Server → (ℕ → ℕ) → Type 0
@@ -291,8 +303,7 @@ CloseFull c conns s = (k n h : ℕ) (y : Received) → slice_get (conns k).down 
 abbrev pub CloseStuck : Client → (ℕ → Conn) → Server → Type 0
 CloseStuck c conns s = (k n h : ℕ) (y : Received) → slice_get (conns k).down n ≡ Some y → y.token ≡ ForOp h
     → shuts_open (c.op h) ≡ true → y.reply.status ≢ user_session_deleted → y.reply.status ≢ file_closed
-    → s.standing (open_at c h) ≡ true → (s.opened (open_at c h)).persistent ≡ false → lower_limit < s.journal + 34
-    × goes_with s (open_at c h) ≡ true
+    → s.standing (open_at c h) ≡ true → (s.opened (open_at c h)).persistent ≡ false → is_stuck s (open_at c h) ≡ true
 
 -- ---- where a create acted, the client's share isn't that of the pipes
 

@@ -1,3 +1,4 @@
 pub mod Numbers
 pub mod Created
 pub mod Swept
+pub mod Marks

@@ -13,4 +13,5 @@ pub mod Steps
 pub mod Durable
 pub mod Worlds
 pub mod Sweeps
+pub mod Marks
 pub mod Restarts

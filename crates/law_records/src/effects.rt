@@ -9,10 +9,12 @@ ghost use Rattle.spec_exchange.specs.Step.{Ruling, carried_out, expire, without_
 ghost use Rattle.law_records.specs.effects.Making.{EndsMaking};
 
 /// What an event does to the tables changes no count of the journal's bytes, and neither does an expiry: a body is counted
-/// behind it.
+/// behind it. Neither changes how many bytes the records of events may fill.
 pub fn carried_law()
     ensures counts { (s : Server) (now : ℕ) (r : Ruling) → (carried_out s now r).server.journal ≡ s.journal }
+    ensures limits { (s : Server) (now : ℕ) (r : Ruling) → (carried_out s now r).server.limit ≡ s.limit }
     ensures expired { (s : Server) (o : ℕ) → (expire s o).journal ≡ s.journal }
+    ensures limited { (s : Server) (o : ℕ) → (expire s o).limit ≡ s.limit }
 {}
 
 /// A message whose verdict begins a session or joins a channel to one names it, and its connection has that in the making

@@ -13,7 +13,8 @@ ghost use Rattle.law_records.specs.recovery.Restarted.{EntriesLeft, Restarted};
 /// On every run, behind every event, the state that the journal's records fold to has the same durable part as the
 /// server (`stands`), column by column (`agree`): files, persistent opens with their rows, slots, guids and ranges,
 /// expired guids, epoch and version. So a restart at any moment leaves those opens with all that is theirs, a new epoch of ids
-/// and no session (`restart`), and each file at its path, but for delete pending ones that no such open has (`entries`).
+/// and no session (`restart`), and each file at its path, but for delete pending ones that no such open has: those go, and a
+/// directory that can't go is delete pending no longer (`entries`).
 pub fn recovery_law()
     ensures stands { (settings : Settings) (events : List Event)
         → StandsFor (run events (start settings)).records (run events (start settings)).server }

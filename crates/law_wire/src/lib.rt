@@ -9,12 +9,15 @@ pub mod messages;
 
 pub use credits::{each_id_once_law, nothing_is_refused_law};
 pub use info::{
-    create_context_law, create_contexts_law, directory_entry_law, file_all_information_law,
-    file_allocation_information_law, file_basic_information_law, file_disposition_information_law,
+    create_context_law, create_contexts_law, directory_entry_law, file_access_information_law,
+    file_alignment_information_law, file_all_information_law, file_allocation_information_law,
+    file_basic_information_law, file_disposition_information_law, file_ea_information_law,
     file_end_of_file_information_law, file_fs_attribute_information_law,
     file_fs_device_information_law, file_fs_full_size_information_law,
-    file_fs_size_information_law, file_fs_volume_information_law, file_internal_information_law,
-    file_network_open_information_law, file_rename_information_law, file_standard_information_law,
+    file_fs_sector_size_information_law, file_fs_size_information_law,
+    file_fs_volume_information_law, file_internal_information_law, file_mode_information_law,
+    file_name_information_law, file_network_open_information_law, file_position_information_law,
+    file_rename_information_law, file_standard_information_law, file_stream_information_law,
     ioctl_request_law, ioctl_response_law, listing_law, network_interface_law,
     query_directory_request_law, query_directory_response_law, query_info_request_law,
     query_info_response_law, reply_contexts_law, set_info_request_law, set_info_response_law,

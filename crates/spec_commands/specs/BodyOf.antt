@@ -22,10 +22,11 @@ use Rattle.spec_wire.specs.messages.QueryInfo.{QueryInfoRequestValue, query_info
 use Rattle.spec_wire.specs.messages.SetInfo.{SetInfoRequestValue, set_info_request_spelling}
 use Rattle.spec_wire.specs.messages.FileClasses.{file_basic_information_spelling, file_rename_information_spelling}
 use Rattle.spec_wire.specs.messages.FileClasses.{file_disposition_information_spelling, file_allocation_information_spelling}
-use Rattle.spec_wire.specs.messages.FileClasses.{file_end_of_file_information_spelling}
+use Rattle.spec_wire.specs.messages.FileClasses.{file_end_of_file_information_spelling, file_position_information_spelling}
+use Rattle.spec_wire.specs.messages.FileClasses.{file_mode_information_spelling}
 use Rattle.spec_exchange.specs.Commands.{Command, TreeConnect, Create, Close, Flush, Read, Write, Lock, ListDirectory}
 use Rattle.spec_exchange.specs.Commands.{QueryFile, SetInfo, Setting, SetBasic, Rename, SetDelete, SetAllocation}
-use Rattle.spec_exchange.specs.Commands.{SetEnd, CreateRequest, Durable, Reconnect, Element, Basic}
+use Rattle.spec_exchange.specs.Commands.{SetEnd, SetPosition, SetMode, CreateRequest, Durable, Reconnect, Element, Basic}
 use Rattle.spec_commands.specs.Ids.{file_id, guid_id}
 use Rattle.spec_commands.specs.Tables.{bit_if}
 
@@ -86,6 +87,8 @@ class_of (Rename replace path) = 10
 class_of (SetDelete delete_pending) = 13
 class_of (SetAllocation size) = 19
 class_of (SetEnd size) = 20
+class_of (SetPosition position) = 14
+class_of SetMode = 16
 
 abbrev pub basic_value : Basic → FileBasicInformation
 basic_value b = record {
@@ -106,6 +109,8 @@ setting_bytes (Rename replace path) = file_rename_information_spelling (record {
 setting_bytes (SetDelete delete_pending) = file_disposition_information_spelling (record { delete_pending = bit_if delete_pending 1 })
 setting_bytes (SetAllocation size) = file_allocation_information_spelling (record { allocation_size = size })
 setting_bytes (SetEnd size) = file_end_of_file_information_spelling (record { end_of_file = size })
+setting_bytes (SetPosition position) = file_position_information_spelling (record { current_byte_offset = position })
+setting_bytes SetMode = file_mode_information_spelling (record { mode = 0 })
 
 abbrev pub set_value : ℕ → Setting → SetInfoRequestValue
 set_value file setting = record {

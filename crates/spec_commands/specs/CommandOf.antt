@@ -27,14 +27,15 @@ use Rattle.spec_wire.specs.messages.FileClasses.{FileRenameInformationValue, fil
 use Rattle.spec_wire.specs.messages.FileClasses.{file_rename_information_fault, file_disposition_information_in}
 use Rattle.spec_wire.specs.messages.FileClasses.{file_disposition_information_fault, file_allocation_information_in}
 use Rattle.spec_wire.specs.messages.FileClasses.{file_allocation_information_fault, file_end_of_file_information_in}
-use Rattle.spec_wire.specs.messages.FileClasses.{file_end_of_file_information_fault}
+use Rattle.spec_wire.specs.messages.FileClasses.{file_end_of_file_information_fault, file_position_information_in}
+use Rattle.spec_wire.specs.messages.FileClasses.{file_position_information_fault, file_mode_information_fault}
 use Rattle.spec_wire.specs.declared.messages.class.FileBasicInformation.{FileBasicInformation}
 use Rattle.spec_exchange.specs.Status.{success, invalid_parameter, invalid_info_class, object_name_invalid, not_supported}
 use Rattle.spec_exchange.specs.Texts.{leaf_of}
 use Rattle.spec_exchange.specs.Commands.{Command, Unreadable, Aside, Setup, Logoff, TreeConnect, TreeDisconnect, Create}
 use Rattle.spec_exchange.specs.Commands.{Close, Flush, Read, Write, Lock, Ioctl, ListDirectory, QueryFile, QueryVolume}
-use Rattle.spec_exchange.specs.Commands.{SetInfo, SetBasic, Rename, SetDelete, SetAllocation, SetEnd, Shows, Element}
-use Rattle.spec_exchange.specs.Commands.{Basic, Durable, Reconnect, has_bit}
+use Rattle.spec_exchange.specs.Commands.{SetInfo, SetBasic, Rename, SetDelete, SetAllocation, SetEnd, SetPosition, SetMode, Shows}
+use Rattle.spec_exchange.specs.Commands.{Element, Basic, Durable, Reconnect, has_bit}
 use Rattle.spec_exchange.specs.State.{Message}
 use Rattle.spec_commands.specs.Ids.{file_of, guid_of}
 use Rattle.spec_commands.specs.Text.{text_in}
@@ -150,12 +151,12 @@ list_of v None = Unreadable object_name_invalid
 list_of v (Some pattern) = ListDirectory (file_of v.file_id) v.file_information_class (has_bit v.flags 0x1 || has_bit
     v.flags 0x10) (has_bit v.flags 0x2) pattern v.output_buffer_length
 
--- ---- QUERY_INFO (2.2.37): type 1 a file, of which extended attributes (7 and 15) are left out, 2 a volume; security (3) and
--- quotas (4) are left out
+-- ---- QUERY_INFO (2.2.37): type 1 a file, of which extended attributes (15) are left out, 2 a volume; security (3) and quotas
+-- (4) are left out
 
 abbrev pub query_of : QueryInfoRequestValue → Command
 query_of v =
-    if v.info_type == 1 then (if (v.file_info_class == 7) || (v.file_info_class == 15) then Unreadable not_supported
+    if v.info_type == 1 then (if v.file_info_class == 15 then Unreadable not_supported
     else QueryFile (file_of v.file_id) v.file_info_class v.output_buffer_length)
     else if v.info_type == 2 then QueryVolume (file_of v.file_id) v.file_info_class v.output_buffer_length
     else if (v.info_type == 3) || (v.info_type == 4) then Unreadable not_supported
@@ -190,6 +191,9 @@ setting_of file class bytes =
     (file_allocation_information_in bytes).allocation_size))
     else if class == 20 then unless (file_end_of_file_information_fault bytes) (SetInfo file (SetEnd
     (file_end_of_file_information_in bytes).end_of_file))
+    else if class == 14 then unless (file_position_information_fault bytes) (SetInfo file (SetPosition
+    (file_position_information_in bytes).current_byte_offset))
+    else if class == 16 then unless (file_mode_information_fault bytes) (SetInfo file SetMode)
     else Unreadable not_supported
 
 abbrev pub set_of : SetInfoRequestValue → Command

@@ -21,6 +21,8 @@ FitsSetting (asks.SetBasic basic) = Unit {0}
 FitsSetting (asks.SetDelete marked) = Unit {0}
 FitsSetting (asks.SetAllocation size) = Unit {0}
 FitsSetting (asks.SetEnd size) = Unit {0}
+FitsSetting (asks.SetPosition position) = Unit {0}
+FitsSetting asks.SetMode = Unit {0}
 
 -- the parts of a command fit their fields; a LockSequence has the index in its high 28 bits and the number in its low 4
 abbrev pub FitsAsked : asks.Command → Type 0
@@ -61,8 +63,8 @@ FitsSuccess token (asks.Setup request) body = length token < 2 ^ 16
 FitsSuccess token (asks.Read file at size minimum channel) (says.Content bytes) = length bytes < 2 ^ 32
 FitsSuccess token (asks.ListDirectory file class restart single pattern room) (says.Listing told entries) =
     AreListedIn (directory_class told) entries × (length (listing_bytes told entries) < 2 ^ 32)
-FitsSuccess token (asks.QueryFile file class room) (says.FileInfo told path info access options) =
-    length (file_bytes told path info access options) < 2 ^ 32
+FitsSuccess token (asks.QueryFile file class room) (says.FileInfo told path info access options position) =
+    length (file_bytes told path info access options position) < 2 ^ 32
 FitsSuccess token (asks.QueryVolume file class room) (says.VolumeInfo told size used) = length (volume_bytes told size used) < 2 ^ 32
 FitsSuccess token _ _ = Unit {0}
 

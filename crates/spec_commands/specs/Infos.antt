@@ -5,6 +5,7 @@ use Rattle.spec_wire.specs.declared.messages.class.FileBasicInformation.{FileBas
 use Rattle.spec_wire.specs.declared.messages.class.FileStandardInformation.{FileStandardInformation}
 use Rattle.spec_wire.specs.declared.messages.class.FileNetworkOpenInformation.{FileNetworkOpenInformation}
 use Rattle.spec_wire.specs.declared.messages.class.FileFsSizeInformation.{FileFsSizeInformation}
+use Rattle.spec_wire.specs.declared.messages.class.FileFsSectorSizeInformation.{FileFsSectorSizeInformation}
 use Rattle.spec_wire.specs.declared.messages.class.FileFsFullSizeInformation.{FileFsFullSizeInformation}
 use Rattle.spec_wire.specs.declared.messages.class.NetworkInterface.{NetworkInterface}
 use Rattle.spec_wire.specs.declared.messages.directory_class.DirectoryClass.{DirectoryClass}
@@ -16,11 +17,16 @@ use Rattle.spec_wire.specs.messages.FileClasses.{file_all_information_spelling, 
 use Rattle.spec_wire.specs.messages.VolumeClasses.{FileFsVolumeInformationValue, file_fs_volume_information_spelling}
 use Rattle.spec_wire.specs.messages.VolumeClasses.{file_fs_size_information_spelling, file_fs_device_information_spelling}
 use Rattle.spec_wire.specs.messages.VolumeClasses.{FileFsAttributeInformationValue, file_fs_attribute_information_spelling}
-use Rattle.spec_wire.specs.messages.VolumeClasses.{file_fs_full_size_information_spelling}
+use Rattle.spec_wire.specs.messages.FileClasses.{file_ea_information_spelling, file_access_information_spelling}
+use Rattle.spec_wire.specs.messages.FileClasses.{file_name_information_spelling, file_position_information_spelling}
+use Rattle.spec_wire.specs.messages.FileClasses.{file_mode_information_spelling, file_alignment_information_spelling}
+use Rattle.spec_wire.specs.messages.FileClasses.{FileStreamInformationValue, file_stream_information_spelling}
+use Rattle.spec_wire.specs.messages.VolumeClasses.{file_fs_full_size_information_spelling, file_fs_sector_size_information_spelling}
 use Rattle.spec_wire.specs.messages.Directory.{DirectoryEntryValue, listing_spelling}
 use Rattle.spec_wire.specs.messages.Interfaces.{network_interface_spelling}
 use Rattle.spec_exchange.specs.Commands.{has_bit}
 use Rattle.spec_exchange.specs.State.{Info, Named, Address}
+use Rattle.spec_exchange.specs.Listing.{is_short_class}
 use Rattle.spec_commands.specs.Tables.{directory_class, bit_if}
 
 -- ---- a file
@@ -69,8 +75,8 @@ abbrev pub mode_of : ℕ → ℕ
 mode_of options = bit_and options 0x103e
 
 -- the name begins with `\`
-abbrev pub all_of : List ℕ → Info → ℕ → ℕ → FileAllInformationValue
-all_of path i access options =
+abbrev pub all_of : List ℕ → Info → ℕ → ℕ → ℕ → FileAllInformationValue
+all_of path i access options position =
     record {
       creation_time = i.times.created;
       last_access_time = i.times.accessed;
@@ -84,6 +90,7 @@ all_of path i access options =
       directory = bit_if i.is_directory 1;
       index_number = i.file;
       access_flags = access;
+      current_byte_offset = position;
       mode = mode_of options;
       name = utf16 (92 ∷ path);
     }
@@ -100,14 +107,39 @@ network_open_of i = record {
   file_attributes = attributes_of i;
 }
 
--- the classes that can be asked: 4, 5, 6, 34 and 18
-unfoldable pub file_bytes : ℕ → List ℕ → Info → ℕ → ℕ → List ℕ
-file_bytes class path i access options =
+-- a file's bytes are its one stream, `::$DATA`; a directory has none
+abbrev pub stream_of : Info → FileStreamInformationValue
+stream_of i = record {
+  next_entry_offset = 0;
+  stream_size = i.size;
+  stream_allocation_size = allocation i.size;
+  name = utf16 (58 ∷ 58 ∷ 36 ∷ 68 ∷ 65 ∷ 84 ∷ 65 ∷ []);
+}
+
+abbrev pub streams_of : Info → List ℕ
+streams_of i = if i.is_directory then [] else file_stream_information_spelling (stream_of i)
+
+-- Of the classes of four bytes: no file has extended attributes (7), the access (8) is the open's, the mode (16) is told as 0
+-- (this project's), and no alignment is needed (17).
+unfoldable pub short_bytes : ℕ → ℕ → List ℕ
+short_bytes class access =
+    if class == 7 then file_ea_information_spelling (record { ea_size = 0 })
+    else if class == 8 then file_access_information_spelling (record { access_flags = access })
+    else if class == 16 then file_mode_information_spelling (record { mode = 0 })
+    else file_alignment_information_spelling (record { alignment_requirement = 0 })
+
+-- the classes that can be asked: 4, 5, 6, 34, 7, 8, 16, 17, 14, 22, 9 and 18
+unfoldable pub file_bytes : ℕ → List ℕ → Info → ℕ → ℕ → ℕ → List ℕ
+file_bytes class path i access options position =
     if class == 4 then file_basic_information_spelling (basic_of i)
     else if class == 5 then file_standard_information_spelling (standard_of i)
     else if class == 6 then file_internal_information_spelling (record { index_number = i.file })
     else if class == 34 then file_network_open_information_spelling (network_open_of i)
-    else file_all_information_spelling (all_of path i access options)
+    else if is_short_class class then short_bytes class access
+    else if class == 14 then file_position_information_spelling (record { current_byte_offset = position })
+    else if class == 22 then streams_of i
+    else if class == 9 then file_name_information_spelling (record { name = utf16 (92 ∷ path) })
+    else file_all_information_spelling (all_of path i access options position)
 
 -- ---- a volume: its number is 1, it has no label, and its file system is named NTFS
 
@@ -140,13 +172,26 @@ full_sizes_of room used = record {
 abbrev pub file_system : FileFsAttributeInformationValue
 file_system = record { file_system_attributes = 6; maximum_component_name_length = 1024; name = utf16 (78 ∷ 84 ∷ 70 ∷ 83 ∷ []) }
 
--- the classes that can be asked: 1, 3, 4, 5 and 7; the device is a disk, 7, and mounted, 0x20
+-- a sector has 512 bytes and the disk's own 4,096, at which the device (1) and the partition (2) are aligned
+abbrev pub sectors : FileFsSectorSizeInformation
+sectors = record {
+  logical_bytes_per_sector = 512;
+  physical_bytes_per_sector_for_atomicity = 4096;
+  physical_bytes_per_sector_for_performance = 4096;
+  file_system_effective_physical_bytes_per_sector_for_atomicity = 4096;
+  flags = 3;
+  byte_offset_for_sector_alignment = 0;
+  byte_offset_for_partition_alignment = 0;
+}
+
+-- the classes that can be asked: 1, 3, 4, 5, 11 and 7; the device is a disk, 7, and mounted, 0x20
 unfoldable pub volume_bytes : ℕ → ℕ → ℕ → List ℕ
 volume_bytes class room used =
     if class == 1 then file_fs_volume_information_spelling volume_value
     else if class == 3 then file_fs_size_information_spelling (sizes_of room used)
     else if class == 4 then file_fs_device_information_spelling (record { device_type = 7; characteristics = 0x20 })
     else if class == 5 then file_fs_attribute_information_spelling file_system
+    else if class == 11 then file_fs_sector_size_information_spelling sectors
     else file_fs_full_size_information_spelling (full_sizes_of room used)
 
 -- ---- the entries of a listing; what a class doesn't tell is 0

@@ -152,8 +152,8 @@ success_body token (Ioctl file code room) (Interfaces address) = ioctl_response_
 success_body token (Aside status) body = bare_spelling
 success_body token (ListDirectory file class restart single pattern room) (Listing told entries) =
     query_directory_response_spelling (record { output = listing_bytes told entries })
-success_body token (QueryFile file class room) (FileInfo told path info access options) = query_info_response_spelling
-    (record { output = file_bytes told path info access options })
+success_body token (QueryFile file class room) (FileInfo told path info access options position) = query_info_response_spelling
+    (record { output = file_bytes told path info access options position })
 success_body token (QueryVolume file class room) (VolumeInfo told size used) = query_info_response_spelling (record {
   output = volume_bytes told size used;
 })

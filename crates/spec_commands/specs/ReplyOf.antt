@@ -78,7 +78,7 @@ listing_in class bytes = listing_by (directory_class class) class bytes
 
 abbrev pub standard_in : List ℕ → Option Body
 standard_in bytes = unless (file_standard_information_fault bytes) (Some (FileInfo 5 [] (of_length
-    (file_standard_information_in bytes).end_of_file) 0 0))
+    (file_standard_information_in bytes).end_of_file) 0 0 0))
 
 unfoldable pub file_in : ℕ → List ℕ → Option Body
 file_in class bytes = if class == 5 then standard_in bytes else None

@@ -10,7 +10,7 @@ use Rattle.spec_exchange.specs.Texts.{same_name}
 use Rattle.spec_exchange.specs.Commands.{CreateRequest, Durable, Reconnect, has_bit, asks_directory, asks_file}
 use Rattle.spec_exchange.specs.Commands.{deletes_on_close}
 use Rattle.spec_exchange.specs.State.{Server, Message}
-use Rattle.spec_exchange.specs.Files.{root, find, has_parent, is_directory, is_read_only}
+use Rattle.spec_exchange.specs.Files.{root, find, has_parent, is_directory, is_read_only, has_pending_parent}
 use Rattle.spec_exchange.specs.Opens.{mapped, granted, writes, deletes, opens_of, admits, max_ids}
 use Rattle.spec_exchange.specs.Verdict.{Verdict, Refuse, KeepRefusal, Repeat, Attach, Make}
 
@@ -89,7 +89,10 @@ names_of_found s r None = first_refusal (missing_names r) (missing_attributes r)
 names_of_found s r (Some f) = first_refusal (found_names s r f) (found_attributes s r f)
 
 unfoldable pub names : Server → CreateRequest → Option ℕ → Option ℕ
-names s r found = if is_some found || has_parent s r.path then names_of_found s r found else Some object_path_not_found
+names s r found =
+    if not (is_some found || has_parent s r.path) then Some object_path_not_found
+    else if has_pending_parent s r.path then Some delete_pending
+    else names_of_found s r found
 
 -- ---- sharing: a create that empties a file asks for write access too
 

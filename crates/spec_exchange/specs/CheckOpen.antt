@@ -4,22 +4,19 @@ use Rattle.std.specs.Prelude.{if◌then◌else◌, List, [], ◌∷◌, length, 
 use Rattle.spec_exchange.specs.Status.{success, file_not_available, access_denied, invalid_device_request}
 use Rattle.spec_exchange.specs.Status.{invalid_parameter, info_length_mismatch, end_of_file, file_lock_conflict}
 use Rattle.spec_exchange.specs.Status.{disk_full, no_such_file, no_more_files, directory_not_empty}
-use Rattle.spec_exchange.specs.Status.{object_path_not_found, object_name_collision, fs_driver_required}
-use Rattle.spec_exchange.specs.Status.{cannot_delete}
+use Rattle.spec_exchange.specs.Status.{object_path_not_found, object_name_collision, fs_driver_required, cannot_delete, delete_pending, object_name_not_found}
 use Rattle.spec_exchange.specs.Texts.{is_below}
 use Rattle.spec_exchange.specs.Content.{written, ended, same_bytes, is_empty}
-use Rattle.spec_exchange.specs.Commands.{Basic, has_bit, Setting, SetBasic, Rename, SetDelete, SetAllocation, SetEnd, Element}
+use Rattle.spec_exchange.specs.Commands.{Basic, has_bit, Setting, SetBasic, Rename, SetDelete, SetAllocation, SetEnd, Element, SetPosition, SetMode}
 use Rattle.spec_exchange.specs.State.{Server, Message, Kept, Entry, Empty, Content, Count, Closed, Listing, FileInfo}
 use Rattle.spec_exchange.specs.State.{VolumeInfo, Interfaces, Named}
-use Rattle.spec_exchange.specs.Files.{root, find, path_of, has_parent, is_directory, is_full_directory, info_of, used}
-use Rattle.spec_exchange.specs.Files.{passes_room, allocated, set_basic, same_basic, is_read_only, may_set_attributes}
-use Rattle.spec_exchange.specs.Files.{may_set_times}
+use Rattle.spec_exchange.specs.Files.{root, find, path_of, has_parent, is_directory, is_full_directory, info_of, used, passes_room, allocated, set_basic, same_basic, is_read_only, may_set_attributes, may_set_times, has_pending_parent}
 use Rattle.spec_exchange.specs.Ranges.{RangeAnswer, Stands, Denied, change_ranges, may_read, may_write}
 use Rattle.spec_exchange.specs.Opens.{file_has_open}
 use Rattle.spec_exchange.specs.Listing.{all_named, wanted, fitting, one_or_all, last_name, file_info_size, volume_info_size}
 use Rattle.spec_exchange.specs.Verdict.{Verdict, Refuse, Give, TurnDown, Tell, Show, KeepSlot, PutRanges, Alter}
 use Rattle.spec_exchange.specs.Verdict.{CloseOpen, Change, PutBytes, PutEnd, PutBasic, PutDeletePending, PutPath}
-use Rattle.spec_exchange.specs.Verdict.{PutNothing}
+use Rattle.spec_exchange.specs.Verdict.{PutNothing, Behind, At}
 
 -- ---- the channel sequence (3.3.5.2.10): older by the difference modulo 65,536
 
@@ -134,6 +131,7 @@ rename_names s f replace path =
     if f == root then Some access_denied
     else if is_directory s f && is_below (path_of s f) path then Some invalid_parameter
     else if not (has_parent s path) then Some object_path_not_found
+    else if has_pending_parent s path then Some delete_pending
     else if is_some (find s path) && not replace then Some object_name_collision
     else if target_refused s (target_of f (find s path)) then Some access_denied
     else if is_directory s f && open_below s s.entries (path_of s f) then Some access_denied
@@ -186,6 +184,9 @@ setting_check s m o (SetDelete flag) = if has_access s o 0x1_0000 then unless_re
 setting_check s m o (SetAllocation size) = size_change s m o (allocated size (length (s.content (file_of s o))))
     (allocation_change s (file_of s o) size)
 setting_check s m o (SetEnd size) = size_change s m o size (PutEnd size)
+-- these two need no access (MS-FSA 2.1.5.15.8, 2.1.5.15.10); an open's mode never changes (this project's)
+setting_check s m o (SetPosition position) = Show o (At position) Empty
+setting_check s m o SetMode = Tell o Empty
 
 abbrev pub set_check : Server → Message → ℕ → Setting → Verdict
 set_check s m o setting = if is_late s m o then Refuse file_not_available else setting_check s m o setting
@@ -201,11 +202,15 @@ close_check s o query = CloseOpen o (if query then Closed (info_of s (file_of s 
 abbrev pub needs_attributes : ℕ → Bool
 needs_attributes class = (class == 4) || ((class == 18) || (class == 34))
 
+-- no file has a short name, which class 21 asks for, whatever room there is
 abbrev pub file_query_check : Server → ℕ → ℕ → ℕ → Verdict
 file_query_check s o class room =
     if needs_attributes class && not (has_access s o 0x80) then TurnDown o access_denied
-    else if nat_lt room (file_info_size class (path_of s (file_of s o))) then TurnDown o info_length_mismatch
-    else Tell o (FileInfo class (path_of s (file_of s o)) (info_of s (file_of s o)) (s.opened o).access (s.opened o).options)
+    else if class == 21 then TurnDown o object_name_not_found
+    else if nat_lt room (file_info_size class (is_directory s (file_of s o)) (path_of s (file_of s o)))
+    then TurnDown o info_length_mismatch
+    else Tell o (FileInfo class (path_of s (file_of s o)) (info_of s (file_of s o)) (s.opened o).access (s.opened o).options
+    (s.current_byte_offset o))
 
 abbrev pub volume_query_check : Server → ℕ → ℕ → ℕ → Verdict
 volume_query_check s o class room = if nat_lt room (volume_info_size class) then TurnDown o info_length_mismatch else
@@ -223,7 +228,7 @@ none_wanted (Some last) = no_more_files
 unfoldable pub listing_of : ℕ → ℕ → Option (List ℕ) → List Named → List Named → Verdict
 listing_of o class last [] fit = TurnDown o (none_wanted last)
 listing_of o class last (n ∷ ns) [] = TurnDown o info_length_mismatch
-listing_of o class last (n ∷ ns) (k ∷ ks) = Show o (last_name last (k ∷ ks)) (Listing class (k ∷ ks))
+listing_of o class last (n ∷ ns) (k ∷ ks) = Show o (Behind (last_name last (k ∷ ks))) (Listing class (k ∷ ks))
 
 abbrev pub list_from : Server → ℕ → ℕ → Bool → List ℕ → ℕ → Option (List ℕ) → Verdict
 list_from s o class single pattern room last =

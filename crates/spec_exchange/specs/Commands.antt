@@ -83,7 +83,7 @@ abbrev pub all_unlock : List Element → Bool
 all_unlock [] = true
 all_unlock (e ∷ es) = (e.flags == 0x4) && all_unlock es
 
--- ---- SET_INFO (2.2.39) of the file classes 4, 10, 13, 19 and 20
+-- ---- SET_INFO (2.2.39) of the file classes 4, 10, 13, 14, 16, 19 and 20
 
 -- times in 100 nanoseconds since 1601 (MS-FSCC 2.4.7)
 abbrev pub Basic : Type 0
@@ -95,6 +95,8 @@ pub data Setting : Type 0 where
   SetDelete : (delete_pending : Bool) → Setting
   SetAllocation : (size : ℕ) → Setting
   SetEnd : (size : ℕ) → Setting
+  SetPosition : (position : ℕ) → Setting
+  SetMode : Setting  -- whichever bits it names
 
 -- ---- one request
 
@@ -163,8 +165,10 @@ abbrev pub list_form : List ℕ → ℕ → Option ℕ
 list_form pattern room = if nat_lt 1048576 room then Some invalid_parameter
     else if is_short_pattern pattern then None else Some object_name_invalid
 
+-- a position is a number of 64 bits with a sign, and none is below 0 (MS-FSA 2.1.5.15.10)
 abbrev pub setting_form : Setting → Option ℕ
 setting_form (Rename replace path) = path_form path
+setting_form (SetPosition position) = if nat_lt position 0x8000_0000_0000_0000 then None else Some invalid_parameter
 setting_form _ = None
 
 abbrev pub form : Command → Option ℕ

@@ -18,7 +18,7 @@ use Rattle.spec_exchange.specs.Records.{origin_of}
 use Rattle.spec_exchange.specs.Verdict.{Verdict, Refuse, Give, KeepRefusal, Repeat, Attach, Make, TurnDown, Tell, Show}
 use Rattle.spec_exchange.specs.Verdict.{KeepSlot, PutRanges, Alter, CloseOpen, Challenge, ChallengeBinding, Begin, Join}
 use Rattle.spec_exchange.specs.Verdict.{EndSession, AddTree, DropTree, Change, PutBytes, PutEnd, PutBasic}
-use Rattle.spec_exchange.specs.Verdict.{PutDeletePending, PutPath, PutNothing}
+use Rattle.spec_exchange.specs.Verdict.{PutDeletePending, PutPath, PutNothing, Place, Behind, At}
 
 -- ---- answers
 
@@ -232,6 +232,16 @@ change_acts s f now (PutDeletePending flag) = if s.delete_pending f then not fla
 change_acts s f now (PutPath replaced path) = is_some replaced || not (same_bytes path (path_of s f))
 change_acts s f now PutNothing = false
 
+-- ---- where an open stands
+
+abbrev pub listed_at : (ℕ → Option (List ℕ)) → ℕ → Place → ℕ → Option (List ℕ)
+listed_at location o (Behind last) = put location o last
+listed_at location o (At position) = location
+
+abbrev pub positioned_at : (ℕ → ℕ) → ℕ → Place → ℕ → ℕ
+positioned_at offset o (Behind last) = offset
+positioned_at offset o (At position) = put offset o position
+
 -- ---- close
 
 abbrev pub keep_closed : Server → ℕ → Option ℕ → Server
@@ -408,8 +418,9 @@ apply s m now (Attach o r) = answer_with (attached s m o) m success (create_repl
 apply s m now (Make r found action) = made s m r found action now
 apply s m now (TurnDown o status) = quiet_on s m o status Empty
 apply s m now (Tell o body) = quiet_on s m o success body
-apply s m now (Show o last body) = answer_with (record (reach s m o) {
-  enumeration_location = put s.enumeration_location o last;
+apply s m now (Show o place body) = answer_with (record (reach s m o) {
+  enumeration_location = listed_at s.enumeration_location o place;
+  current_byte_offset = positioned_at s.current_byte_offset o place;
 }) m success body [] false (reaches s m o)
 apply s m now (KeepSlot o index number status elements) =
     answer_with (keep_slot (reach s m o) o index number status) m status Empty

@@ -46,6 +46,14 @@ is_found_directory s (Some f) = is_directory s f
 unfoldable pub has_parent : Server → List ℕ → Bool
 has_parent s path = is_found_directory s (find s (parent_of path))
 
+unfoldable pub is_found_pending : Server → Option ℕ → Bool
+is_found_pending s None = false
+is_found_pending s (Some f) = s.delete_pending f
+
+-- the directory in which the path would stand is delete pending
+unfoldable pub has_pending_parent : Server → List ℕ → Bool
+has_pending_parent s path = is_found_pending s (find s (parent_of path))
+
 unfoldable pub has_below : List Entry → List ℕ → Bool
 has_below [] path = false
 has_below (e ∷ es) path = if is_below path e.path then true else has_below es path

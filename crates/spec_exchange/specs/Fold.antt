@@ -9,6 +9,7 @@ use Rattle.spec_exchange.specs.Commands.{Basic, Element, all_lock, all_unlock}
 use Rattle.spec_exchange.specs.State.{Server, Address, Entry, Open, Range, Record, NewOpen, EpochRecord, CreateRecord}
 use Rattle.spec_exchange.specs.State.{WriteRecord, EndRecord, BasicRecord, DeleteRecord, RenameRecord, RemoveRecord}
 use Rattle.spec_exchange.specs.State.{LockRecord, CloseRecord, VersionRecord, ExpireRecord}
+use Rattle.spec_exchange.specs.Records.{lower_limit}
 use Rattle.spec_exchange.specs.Files.{root, find, path_of, exists, is_directory, has_parent, is_full_directory}
 use Rattle.spec_exchange.specs.Files.{passes_room, make_file, set_content, empty_file, set_delete_pending, store_basic}
 use Rattle.spec_exchange.specs.Files.{remove_file, rename_file}
@@ -17,7 +18,7 @@ use Rattle.spec_exchange.specs.Opens.{max_ids, add_open, drop_open, pending_behi
 use Rattle.spec_exchange.specs.CheckCreate.{max_opens, max_files, last_file}
 use Rattle.spec_exchange.specs.CheckOpen.{target_of, file_of}
 use Rattle.spec_exchange.specs.Effects.{keep_slot, set_ranges}
-use Rattle.spec_exchange.specs.Records.{entry_bytes}
+use Rattle.spec_exchange.specs.Records.{origin_at, entry_bytes}
 use Rattle.spec_exchange.specs.Step.{add_expired_guid, max_expired_guids}
 
 abbrev pub no_times : Basic
@@ -41,7 +42,7 @@ no_open = record {
 }
 
 abbrev pub full_room : ℕ
-full_room = 268435456
+full_room = 1125899906842624
 
 -- the state of no records
 abbrev pub nothing_yet : Server
@@ -54,12 +55,14 @@ nothing_yet =
       version = 1;
       epoch = 0;
       journal = 0;
+      limit = lower_limit;
       entries = [];
       next_file = 1;
       directory = λ f. false;
       delete_pending = λ f. false;
       basic = λ f. no_times;
       content = λ f. [];
+      stored = λ f. [];
       ranges = λ f. [];
       opens = [];
       standing = λ o. false;
@@ -70,6 +73,7 @@ nothing_yet =
       sequence = λ o. 0;
       deadline = λ o. None;
       enumeration_location = λ o. None;
+      current_byte_offset = λ o. 0;
       lock_sequences = λ o i. None;
       by_guid = λ c g. None;
       expired_guids = λ c g. false;
@@ -231,8 +235,24 @@ pub record Configuration : Type 0 where
   pub address : Address
 
 -- an Epoch record is written, and in a journal of version 1 the Version record too, in the same body
+abbrev pub epoch_records : Server → List Record
+epoch_records d = if d.version == 1 then VersionRecord 2 ∷ EpochRecord (d.epoch + 1) ∷ [] else EpochRecord (d.epoch + 1) ∷ []
+
+-- what a new epoch leaves delete pending though it has no open: a directory in which something stood at its turn
+unfoldable pub is_left_pending : Server → ℕ → Bool
+is_left_pending s f = s.delete_pending f && not (file_has_open s f)
+
+-- such a directory can't go, so that it loses its mark; else no CREATE could open it any more
+unfoldable pub mark_records : Server → ℕ → List Record
+mark_records s f = if is_left_pending s f then DeleteRecord (origin_at 0) f false ∷ [] else []
+
+unfoldable pub unmark_records : Server → List Entry → List Record
+unmark_records s [] = []
+unmark_records s (e ∷ es) = mark_records s e.file ++ unmark_records s es
+
+-- what a start writes, in one body: the epoch, and behind it the marks that it clears
 abbrev pub opening_records : Server → List Record
-opening_records d = if d.version == 1 then VersionRecord 2 ∷ EpochRecord (d.epoch + 1) ∷ [] else EpochRecord (d.epoch + 1) ∷ []
+opening_records d = epoch_records d ++ unmark_records (fold_from d (epoch_records d)) (fold_from d (epoch_records d)).entries
 
 -- what a recovery adds to the records of its disk
 abbrev pub recovery_records : List Record → List Record

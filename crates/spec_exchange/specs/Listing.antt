@@ -108,10 +108,26 @@ last_name last (n ∷ ns) = last_name (Some n.name) ns
 
 -- ---- QUERY_INFO: the bytes of an answer by its class (MS-FSCC 2.4 and 2.5)
 
-unfoldable pub file_info_size : ℕ → List ℕ → ℕ
-file_info_size class path = if class == 4 then 40 else if class == 5 then 24 else if class == 6 then 8 else if class ==
-    34 then 56 else 100 + 2 * (utf16_length path + 1)
+-- the answers of four bytes: of extended attributes, access, mode and alignment
+unfoldable pub is_short_class : ℕ → Bool
+is_short_class class = (class == 7) || ((class == 8) || ((class == 16) || (class == 17)))
+
+-- the name `::$DATA` of a file's one stream has 14 bytes behind 24; a directory has no stream
+unfoldable pub streams_size : Bool → ℕ
+streams_size directory = if directory then 0 else 38
+
+unfoldable pub file_info_size : ℕ → Bool → List ℕ → ℕ
+file_info_size class directory path =
+    if class == 4 then 40
+    else if class == 5 then 24
+    else if class == 6 then 8
+    else if class == 34 then 56
+    else if is_short_class class then 4
+    else if class == 14 then 8
+    else if class == 22 then streams_size directory
+    else (if class == 9 then 4 else 100) + 2 * (utf16_length path + 1)
 
 -- the volume has no label, and its file system is named NTFS
 unfoldable pub volume_info_size : ℕ → ℕ
-volume_info_size class = if class == 1 then 18 else if class == 3 then 24 else if class == 4 then 8 else if class == 5 then 20 else 32
+volume_info_size class = if class == 1 then 18 else if class == 3 then 24 else if class == 4 then 8 else if class == 5 then 20
+    else if class == 11 then 28 else 32

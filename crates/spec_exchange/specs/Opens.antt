@@ -88,7 +88,7 @@ abbrev pub with_guid : (ℕ → ℕ → Option ℕ) → ℕ → Option ℕ → O
 with_guid by client None o = by
 with_guid by client (Some g) o = put2 by client g o
 
--- a new open stands, with the sequence of its create and no slot, listing or range
+-- a new open stands, with the sequence of its create, at position 0, and no slot, listing or range
 abbrev pub add_open : Server → ℕ → Open → Option ℕ → ℕ → Server
 add_open s o row session sequence =
     record s {
@@ -99,6 +99,7 @@ add_open s o row session sequence =
       sequence = put s.sequence o sequence;
       deadline = put s.deadline o None;
       enumeration_location = put s.enumeration_location o None;
+      current_byte_offset = put s.current_byte_offset o 0;
       lock_sequences = put s.lock_sequences o (λ i. None);
       by_guid = with_guid s.by_guid row.client_guid row.create_guid (Some o);
     }
@@ -124,13 +125,21 @@ goes s f = s.delete_pending f && (not (f == root) && (exists s f && (not (file_h
 abbrev pub without_gone : Server → ℕ → Server
 without_gone s f = if goes s f then remove_file s f else s
 
+-- the same of a directory in which something stands: it can't go
+unfoldable pub is_kept_back : Server → ℕ → Bool
+is_kept_back s f = s.delete_pending f && (not (f == root) && (exists s f && (not (file_has_open s f) && is_full_directory s f)))
+
+-- where an open left, its file goes if it is delete pending; if it can't go, it is delete pending no longer
+abbrev pub left_file : Server → ℕ → Server
+left_file s f = if is_kept_back s f then set_delete_pending s f false else without_gone s f
+
 -- an open that deletes on close makes its file delete pending where it leaves
 abbrev pub pending_behind : Server → ℕ → Server
 pending_behind s o = if deletes_on_close (s.opened o).options then set_delete_pending s (s.opened o).file true else s
 
--- the open leaves, and its file with it where it goes
+-- the open leaves, and its file with it where it goes; a directory that can't go loses its mark
 abbrev pub leave_open : Server → ℕ → Server
-leave_open s o = without_gone (drop_open (pending_behind s o) o) (s.opened o).file
+leave_open s o = left_file (drop_open (pending_behind s o) o) (s.opened o).file
 
 -- its records: that it left, where it is persistent, and what a fold couldn't tell without it
 unfoldable pub pending_records : Server → Origin → ℕ → List Record
@@ -143,6 +152,10 @@ shut_records s origin o = if (s.opened o).persistent then CloseRecord origin o �
 unfoldable pub gone_records : Server → Origin → ℕ → List Record
 gone_records s origin f = if goes s f then RemoveRecord origin f ∷ [] else []
 
+-- of its file, behind it: that it went, or that it is delete pending no longer
+unfoldable pub left_file_records : Server → Origin → ℕ → List Record
+left_file_records s origin f = if is_kept_back s f then DeleteRecord origin f false ∷ [] else gone_records s origin f
+
 unfoldable pub leave_records : Server → Origin → ℕ → List Record
 leave_records s origin o = pending_records s origin o
-    ++ (shut_records s origin o ++ gone_records (drop_open (pending_behind s o) o) origin (s.opened o).file)
+    ++ (shut_records s origin o ++ left_file_records (drop_open (pending_behind s o) o) origin (s.opened o).file)

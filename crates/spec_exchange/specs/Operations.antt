@@ -289,7 +289,7 @@ content_in (Content bytes) = Some (IsContent bytes)
 content_in _ = None
 
 abbrev pub length_in : Body → Option OpReply
-length_in (FileInfo class path info access options) = Some (Length info.size)
+length_in (FileInfo class path info access options position) = Some (Length info.size)
 length_in _ = None
 
 abbrev pub listing_in : Body → Option OpReply

@@ -45,11 +45,11 @@ unfoldable pub entry_bytes : List Record → ℕ
 entry_bytes [] = 0
 entry_bytes (r ∷ rs) = 5 + records_size (r ∷ rs)
 
--- the lower limit, for all but epochs
+-- the lower limit, for all but what a start writes
 abbrev pub lower_limit : ℕ
 lower_limit = 1073741824 - 134217728
 
 -- an event without a record always fits
 unfoldable pub fits : Server → List Record → Bool
 fits s [] = true
-fits s (r ∷ rs) = nat_le (s.journal + entry_bytes (r ∷ rs)) lower_limit
+fits s (r ∷ rs) = nat_le (s.journal + entry_bytes (r ∷ rs)) s.limit

@@ -68,6 +68,7 @@ pub record Server : Type 0 where
   pub version : ℕ
   pub epoch : ℕ
   pub journal : ℕ  -- bytes on the disk
+  pub limit : ℕ  -- how many of them the records of events may fill: the lower limit, or less where the disk is full
   -- files, by number
   pub entries : List Entry  -- in ascending order of numbers, without the root
   pub next_file : ℕ
@@ -75,6 +76,7 @@ pub record Server : Type 0 where
   pub delete_pending : ℕ → Bool  -- it goes with its last open
   pub basic : ℕ → Basic
   pub content : ℕ → List ℕ
+  pub stored : ℕ → List ℕ  -- what the files beside the journal hold; no step looks at it
   pub ranges : ℕ → List Range
   -- opens, by id (3.3.1.10)
   pub opens : List ℕ  -- those that stand in GlobalOpenTable, in ascending order
@@ -86,6 +88,7 @@ pub record Server : Type 0 where
   pub sequence : ℕ → ℕ  -- Open.ChannelSequence
   pub deadline : ℕ → Option ℕ  -- the moment at which Open.DurableOpenScavengerTimeout has passed
   pub enumeration_location : ℕ → Option (List ℕ)  -- Open.EnumerationLocation: the last name that its listing gave
+  pub current_byte_offset : ℕ → ℕ  -- Open.CurrentByteOffset: the position that was set last, which no read or write moves
   pub lock_sequences : ℕ → ℕ → Option Kept  -- Open.LockSequenceArray, by LockSequenceIndex 1 to 64
   pub by_guid : ℕ → ℕ → Option ℕ  -- by ClientGuid and CreateGuid: the open that stands
   pub expired_guids : ℕ → ℕ → Bool  -- by the same: an open of them expired
@@ -159,8 +162,8 @@ pub data Body : Type 0 where
   Count : (count : ℕ) → Body
   Interfaces : (address : Address) → Body
   Listing : (class : ℕ) (entries : List Named) → Body
-  -- access and options are the open's, which class 18 tells (MS-FSCC 2.4.2)
-  FileInfo : (class : ℕ) (path : List ℕ) (info : Info) (access options : ℕ) → Body
+  -- access, options and position are the open's, which the classes 8, 14 and 18 tell (MS-FSCC 2.4.1, 2.4.35, 2.4.2)
+  FileInfo : (class : ℕ) (path : List ℕ) (info : Info) (access options position : ℕ) → Body
   VolumeInfo : (class room used : ℕ) → Body  -- the sizes that it tells are those of the room and of what is used
   -- a SESSION_SETUP's success tells ENCRYPT_DATA where the session seals; the number drawn for its channel isn't on the wire
   SetUp : (sealed : Bool) (channel : ℕ) → Body

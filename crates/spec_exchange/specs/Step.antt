@@ -6,7 +6,7 @@ use Rattle.spec_exchange.specs.Table.{put, put2, without}
 use Rattle.spec_exchange.specs.Status.{success, insufficient_resources, disk_full}
 use Rattle.spec_exchange.specs.State.{Server, Message, ServerEvent, Accept, Heard, End, Stop, Open, Empty, Record}
 use Rattle.spec_exchange.specs.State.{Origin, ExpireRecord, Answer}
-use Rattle.spec_exchange.specs.Opens.{drop_open, leave_open, pending_behind, gone_records}
+use Rattle.spec_exchange.specs.Opens.{drop_open, leave_open, pending_behind, left_file_records}
 use Rattle.spec_exchange.specs.CheckCreate.{refused_create}
 use Rattle.spec_exchange.specs.CheckSetup.{count_channels}
 use Rattle.spec_exchange.specs.Check.{check}
@@ -48,7 +48,7 @@ without_room (Attach o r) = Attach o r
 without_room (Make r found action) = refused_create r disk_full
 without_room (TurnDown o status) = TurnDown o status
 without_room (Tell o body) = Tell o body
-without_room (Show o last body) = Show o last body
+without_room (Show o place body) = Show o place body
 without_room (KeepSlot o index number status elements) = TurnDown o disk_full
 without_room (PutRanges o index number ranges elements) = TurnDown o disk_full
 without_room (Alter o change body) = TurnDown o disk_full
@@ -164,7 +164,7 @@ abbrev pub expire : Server → ℕ → Server
 expire s o = add_expired_guid (leave_open s o) (s.opened o).client_guid (s.opened o).create_guid
 
 unfoldable pub expire_records : Server → Origin → ℕ → List Record
-expire_records s origin o = ExpireRecord origin o ∷ gone_records (drop_open (pending_behind s o) o) origin (s.opened o).file
+expire_records s origin o = ExpireRecord origin o ∷ left_file_records (drop_open (pending_behind s o) o) origin (s.opened o).file
 
 abbrev pub connection_of : ServerEvent → ℕ
 connection_of (Accept k) = k

@@ -12,6 +12,11 @@ pub data Change : Type 0 where
   PutPath : (replaced : Option ℕ) (path : List ℕ) → Change
   PutNothing : Change  -- no bytes, or an allocation that cuts nothing
 
+-- where an open stands: its listing behind a name, or its position
+pub data Place : Type 0 where
+  Behind : (last : Option (List ℕ)) → Place
+  At : (position : ℕ) → Place
+
 pub data Verdict : Type 0 where
   -- nothing changes
   Refuse : (status : ℕ) → Verdict
@@ -24,7 +29,7 @@ pub data Verdict : Type 0 where
   -- a request that reached its open o, and so offers its sequence there
   TurnDown : (o status : ℕ) → Verdict  -- it fails
   Tell : (o : ℕ) (body : Body) → Verdict  -- SUCCESS, and nothing else changes
-  Show : (o : ℕ) (last : Option (List ℕ)) (body : Body) → Verdict  -- a listing that goes on behind this name
+  Show : (o : ℕ) (place : Place) (body : Body) → Verdict  -- SUCCESS, and the open stands at this place from now on
   KeepSlot : (o index number status : ℕ) (elements : List Element) → Verdict  -- a LOCK fails, and its slot keeps the status
   -- a LOCK succeeds: these are the file's ranges
   PutRanges : (o index number : ℕ) (ranges : List Range) (elements : List Element) → Verdict

@@ -10,10 +10,12 @@ pub mod messages;
 
 pub use messages::{
     ChainError, CloseRequest, CloseResponse, CreateContexts, CtxError, Dh2c, Dh2q, Dh2qReply,
-    DirectoryClass, DiskId, EchoRequest, EchoResponse, ErrorResponse, FileAllocationInformation,
-    FileBasicInformation, FileDispositionInformation, FileEndOfFileInformation,
-    FileFsDeviceInformation, FileFsFullSizeInformation, FileFsSizeInformation,
-    FileInternalInformation, FileNetworkOpenInformation, FileStandardInformation, FlushRequest,
+    DirectoryClass, DiskId, EchoRequest, EchoResponse, ErrorResponse, FileAccessInformation,
+    FileAlignmentInformation, FileAllocationInformation, FileBasicInformation,
+    FileDispositionInformation, FileEaInformation, FileEndOfFileInformation,
+    FileFsDeviceInformation, FileFsFullSizeInformation, FileFsSectorSizeInformation,
+    FileFsSizeInformation, FileInternalInformation, FileModeInformation,
+    FileNetworkOpenInformation, FilePositionInformation, FileStandardInformation, FlushRequest,
     FlushResponse, FrameError, Header, HeaderError, LockElement, LockResponse, LogoffRequest,
     LogoffResponse, MaximalAccess, MessageError, NetworkInterface, Part, ReadRequest,
     ReplyContexts, SetInfoResponse, Span, TextError, TreeConnectResponse, TreeDisconnectRequest,

@@ -14,10 +14,11 @@ mod session_message;
 
 pub use chain_error::ChainError;
 pub use class::{
-    FileAllocationInformation, FileBasicInformation, FileDispositionInformation,
-    FileEndOfFileInformation, FileFsDeviceInformation, FileFsFullSizeInformation,
-    FileFsSizeInformation, FileInternalInformation, FileNetworkOpenInformation,
-    FileStandardInformation, NetworkInterface,
+    FileAccessInformation, FileAlignmentInformation, FileAllocationInformation,
+    FileBasicInformation, FileDispositionInformation, FileEaInformation, FileEndOfFileInformation,
+    FileFsDeviceInformation, FileFsFullSizeInformation, FileFsSectorSizeInformation,
+    FileFsSizeInformation, FileInternalInformation, FileModeInformation,
+    FileNetworkOpenInformation, FilePositionInformation, FileStandardInformation, NetworkInterface,
 };
 pub use context::{CreateContexts, Dh2c, Dh2q, Dh2qReply, DiskId, MaximalAccess, ReplyContexts};
 pub use directory_class::DirectoryClass;

@@ -12,11 +12,11 @@ use Rattle.spec_exchange.specs.Files.{find_in, find, path_in, path_of, exists_in
 use Rattle.spec_exchange.specs.Files.{is_found_directory, has_parent, has_below, is_full_directory, info_of, sizes}
 use Rattle.spec_exchange.specs.Files.{used, passes_room, times_at, touched, emptied_basic, without_file, allocated}
 use Rattle.spec_exchange.specs.Files.{is_read_only, file_attributes, directory_attributes}
-use Rattle.spec_exchange.specs.Listing.{file_info_size}
+use Rattle.spec_exchange.specs.Listing.{file_info_size, is_short_class, streams_size}
 use Rattle.spec_exchange.specs.Opens.{bits_if, mapped, reads, writes, deletes, is_shared, denies_writers, opens_in}
 use Rattle.spec_exchange.specs.Opens.{admits, file_has_open, goes, pending_records, shut_records, gone_records}
-use Rattle.spec_exchange.specs.Opens.{leave_records}
-use Rattle.spec_exchange.specs.Opens.{mapped_read_only, granted}
+use Rattle.spec_exchange.specs.Opens.{leave_records, mapped_read_only, granted, is_kept_back, left_file_records}
+use Rattle.spec_exchange.specs.Files.{is_found_pending, has_pending_parent}
 use Rattle.spec_exchange.specs.Ranges.{without_owner}
 use Rattle.spec_exchange.specs.Records.{text_size, opened_size, record_size, records_size, entry_bytes, fits}
 use Rattle.spec_exchange.specs.Step.{due_in}
@@ -37,9 +37,10 @@ use Rattle.examples_world.specs.connections.Parts.{some_keys}
 
 pub closed_are :
     (statuses_of (on_a_tree made_and_closed).replies ≡ 0 ∷ 0xc000_0003 ∷ 0 ∷ []) × ((on_a_tree made_and_closed).server.opens ≡ [])
-unfolding computed found_names missing_names found_attributes missing_attributes names_of_found names is_counted_out has_bit deletes_on_close path_form same_bytes timeout_of
+unfolding computed is_kept_back left_file_records is_found_pending has_pending_parent found_names missing_names found_attributes
+    missing_attributes names_of_found names is_counted_out has_bit deletes_on_close path_form same_bytes timeout_of
     new_open create_records find_in find path_in path_of exists_in exists is_directory is_found_directory has_parent has_below
-    is_full_directory info_of sizes used passes_room times_at touched emptied_basic without_file allocated is_read_only file_attributes directory_attributes file_info_size
+    is_full_directory info_of sizes used passes_room times_at touched emptied_basic without_file allocated is_read_only file_attributes directory_attributes is_short_class streams_size file_info_size
     bits_if mapped mapped_read_only granted reads writes deletes is_shared denies_writers opens_in admits file_has_open goes pending_records
     shut_records gone_records leave_records without_owner text_size opened_size record_size records_size entry_bytes fits
     due_in is_filled upper same_name name_before units_of utf16_length parent_from parent_of leaf_from leaf_of after_name
@@ -59,9 +60,10 @@ pub between_are :
     (statuses_of (on_a_tree (with_between 13)).replies ≡ 0 ∷ 0 ∷ 0 ∷ []) × ((on_a_tree (with_between 13)).server.opens ≡ [])
     × (statuses_of (on_a_tree (with_between 12)).replies ≡ 0 ∷ 0 ∷ []) × ((on_a_tree (with_between 12)).server.opens ≡ [])
     × (statuses_of (on_a_tree (with_between 15)).replies ≡ 0 ∷ 0xc000_00bb ∷ 0 ∷ []) × ((on_a_tree (with_between 15)).server.opens ≡ [])
-unfolding computed found_names missing_names found_attributes missing_attributes names_of_found names is_counted_out has_bit deletes_on_close path_form same_bytes timeout_of
+unfolding computed is_kept_back left_file_records is_found_pending has_pending_parent found_names missing_names found_attributes
+    missing_attributes names_of_found names is_counted_out has_bit deletes_on_close path_form same_bytes timeout_of
     new_open create_records find_in find path_in path_of exists_in exists is_directory is_found_directory has_parent has_below
-    is_full_directory info_of sizes used passes_room times_at touched emptied_basic without_file allocated is_read_only file_attributes directory_attributes file_info_size
+    is_full_directory info_of sizes used passes_room times_at touched emptied_basic without_file allocated is_read_only file_attributes directory_attributes is_short_class streams_size file_info_size
     bits_if mapped mapped_read_only granted reads writes deletes is_shared denies_writers opens_in admits file_has_open goes pending_records
     shut_records gone_records leave_records without_owner text_size opened_size record_size records_size entry_bytes fits
     due_in is_filled upper same_name name_before units_of utf16_length parent_from parent_of leaf_from leaf_of after_name
@@ -70,9 +72,10 @@ unfolding computed found_names missing_names found_attributes missing_attributes
 between_are = (refl, refl, refl, refl, refl, refl)
 
 pub misplaced_is : statuses_of (on_a_tree misplaced_create).replies ≡ 0xc000_000d ∷ []
-unfolding computed found_names missing_names found_attributes missing_attributes names_of_found names is_counted_out has_bit deletes_on_close path_form same_bytes timeout_of
+unfolding computed is_kept_back left_file_records is_found_pending has_pending_parent found_names missing_names found_attributes
+    missing_attributes names_of_found names is_counted_out has_bit deletes_on_close path_form same_bytes timeout_of
     new_open create_records find_in find path_in path_of exists_in exists is_directory is_found_directory has_parent has_below
-    is_full_directory info_of sizes used passes_room times_at touched emptied_basic without_file allocated is_read_only file_attributes directory_attributes file_info_size
+    is_full_directory info_of sizes used passes_room times_at touched emptied_basic without_file allocated is_read_only file_attributes directory_attributes is_short_class streams_size file_info_size
     bits_if mapped mapped_read_only granted reads writes deletes is_shared denies_writers opens_in admits file_has_open goes pending_records
     shut_records gone_records leave_records without_owner text_size opened_size record_size records_size entry_bytes fits
     due_in is_filled upper same_name name_before units_of utf16_length parent_from parent_of leaf_from leaf_of after_name
@@ -83,9 +86,10 @@ misplaced_is = refl
 pub signers_are :
     (signers_of (on_no_session (Some 0xc000_0022)).replies ≡ None ∷ None ∷ [])
     × (signers_of (on_no_session None).replies ≡ Some some_keys.signing ∷ Some some_keys.signing ∷ [])
-unfolding computed found_names missing_names found_attributes missing_attributes names_of_found names is_counted_out has_bit deletes_on_close path_form same_bytes timeout_of
+unfolding computed is_kept_back left_file_records is_found_pending has_pending_parent found_names missing_names found_attributes
+    missing_attributes names_of_found names is_counted_out has_bit deletes_on_close path_form same_bytes timeout_of
     new_open create_records find_in find path_in path_of exists_in exists is_directory is_found_directory has_parent has_below
-    is_full_directory info_of sizes used passes_room times_at touched emptied_basic without_file allocated is_read_only file_attributes directory_attributes file_info_size
+    is_full_directory info_of sizes used passes_room times_at touched emptied_basic without_file allocated is_read_only file_attributes directory_attributes is_short_class streams_size file_info_size
     bits_if mapped mapped_read_only granted reads writes deletes is_shared denies_writers opens_in admits file_has_open goes pending_records
     shut_records gone_records leave_records without_owner text_size opened_size record_size records_size entry_bytes fits
     due_in is_filled upper same_name name_before units_of utf16_length parent_from parent_of leaf_from leaf_of after_name

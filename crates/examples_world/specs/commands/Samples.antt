@@ -117,6 +117,15 @@ with_attributes directory attributes = record {
   times = record { created = 0; accessed = 0; written = 0; changed = 0; attributes = attributes };
 }
 
+abbrev pub with_size : Bool → ℕ → Info
+with_size directory size = record {
+  file = 0;
+  is_directory = directory;
+  size = size;
+  is_delete_pending = false;
+  times = record { created = 0; accessed = 0; written = 0; changed = 0; attributes = 0 };
+}
+
 -- `.` and `ab`
 abbrev pub two_names : List Named
 two_names = record { name = 46 ∷ []; info = nothing } ∷ record { name = 97 ∷ 98 ∷ []; info = nothing } ∷ []

@@ -1,6 +1,7 @@
 -- No step makes the server keep USER_SESSION_DELETED, in its columns or in the journal; and behind check 1 none answers it.
+use Rattle.spec_exchange.specs.Records.{origin_at}
 use Rattle.spec_exchange.specs.Effects.{opens_of_tree, close_all, drop_tree}
-use Rattle.law_server.proofs.tables.Closing.{closed_beside}
+use Rattle.law_server.proofs.tables.Closing.{closed_beside, left_beside}
 use Rattle.std.proofs.Common.{◌≡◌, ℕ, ◌+◌, ◌==◌, nat_le, nat_lt, Bool, true, false, not, ◌&&◌, ◌||◌, List, [], ◌∷◌}
 use Rattle.std.proofs.Common.{◌++◌, inl, inr, length, refl, arith, sym, subst, ◌∙◌, ap, Option, Some, None, is_some}
 use Rattle.spec_exchange.specs.Table.{put, put2, is_at}
@@ -12,8 +13,8 @@ use Rattle.spec_exchange.specs.State.{EndRecord, BasicRecord, DeleteRecord, Rena
 use Rattle.spec_exchange.specs.State.{CloseRecord, ExpireRecord}
 use Rattle.spec_exchange.specs.Files.{set_delete_pending, remove_file}
 use Rattle.spec_exchange.specs.Ranges.{RangeAnswer, Stands, Denied, change_ranges}
-use Rattle.spec_exchange.specs.Opens.{drop_open, leave_open, pending_behind, without_gone, goes, leave_records}
-use Rattle.spec_exchange.specs.Opens.{pending_records, shut_records, gone_records}
+use Rattle.spec_exchange.specs.Opens.{drop_open, leave_open, pending_behind, without_gone, goes, is_kept_back, gone_records, left_file_records, leave_records}
+use Rattle.spec_exchange.specs.Opens.{pending_records, shut_records}
 use Rattle.spec_exchange.specs.CheckCreate.{empties}
 use Rattle.spec_exchange.specs.CheckOpen.{is_late, is_slot, file_of}
 use Rattle.spec_exchange.specs.Check.{check, has_session}
@@ -21,13 +22,13 @@ use Rattle.spec_exchange.specs.Effects.{apply, reach, attached, attach, keep_slo
 use Rattle.spec_exchange.specs.Effects.{end_if_named, end_session, set_ranges, create_records, lock_records}
 use Rattle.spec_exchange.specs.Effects.{change_records, end_records, leave_all_records, records_if_named, is_persistent}
 use Rattle.spec_exchange.specs.Effects.{plain_of}
-use Rattle.spec_exchange.specs.Records.{origin_at, origin_of}
+use Rattle.spec_exchange.specs.Records.{origin_of}
 use Rattle.spec_exchange.specs.Verdict.{Verdict, Refuse, Give, KeepRefusal, Repeat, Attach, Make, TurnDown, Tell, Show}
 use Rattle.spec_exchange.specs.Verdict.{KeepSlot, PutRanges, Alter, CloseOpen, Challenge, ChallengeBinding, Begin, Join}
 use Rattle.spec_exchange.specs.Verdict.{EndSession, AddTree, DropTree, Change, PutBytes, PutEnd, PutBasic}
 use Rattle.spec_exchange.specs.Verdict.{PutDeletePending, PutPath, PutNothing}
 use Rattle.spec_exchange.specs.Fold.{fold, fold_from, with_record, sweep, restore, created_file, lock_granted}
-use Rattle.spec_exchange.specs.Fold.{lock_recorded, shut_recorded, nothing_yet, opening_records}
+use Rattle.spec_exchange.specs.Fold.{lock_recorded, shut_recorded, nothing_yet, opening_records, epoch_records, is_left_pending, mark_records, unmark_records}
 use Rattle.spec_exchange.specs.Step.{step, with_deadlines, expire, expire_records, add_expired_guid, max_expired_guids}
 use Rattle.spec_exchange.specs.Step.{max_connections, Ruling, Says, TakesIn, TurnsAway, TakesOut, TakesAllOut, ruling}
 use Rattle.spec_exchange.specs.Step.{ruling_without_room, carried_out, take_out, take_all_out, take_all_records}
@@ -69,7 +70,9 @@ gone : (s : Server) (f : ℕ) → FairServer s → FairServer (without_gone s f)
 gone s f h = either FairServer (goes s f) (remove_file s f) s (λ _. h) (λ _. h)
 
 left : (s : Server) (o : ℕ) → FairServer s → FairServer (leave_open s o)
-left s o h = gone (drop_open (pending_behind s o) o) (s.opened o).file (pending_set s o h)
+left s o h = let b = left_beside s o in
+    subst (λ (l : ℕ → ℕ → Option Kept). Fair (leave_open s o).refused l) (sym b.lock_sequences)
+    (subst (λ (f : ℕ → ℕ → Option ℕ). Fair f s.lock_sequences) (sym b.refused) h)
 
 expired : (s : Server) (o : ℕ) → FairServer s → FairServer (expire s o)
 expired s o h = by (s.opened o).create_guid
@@ -164,6 +167,15 @@ fair_gone : (s : Server) (origin : Origin) (f : ℕ) → AllFair (gone_records s
 unfolding gone_records all_fair is_fair_record AllFair
 fair_gone s origin f = either AllFair (goes s f) (RemoveRecord origin f ∷ []) [] (λ _. refl) (λ _. refl)
 
+fair_mark : (s : Server) (f : ℕ) → AllFair (mark_records s f)
+unfolding mark_records all_fair is_fair_record AllFair
+fair_mark s f = either AllFair (is_left_pending s f) (DeleteRecord (origin_at 0) f false ∷ []) [] (λ _. refl) (λ _. refl)
+
+fair_settled : (s : Server) (origin : Origin) (f : ℕ) → AllFair (left_file_records s origin f)
+unfolding left_file_records all_fair is_fair_record AllFair
+fair_settled s origin f = either AllFair (is_kept_back s f) (DeleteRecord origin f false ∷ []) (gone_records s origin f) (λ _. refl)
+    (λ _. fair_gone s origin f)
+
 fair_shut : (s : Server) (origin : Origin) (o : ℕ) → AllFair (shut_records s origin o)
 unfolding shut_records all_fair is_fair_record AllFair
 fair_shut s origin o = either AllFair (s.opened o).persistent (CloseRecord origin o ∷ []) [] (λ _. refl) (λ _. refl)
@@ -178,9 +190,9 @@ fair_left : (s : Server) (origin : Origin) (o : ℕ) → AllFair (leave_records 
 unfolding leave_records AllFair
 fair_left s origin o =
     let f = (s.opened o).file in let d = drop_open (pending_behind s o) o in
-    fair_more (pending_records s origin o) (shut_records s origin o ++ gone_records d origin f)
-    (fair_pending s origin o) (fair_more (shut_records s origin o) (gone_records d origin f) (fair_shut s origin o)
-    (fair_gone d origin f))
+    fair_more (pending_records s origin o) (shut_records s origin o ++ left_file_records d origin f)
+    (fair_pending s origin o) (fair_more (shut_records s origin o) (left_file_records d origin f) (fair_shut s origin o)
+    (fair_settled d origin f))
 
 fair_all_left : (s : Server) (origin : Origin) (os : List ℕ) → AllFair (leave_all_records s origin os)
 unfolding leave_all_records all_fair AllFair
@@ -200,7 +212,7 @@ fair_named s origin (Some session) q = fair_ended s origin session q
 
 fair_expired : (s : Server) (origin : Origin) (o : ℕ) → AllFair (expire_records s origin o)
 unfolding expire_records all_fair is_fair_record AllFair
-fair_expired s origin o = fair_gone (drop_open (pending_behind s o) o) origin (s.opened o).file
+fair_expired s origin o = fair_settled (drop_open (pending_behind s o) o) origin (s.opened o).file
 
 fair_all_out : (s : Server) (ks : List ℕ) (now : ℕ) (q : Bool) → AllFair (take_all_records s ks now q)
 unfolding take_all_records all_fair AllFair
@@ -429,10 +441,21 @@ folds s (r ∷ rs) e h = folds (with_record s r) rs (back (is_fair_record r) (al
     back true y e = e
     back false y e = absurd (cc)
 
-pub fair_opening : (d : Server) → all_fair (opening_records d) ≡ true
-unfolding all_fair is_fair_record
-fair_opening d = either (λ rs. all_fair rs ≡ true) (d.version == 1) (VersionRecord 2 ∷ EpochRecord (d.epoch + 1) ∷ [])
+fair_epoch : (d : Server) → AllFair (epoch_records d)
+unfolding all_fair is_fair_record AllFair
+fair_epoch d = either AllFair (d.version == 1) (VersionRecord 2 ∷ EpochRecord (d.epoch + 1) ∷ [])
     (EpochRecord (d.epoch + 1) ∷ []) (λ _. refl) (λ _. refl)
+
+fair_unmarked : (d : Server) (es : List Entry) → AllFair (unmark_records d es)
+unfolding unmark_records all_fair AllFair
+fair_unmarked d [] = refl
+fair_unmarked d (e ∷ es) = fair_more (mark_records d e.file) (unmark_records d es) (fair_mark d e.file)
+    (fair_unmarked d es)
+
+pub fair_opening : (d : Server) → all_fair (opening_records d) ≡ true
+unfolding AllFair
+fair_opening d = let b = fold_from d (epoch_records d) in
+    fair_more (epoch_records d) (unmark_records b b.entries) (fair_epoch d) (fair_unmarked b b.entries)
 
 pub fair_nothing : all_fair [] ≡ true
 unfolding all_fair

@@ -1,6 +1,6 @@
 -- The server's connections are those whose ends it holds, so that it takes in each other one.
 use Rattle.spec_exchange.specs.Effects.{opens_of_tree}
-use Rattle.law_server.proofs.tables.Closing.{closed_beside}
+use Rattle.law_server.proofs.tables.Closing.{closed_beside, left_beside}
 use Rattle.std.proofs.lemmas.Bool.Decides.{nat_tests}
 use Rattle.std.proofs.Common.{◌≡◌, ℕ, ◌<◌, nat_le, Bool, true, false, if◌then◌else◌, List, [], ◌∷◌, ◌++◌, inl, inr}
 use Rattle.std.proofs.Common.{length, refl, arith, sym, subst, ◌∙◌, ap, Option, Some, None, is_some}
@@ -10,7 +10,7 @@ use Rattle.spec_exchange.specs.Commands.{Command, Unreadable, Aside, Setup, Logo
 use Rattle.spec_exchange.specs.Commands.{Close, Flush, Read, Write, Lock, Ioctl, ListDirectory, QueryFile, QueryVolume}
 use Rattle.spec_exchange.specs.Commands.{SetInfo, CreateRequest, deletes_on_close}
 use Rattle.spec_exchange.specs.State.{Server, Message, Accept, Heard, End, ServerEvent, Answer, Record}
-use Rattle.spec_exchange.specs.Opens.{drop_open, leave_open, pending_behind, without_gone, goes}
+use Rattle.spec_exchange.specs.Opens.{leave_open, pending_behind, without_gone, goes}
 use Rattle.spec_exchange.specs.Files.{set_delete_pending, remove_file}
 use Rattle.spec_exchange.specs.CheckOpen.{is_late, is_slot, file_of}
 use Rattle.spec_exchange.specs.Verdict.{Verdict, Refuse, Give, KeepRefusal, Repeat, Attach, Make, TurnDown, Tell, Show}
@@ -45,9 +45,7 @@ pub gone : (s : Server) (f : ℕ) → Same s (without_gone s f)
 gone s f = either (λ t. Same s t) (goes s f) (remove_file s f) s (λ _. record { connections = refl }) (λ _. record { connections = refl })
 
 left : (s : Server) (o : ℕ) → Same s (leave_open s o)
-left s o = same_so s (pending_behind s o) (leave_open s o) (pending_set s o)
-    (same_so (pending_behind s o) (drop_open (pending_behind s o) o) (leave_open s o) (record { connections = refl })
-    (gone (drop_open (pending_behind s o) o) (s.opened o).file))
+left s o = record { connections = (left_beside s o).connections }
 
 expired : (s : Server) (o : ℕ) → Same s (expire s o)
 expired s o = same_so s (leave_open s o) (expire s o) (left s o) (guid_added (leave_open s o) (s.opened o).client_guid

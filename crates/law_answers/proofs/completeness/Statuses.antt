@@ -7,6 +7,7 @@ use Rattle.spec_exchange.specs.Status.{range_not_locked, disk_full, file_not_ava
 use Rattle.spec_exchange.specs.Commands.{Command, Unreadable, Aside, Setup, Logoff, TreeConnect, TreeDisconnect, Create}
 use Rattle.spec_exchange.specs.Commands.{Close, Flush, Read, Write, Lock, Ioctl, ListDirectory, QueryFile, QueryVolume}
 use Rattle.spec_exchange.specs.Commands.{SetInfo, Setting, SetBasic, Rename, SetDelete, SetAllocation, SetEnd}
+use Rattle.spec_exchange.specs.Commands.{SetPosition, SetMode}
 use Rattle.spec_exchange.specs.Commands.{CreateRequest, Durable, Reconnect, SetupRequest, Shows, Begins, Bad, Refused}
 use Rattle.spec_exchange.specs.Commands.{Logon, Element, deletes_on_close, form, path_form, is_setup, no_file, all_lock}
 use Rattle.spec_exchange.specs.Commands.{Basic}
@@ -309,6 +310,8 @@ fair_setting s m o (SetDelete flag) =
 fair_setting s m o (SetAllocation size) = fair_size s m o (allocated size (length (s.content (file_of s o))))
     (allocation_change s (file_of s o) size)
 fair_setting s m o (SetEnd size) = fair_size s m o size (PutEnd size)
+fair_setting s m o (SetPosition position) = refl
+fair_setting s m o SetMode = refl
 
 fair_set : (s : Server) (m : Message) (o : ℕ) (setting : Setting) → is_fair (set_check s m o setting) ≡ true
 fair_set s m o setting = either (λ v. is_fair v ≡ true) (is_late s m o) (Refuse file_not_available)
@@ -398,6 +401,8 @@ fair_form (SetInfo o (SetBasic basic)) status p e = absurd (cc)
 fair_form (SetInfo o (SetDelete flag)) status p e = absurd (cc)
 fair_form (SetInfo o (SetAllocation size)) status p e = absurd (cc)
 fair_form (SetInfo o (SetEnd size)) status p e = absurd (cc)
+fair_form (SetInfo o (SetPosition position)) status p e = grind arith
+fair_form (SetInfo o SetMode) status p e = absurd (cc)
 fair_form (Aside wanted) status p e = absurd (cc)
 fair_form Logoff status p e = absurd (cc)
 fair_form (TreeConnect share) status p e = absurd (cc)

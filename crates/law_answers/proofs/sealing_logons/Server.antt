@@ -1,16 +1,14 @@
 -- What an event does to the server's sessions as far as their ciphers go.
 use Rattle.spec_exchange.specs.Effects.{opens_of_tree}
-use Rattle.law_server.proofs.tables.Closing.{closed_beside}
+use Rattle.law_server.proofs.tables.Closing.{closed_beside, left_beside}
 use Rattle.std.proofs.Common.{◌≡◌, ℕ, ◌==◌, Bool, true, false, if◌then◌else◌, List, inl, inr, refl, sym, ap, ◌∙◌, subst, arith}
 use Rattle.std.proofs.Common.{nat_le, length, Option, Some, None, is_some}
 use Rattle.spec_exchange.specs.Table.{put}
 use Rattle.spec_exchange.specs.Status.{success}
 use Rattle.spec_exchange.specs.Commands.{Command, Unreadable, Aside, Setup, Logoff, TreeConnect, TreeDisconnect, Create, Close, Flush, Read}
 use Rattle.spec_exchange.specs.Commands.{Write, Lock, Ioctl, ListDirectory, QueryFile, QueryVolume, SetInfo, SetupRequest, CreateRequest}
-use Rattle.spec_exchange.specs.Commands.{deletes_on_close}
 use Rattle.spec_exchange.specs.State.{Server, Message, Accept, Heard, End, ServerEvent, Record}
-use Rattle.spec_exchange.specs.Opens.{drop_open, leave_open, pending_behind, without_gone, goes}
-use Rattle.spec_exchange.specs.Files.{set_delete_pending, remove_file}
+use Rattle.spec_exchange.specs.Opens.{leave_open}
 use Rattle.spec_exchange.specs.CheckCreate.{empties}
 use Rattle.spec_exchange.specs.CheckOpen.{is_late, is_slot, file_of}
 use Rattle.spec_exchange.specs.Verdict.{Verdict, Refuse, Give, KeepRefusal, Repeat, Attach, Make, TurnDown, Tell, Show, KeepSlot, PutRanges}
@@ -50,22 +48,12 @@ keeps s t q h e x p = ap (λ (f : ℕ → ℕ). f x == 0) q.cipher ∙ h (sym q.
 
 -- ---- by effect
 
-pending_set : (s : Server) (o : ℕ) → Same s (pending_behind s o)
-pending_set s o =
-    either (λ t. Same s t) (deletes_on_close (s.opened o).options) (set_delete_pending s (s.opened o).file true) s
-    (λ _. record { encrypts = refl; cipher = refl; present = λ x e. e }) (λ _. itself s)
-
-gone : (s : Server) (f : ℕ) → Same s (without_gone s f)
-gone s f =
-    either (λ t. Same s t) (goes s f) (remove_file s f) s (λ _. record { encrypts = refl; cipher = refl; present = λ x e. e })
-    (λ _. itself s)
-
 left : (s : Server) (o : ℕ) → Same s (leave_open s o)
-left s o =
-    let a = pending_behind s o in
-    let b = drop_open a o in
-    same_so s a (leave_open s o) (pending_set s o)
-    (same_so a b (leave_open s o) (record { encrypts = refl; cipher = refl; present = λ x e. e }) (gone b (s.opened o).file))
+left s o = let b = left_beside s o in record {
+  encrypts = b.encrypts;
+  cipher = b.cipher;
+  present = λ x e. ap (λ (f : ℕ → Bool). f x) (sym b.present) ∙ e;
+}
 
 guid_added : (t : Server) (client : ℕ) (g : Option ℕ) → Same t (add_expired_guid t client g)
 guid_added t client None = itself t

@@ -10,13 +10,14 @@ use Rattle.spec_exchange.specs.Content.{is_empty}
 use Rattle.spec_exchange.specs.Commands.{Command, Unreadable, Aside, Setup, Logoff, TreeConnect, TreeDisconnect, Create}
 use Rattle.spec_exchange.specs.Commands.{Close, Flush, Read, Write, Lock, Ioctl, ListDirectory, QueryFile, QueryVolume}
 use Rattle.spec_exchange.specs.Commands.{SetInfo, Setting, SetBasic, Rename, SetDelete, SetAllocation, SetEnd}
+use Rattle.spec_exchange.specs.Commands.{SetPosition, SetMode}
 use Rattle.spec_exchange.specs.Commands.{CreateRequest, Durable, Reconnect, SetupRequest, Shows, Begins, Bad, Refused, Logon, Element}
 use Rattle.spec_exchange.specs.Commands.{deletes_on_close, asks_directory, asks_file, form}
 use Rattle.spec_exchange.specs.Commands.{path_form, made_form, create_form, transfer_form, lock_form}
 use Rattle.spec_exchange.specs.Commands.{room_form, list_form, is_short_pattern, is_setup, no_file, all_lock, all_unlock}
 use Rattle.spec_exchange.specs.Commands.{has_bit, Basic}
 use Rattle.spec_exchange.specs.State.{Server, Message, Kept, Named, Range, Empty}
-use Rattle.spec_exchange.specs.Files.{root, find, has_parent, is_directory}
+use Rattle.spec_exchange.specs.Files.{root, find, has_parent, has_pending_parent, is_directory}
 use Rattle.spec_exchange.specs.Files.{is_full_directory, path_of, set_basic, allocated, passes_room}
 use Rattle.spec_exchange.specs.Files.{is_read_only, may_set_attributes, may_set_times}
 use Rattle.spec_exchange.specs.Ranges.{RangeAnswer, Stands, Denied, change_ranges, lock_ranges, unlock_ranges, stands_or, ranges_of}
@@ -167,7 +168,8 @@ low_by s r (Some f) = low_of_two (found_names s r f) (found_attributes s r f) (l
 
 pub low_names : (s : Server) (r : CreateRequest) (found : Option ℕ) → KeptIn (names s r found)
 unfolding names
-low_names s r found = either KeptIn (is_some found || has_parent s r.path) _ _ (λ _. low_by s r found) (λ _. (refl, refl))
+low_names s r found = either KeptIn (not (is_some found || has_parent s r.path)) _ _ (λ _. (refl, refl))
+    (λ _. either KeptIn (has_pending_parent s r.path) _ _ (λ _. (refl, refl)) (λ _. low_by s r found))
 
 low_after : (s : Server) (r : CreateRequest) (found u : Option ℕ) → KeptIn u → Tells (after_names s r found u)
 low_after s r found (Some status) e = low_refused r.durable status e
@@ -330,7 +332,9 @@ low_list s o class restart single pattern room =
 low_query : (s : Server) (o class room : ℕ) → Tells (file_query_check s o class room)
 low_query s o class room =
     either Tells (needs_attributes class && not (has_access s o 0x80)) _ _ (λ _. refl)
-    (λ _. either Tells (nat_lt room (file_info_size class (path_of s (file_of s o)))) _ _ (λ _. refl) (λ _. tt))
+    (λ _. either Tells (class == 21) _ _ (λ _. refl)
+    (λ _. either Tells (nat_lt room (file_info_size class (is_directory s (file_of s o)) (path_of s (file_of s o)))) _ _ (λ _. refl)
+    (λ _. tt)))
 
 low_volume : (s : Server) (o class room : ℕ) → Tells (volume_query_check s o class room)
 low_volume s o class room = either Tells (nat_lt room (volume_info_size class)) _ _ (λ _. refl) (λ _. tt)
@@ -341,9 +345,10 @@ low_rename s f replace path =
     either LowIn (f == root) _ _ (λ _. refl)
     (λ _. either LowIn (is_directory s f && is_below (path_of s f) path) _ _ (λ _. refl)
     (λ _. either LowIn (not (has_parent s path)) _ _ (λ _. refl)
+    (λ _. either LowIn (has_pending_parent s path) _ _ (λ _. refl)
     (λ _. either LowIn (is_some (find s path) && not replace) _ _ (λ _. refl)
     (λ _. either LowIn (target_refused s (target_of f (find s path))) _ _ (λ _. refl)
-    (λ _. either LowIn (is_directory s f && open_below s s.entries (path_of s f)) _ _ (λ _. refl) (λ _. tt))))))
+    (λ _. either LowIn (is_directory s f && open_below s s.entries (path_of s f)) _ _ (λ _. refl) (λ _. tt)))))))
 
 low_delete : (s : Server) (f : ℕ) (flag : Bool) → LowIn (delete_names s f flag)
 unfolding delete_names
@@ -388,6 +393,8 @@ low_setting s m o (SetDelete flag) =
 low_setting s m o (SetAllocation size) =
     low_size s m o (allocated size (length (s.content (file_of s o)))) (allocation_change s (file_of s o) size)
 low_setting s m o (SetEnd size) = low_size s m o size (PutEnd size)
+low_setting s m o (SetPosition position) = tt
+low_setting s m o SetMode = tt
 
 low_set : (s : Server) (m : Message) (o : ℕ) (setting : Setting) → Tells (set_check s m o setting)
 low_set s m o setting =
@@ -565,6 +572,9 @@ low_form (SetInfo o (SetBasic basic)) p = tt
 low_form (SetInfo o (SetDelete flag)) p = tt
 low_form (SetInfo o (SetAllocation size)) p = tt
 low_form (SetInfo o (SetEnd size)) p = tt
+low_form (SetInfo o (SetPosition position)) p =
+    either LowIn (nat_lt position 0x8000_0000_0000_0000) _ _ (λ _. tt) (λ _. refl)
+low_form (SetInfo o SetMode) p = tt
 low_form (Aside status) p = tt
 low_form Logoff p = tt
 low_form (TreeConnect share) p = tt

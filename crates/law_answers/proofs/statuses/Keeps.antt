@@ -1,6 +1,7 @@
 -- What each step makes the server keep, in its columns and in the journal, fits 4 bytes; and so does what it answers.
+use Rattle.spec_exchange.specs.Records.{origin_at}
 use Rattle.spec_exchange.specs.Effects.{opens_of_tree, close_all, drop_tree}
-use Rattle.law_server.proofs.tables.Closing.{closed_beside}
+use Rattle.law_server.proofs.tables.Closing.{closed_beside, left_beside}
 use Rattle.std.proofs.Common.{◌≡◌, ℕ, ◌+◌, ◌==◌, nat_le, nat_lt, Bool, true, false, not, ◌&&◌, ◌||◌, if◌then◌else◌, List, [], ◌∷◌}
 use Rattle.std.proofs.Common.{◌++◌, inl, inr, length, refl, sym, subst, ◌∙◌, ap, Option, Some, None, is_some}
 use Rattle.spec_exchange.specs.Table.{put, put2}
@@ -12,21 +13,21 @@ use Rattle.spec_exchange.specs.State.{EndRecord, BasicRecord, DeleteRecord, Rena
 use Rattle.spec_exchange.specs.State.{CloseRecord, ExpireRecord}
 use Rattle.spec_exchange.specs.Files.{set_delete_pending, remove_file}
 use Rattle.spec_exchange.specs.Ranges.{RangeAnswer, Stands, Denied, change_ranges}
-use Rattle.spec_exchange.specs.Opens.{drop_open, leave_open, pending_behind, without_gone, goes, leave_records}
-use Rattle.spec_exchange.specs.Opens.{pending_records, shut_records, gone_records}
+use Rattle.spec_exchange.specs.Opens.{drop_open, leave_open, pending_behind, without_gone, goes, is_kept_back, gone_records, left_file_records, leave_records}
+use Rattle.spec_exchange.specs.Opens.{pending_records, shut_records}
 use Rattle.spec_exchange.specs.CheckCreate.{empties}
 use Rattle.spec_exchange.specs.CheckOpen.{is_late, is_slot, file_of}
 use Rattle.spec_exchange.specs.Effects.{apply, reach, attached, attach, keep_slot, keep_closed, change_file, file_made}
 use Rattle.spec_exchange.specs.Effects.{end_if_named, end_session, set_ranges, create_records, lock_records}
 use Rattle.spec_exchange.specs.Effects.{change_records, end_records, leave_all_records, records_if_named, is_persistent}
 use Rattle.spec_exchange.specs.Effects.{plain_of}
-use Rattle.spec_exchange.specs.Records.{origin_at, origin_of}
+use Rattle.spec_exchange.specs.Records.{origin_of}
 use Rattle.spec_exchange.specs.Verdict.{Verdict, Refuse, Give, KeepRefusal, Repeat, Attach, Make, TurnDown, Tell, Show}
 use Rattle.spec_exchange.specs.Verdict.{KeepSlot, PutRanges, Alter, CloseOpen, Challenge, ChallengeBinding, Begin, Join}
 use Rattle.spec_exchange.specs.Verdict.{EndSession, AddTree, DropTree, Change, PutBytes, PutEnd, PutBasic}
 use Rattle.spec_exchange.specs.Verdict.{PutDeletePending, PutPath, PutNothing}
 use Rattle.spec_exchange.specs.Fold.{fold, fold_from, with_record, sweep, restore, created_file, lock_granted}
-use Rattle.spec_exchange.specs.Fold.{lock_recorded, shut_recorded, nothing_yet, opening_records}
+use Rattle.spec_exchange.specs.Fold.{lock_recorded, shut_recorded, nothing_yet, opening_records, epoch_records, is_left_pending, mark_records, unmark_records}
 use Rattle.spec_exchange.specs.Step.{step, with_deadlines, expire, expire_records, add_expired_guid, max_expired_guids}
 use Rattle.spec_exchange.specs.Step.{max_connections, Ruling, Says, TakesIn, TurnsAway, TakesOut, TakesAllOut, ruling}
 use Rattle.spec_exchange.specs.Step.{ruling_without_room, carried_out, take_out, take_all_out, take_all_records}
@@ -89,7 +90,9 @@ gone : (s : Server) (f : ℕ) → LowServer s → LowServer (without_gone s f)
 gone s f h = either LowServer (goes s f) (remove_file s f) s (λ _. h) (λ _. h)
 
 left : (s : Server) (o : ℕ) → LowServer s → LowServer (leave_open s o)
-left s o h = gone (drop_open (pending_behind s o) o) (s.opened o).file (pending_set s o h)
+left s o h = let b = left_beside s o in
+    subst (λ (l : ℕ → ℕ → Option Kept). Low (leave_open s o).refused l) (sym b.lock_sequences)
+    (subst (λ (f : ℕ → ℕ → Option ℕ). Low f s.lock_sequences) (sym b.refused) h)
 
 expired : (s : Server) (o : ℕ) → LowServer s → LowServer (expire s o)
 expired s o h = by (s.opened o).create_guid
@@ -184,6 +187,15 @@ low_gone : (s : Server) (origin : Origin) (f : ℕ) → AllLow (gone_records s o
 unfolding gone_records all_low is_low_record AllLow
 low_gone s origin f = either AllLow (goes s f) (RemoveRecord origin f ∷ []) [] (λ _. refl) (λ _. refl)
 
+low_mark : (s : Server) (f : ℕ) → AllLow (mark_records s f)
+unfolding mark_records all_low is_low_record AllLow
+low_mark s f = either AllLow (is_left_pending s f) (DeleteRecord (origin_at 0) f false ∷ []) [] (λ _. refl) (λ _. refl)
+
+low_settled : (s : Server) (origin : Origin) (f : ℕ) → AllLow (left_file_records s origin f)
+unfolding left_file_records all_low is_low_record AllLow
+low_settled s origin f = either AllLow (is_kept_back s f) (DeleteRecord origin f false ∷ []) (gone_records s origin f) (λ _. refl)
+    (λ _. low_gone s origin f)
+
 low_shut : (s : Server) (origin : Origin) (o : ℕ) → AllLow (shut_records s origin o)
 unfolding shut_records all_low is_low_record AllLow
 low_shut s origin o = either AllLow (s.opened o).persistent (CloseRecord origin o ∷ []) [] (λ _. refl) (λ _. refl)
@@ -198,9 +210,9 @@ low_left : (s : Server) (origin : Origin) (o : ℕ) → AllLow (leave_records s 
 unfolding leave_records AllLow
 low_left s origin o =
     let f = (s.opened o).file in let d = drop_open (pending_behind s o) o in
-    low_more (pending_records s origin o) (shut_records s origin o ++ gone_records d origin f)
-    (low_pending s origin o) (low_more (shut_records s origin o) (gone_records d origin f) (low_shut s origin o)
-    (low_gone d origin f))
+    low_more (pending_records s origin o) (shut_records s origin o ++ left_file_records d origin f)
+    (low_pending s origin o) (low_more (shut_records s origin o) (left_file_records d origin f) (low_shut s origin o)
+    (low_settled d origin f))
 
 low_all_left : (s : Server) (origin : Origin) (os : List ℕ) → AllLow (leave_all_records s origin os)
 unfolding leave_all_records all_low AllLow
@@ -220,7 +232,7 @@ low_named s origin (Some session) q = low_ended s origin session q
 
 low_expired : (s : Server) (origin : Origin) (o : ℕ) → AllLow (expire_records s origin o)
 unfolding expire_records all_low is_low_record AllLow
-low_expired s origin o = low_gone (drop_open (pending_behind s o) o) origin (s.opened o).file
+low_expired s origin o = low_settled (drop_open (pending_behind s o) o) origin (s.opened o).file
 
 low_all_out : (s : Server) (ks : List ℕ) (now : ℕ) (q : Bool) → AllLow (take_all_records s ks now q)
 unfolding take_all_records all_low AllLow
@@ -442,10 +454,21 @@ folds s (r ∷ rs) e h = folds (with_record s r) rs (back (is_low_record r) (all
     back true y e = e
     back false y e = absurd (cc)
 
-pub low_opening : (d : Server) → all_low (opening_records d) ≡ true
-unfolding all_low is_low_record
-low_opening d = either (λ rs. all_low rs ≡ true) (d.version == 1) (VersionRecord 2 ∷ EpochRecord (d.epoch + 1) ∷ [])
+low_epoch : (d : Server) → AllLow (epoch_records d)
+unfolding all_low is_low_record AllLow
+low_epoch d = either AllLow (d.version == 1) (VersionRecord 2 ∷ EpochRecord (d.epoch + 1) ∷ [])
     (EpochRecord (d.epoch + 1) ∷ []) (λ _. refl) (λ _. refl)
+
+low_unmarked : (d : Server) (es : List Entry) → AllLow (unmark_records d es)
+unfolding unmark_records all_low AllLow
+low_unmarked d [] = refl
+low_unmarked d (e ∷ es) = low_more (mark_records d e.file) (unmark_records d es) (low_mark d e.file)
+    (low_unmarked d es)
+
+pub low_opening : (d : Server) → all_low (opening_records d) ≡ true
+unfolding AllLow
+low_opening d = let b = fold_from d (epoch_records d) in
+    low_more (epoch_records d) (unmark_records b b.entries) (low_epoch d) (low_unmarked b b.entries)
 
 pub low_nothing : all_low [] ≡ true
 unfolding all_low

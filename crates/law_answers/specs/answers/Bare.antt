@@ -1,5 +1,5 @@
 -- A reply other than a success has no body.
-use Rattle.std.specs.Prelude.{◌≡◌, ℕ}
+use Rattle.std.specs.Prelude.{◌≡◌}
 use Rattle.spec_exchange.specs.Status.{success}
 use Rattle.spec_exchange.specs.State.{Answer, Empty}
 use Rattle.spec_exchange.specs.Network.{World, Sent, answer}

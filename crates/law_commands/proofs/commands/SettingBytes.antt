@@ -3,7 +3,8 @@ use Rattle.std.proofs.Common.{ℕ, ◌+◌, ◌^◌, ◌<◌, ◌≤◌, Bool, t
 use Rattle.spec_wire.specs.messages.Utf16.{utf16}
 use Rattle.spec_wire.specs.messages.FileClasses
 use Rattle.law_wire.proofs.messages.Rows.{length-with_fields, size_of}
-use Rattle.spec_exchange.specs.Commands.{Setting, SetBasic, Rename, SetDelete, SetAllocation, SetEnd, Basic}
+use Rattle.spec_exchange.specs.Commands.{Setting, SetBasic, Rename, SetDelete, SetAllocation, SetEnd, SetPosition, SetMode}
+use Rattle.spec_exchange.specs.Commands.{Basic}
 use Rattle.spec_commands.specs.Tables.{bit_if}
 use Rattle.spec_commands.specs.BodyOf.{setting_bytes, basic_value}
 use Rattle.law_commands.specs.commands.Fitting.{IsSetting, IsFittingName, IsBasic}
@@ -55,6 +56,13 @@ bytes_most (SetEnd size) is = omega (
     end_of_file = size;
   })) [] (is, tt),
 )
+bytes_most (SetPosition position) is = omega (
+  arith,
+  length-with_fields (FileClasses.file_position_information_table (record {
+    current_byte_offset = position;
+  })) [] (is, tt),
+)
+bytes_most SetMode is = omega (arith, length-with_fields (FileClasses.file_mode_information_table (record { mode = 0 })) [] (omega arith, tt))
 
 name_short : (s : Setting) → IsSetting s → name_bytes s < 256 ^ 2
 name_short (SetBasic basic) is = omega arith
@@ -62,6 +70,8 @@ name_short (Rename replace path) is = is.short
 name_short (SetDelete delete_pending) is = omega arith
 name_short (SetAllocation size) is = omega arith
 name_short (SetEnd size) is = omega arith
+name_short (SetPosition position) is = omega arith
+name_short SetMode is = omega arith
 
 pub bytes_few : (s : Setting) → IsSetting s → length (setting_bytes s) < 256 ^ 4
 bytes_few s is = omega (arith, bytes_most s is, name_short s is)

@@ -10,6 +10,8 @@ use Rattle.spec_wire.specs.messages.FileClasses.{file_standard_information_spell
 use Rattle.spec_wire.specs.messages.FileClasses.{file_internal_information_spelling, file_internal_information_table}
 use Rattle.spec_wire.specs.messages.FileClasses.{file_network_open_information_spelling, file_network_open_information_table}
 use Rattle.spec_wire.specs.messages.FileClasses.{file_all_information_spelling, file_all_information_whole}
+use Rattle.spec_wire.specs.messages.FileClasses.{file_position_information_spelling, file_position_information_table}
+use Rattle.spec_wire.specs.messages.FileClasses.{file_name_information_spelling, file_name_information_whole}
 use Rattle.spec_wire.specs.messages.Directory.{DirectoryEntryValue, directory_entry_spelling, directory_entry_whole}
 use Rattle.spec_wire.specs.messages.Directory.{directory_entry_size, listing_spelling, entry_size as fixed_size}
 use Rattle.spec_wire.specs.declared.messages.directory_class.DirectoryClass.{DirectoryClass}
@@ -17,12 +19,12 @@ use Rattle.spec_wire.specs.declared.messages.directory_class.DirectoryClass.TheV
 use Rattle.spec_exchange.specs.Texts.{utf16_length, units_of}
 use Rattle.spec_exchange.specs.State.{Named, Info}
 use Rattle.spec_exchange.specs.Listing.{entry_part, entry_size, next_multiple, fitting, first_of_them, one_or_all}
-use Rattle.spec_exchange.specs.Listing.{file_info_size}
+use Rattle.spec_exchange.specs.Listing.{file_info_size, is_short_class, streams_size}
 use Rattle.spec_commands.specs.Fits.{AreListed, AreListedIn}
 use Rattle.spec_commands.specs.Infos.{entry_of, entries_of, listing_of, listing_bytes, file_bytes, basic_of, standard_of}
-use Rattle.spec_commands.specs.Infos.{network_open_of, all_of}
+use Rattle.spec_commands.specs.Infos.{network_open_of, all_of, short_bytes, streams_of}
 use Rattle.spec_commands.specs.Tables.{directory_class}
-use Rattle.spec_commands.proofs.Lengths.{total, length_fields}
+use Rattle.spec_commands.proofs.Lengths.{total, length_fields, short_long, streams_long}
 use Rattle.law_commands.specs.commands.Fitting.{AreTexts}
 use Rattle.law_commands.proofs.commands.Limits.{ascii_then, at_most}
 use Rattle.law_commands.proofs.commands.PathLength.{utf16_few, sum_append}
@@ -217,29 +219,47 @@ rooted_few path is = omega (
   backslash_few,
 )
 
-file_by : (a b c d : Bool) (path : List ℕ) (i : Info) (access options : ℕ) → IsUtf8 path
+file_by : (k : ℕ) (a b c d e f g h : Bool) (path : List ℕ) (i : Info) (access options position : ℕ) → IsUtf8 path
     → length (if a then file_basic_information_spelling (basic_of i)
     else if b then file_standard_information_spelling (standard_of i)
     else if c then file_internal_information_spelling (record { index_number = i.file })
     else if d then file_network_open_information_spelling (network_open_of i)
-    else file_all_information_spelling (all_of path i access options))
-    ≤ 2 * (if a then 40 else if b then 24 else if c then 8 else if d then 56 else 100 + 2 * (utf16_length path + 1))
+    else if e then short_bytes k access
+    else if f then file_position_information_spelling (record { current_byte_offset = position })
+    else if g then streams_of i
+    else if h then file_name_information_spelling (record { name = utf16 (92 ∷ path) })
+    else file_all_information_spelling (all_of path i access options position))
+    ≤ 2 * (if a then 40 else if b then 24 else if c then 8 else if d then 56 else if e then 4 else if f then 8
+    else if g then streams_size i.is_directory else (if h then 4 else 100) + 2 * (utf16_length path + 1))
 unfolding total
-file_by true b c d path i access options is = omega (arith, length_fields (file_basic_information_table (basic_of i)) [])
-file_by false true c d path i access options is = omega (arith, length_fields (file_standard_information_table (standard_of i)) [])
-file_by false false true d path i access options is = omega (
+file_by k true b c d e f g h path i access options position is = omega (arith, length_fields (file_basic_information_table (basic_of i)) [])
+file_by k false true c d e f g h path i access options position is =
+    omega (arith, length_fields (file_standard_information_table (standard_of i)) [])
+file_by k false false true d e f g h path i access options position is = omega (
   arith,
   length_fields (file_internal_information_table (record { index_number = i.file })) [],
 )
-file_by false false false true path i access options is =
+file_by k false false false true e f g h path i access options position is =
     omega (arith, length_fields (file_network_open_information_table (network_open_of i)) [])
-file_by false false false false path i access options is = omega (
+file_by k false false false false true f g h path i access options position is = omega (arith, short_long k access)
+file_by k false false false false false true g h path i access options position is = omega (
   arith,
-  length_fields (file_all_information_whole (all_of path i access options)) [],
+  length_fields (file_position_information_table (record { current_byte_offset = position })) [],
+)
+file_by k false false false false false false true h path i access options position is = omega (arith, streams_long i)
+file_by k false false false false false false false true path i access options position is = omega (
+  arith,
+  length_fields (file_name_information_whole (record { name = utf16 (92 ∷ path) })) [],
+  rooted_few path is,
+)
+file_by k false false false false false false false false path i access options position is = omega (
+  arith,
+  length_fields (file_all_information_whole (all_of path i access options position)) [],
   rooted_few path is,
 )
 
-pub file_few : (k : ℕ) (path : List ℕ) (i : Info) (access options : ℕ) → IsUtf8 path
-    → length (file_bytes k path i access options) ≤ 2 * file_info_size k path
+pub file_few : (k : ℕ) (path : List ℕ) (i : Info) (access options position : ℕ) → IsUtf8 path
+    → length (file_bytes k path i access options position) ≤ 2 * file_info_size k i.is_directory path
 unfolding file_bytes file_info_size
-file_few k path i access options is = file_by (k == 4) (k == 5) (k == 6) (k == 34) path i access options is
+file_few k path i access options position is =
+    file_by k (k == 4) (k == 5) (k == 6) (k == 34) (is_short_class k) (k == 14) (k == 22) (k == 9) path i access options position is

@@ -175,4 +175,4 @@ listings_are_short single k room ns texts = long_by (directory_class k) single k
 
 pub standards_are_short : StandardsAreShort
 unfolding file_bytes total
-standards_are_short path i access options = omega (arith, length_fields (file_standard_information_table (standard_of i)) [])
+standards_are_short path i access options position = omega (arith, length_fields (file_standard_information_table (standard_of i)) [])

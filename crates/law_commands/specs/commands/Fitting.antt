@@ -2,6 +2,7 @@
 use Rattle.std.specs.Prelude.{◌≡◌, ℕ, ◌+◌, ◌^◌, ◌<◌, ◌==◌, List, [], ◌∷◌, length, false, Option, Some, None, IsUtf8}
 use Rattle.spec_wire.specs.messages.Utf16.{utf16}
 use Rattle.spec_exchange.specs.Commands.{Command, Element, Basic, Setting, SetBasic, Rename, SetDelete, SetAllocation, SetEnd}
+use Rattle.spec_exchange.specs.Commands.{SetPosition, SetMode}
 use Rattle.spec_exchange.specs.Commands.{Durable, Reconnect, CreateRequest}
 use Rattle.spec_exchange.specs.State.{Info, CreateReply, Named, Body, Empty, Created, Content, Count, Listing, FileInfo}
 use Rattle.spec_exchange.specs.Operations.{Op, OpCreate, OpWrite, OpRead, OpStat, OpList, value_in, id_in}
@@ -38,6 +39,8 @@ IsSetting (Rename replace path) = IsFittingName path
 IsSetting (SetDelete delete_pending) = Unit {0}
 IsSetting (SetAllocation size) = size < 256 ^ 8
 IsSetting (SetEnd size) = size < 256 ^ 8
+IsSetting (SetPosition position) = position < 256 ^ 8
+IsSetting SetMode = Unit {0}
 
 abbrev pub IsDurable : Option Durable → Type 0
 IsDurable None = Unit {0}
@@ -93,7 +96,7 @@ IsFittingAnswer (OpWrite create at bytes) (Count count) = count < 256 ^ 4
 IsFittingAnswer (OpWrite create at bytes) _ = ⊥
 IsFittingAnswer (OpRead create at size) (Content bytes) = length bytes < 256 ^ 4
 IsFittingAnswer (OpRead create at size) _ = ⊥
-IsFittingAnswer (OpStat create) (FileInfo class path info access options) = (class ≡ 5) × IsInfo info
+IsFittingAnswer (OpStat create) (FileInfo class path info access options position) = (class ≡ 5) × IsInfo info
 IsFittingAnswer (OpStat create) _ = ⊥
 IsFittingAnswer (OpList create) (Listing class entries) = (class ≡ 12) × AreFittingNames entries
     × (length (listing_bytes 12 entries) < 256 ^ 4)

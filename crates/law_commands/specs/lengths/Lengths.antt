@@ -18,4 +18,4 @@ ListingsAreShort =
     length (listing_bytes class (one_or_all single (fitting class room 0 ns))) ≤ room + 7
 
 abbrev pub StandardsAreShort : Type 0
-StandardsAreShort = (path : List ℕ) (info : Info) (access options : ℕ) → length (file_bytes 5 path info access options) ≡ 24
+StandardsAreShort = (path : List ℕ) (info : Info) (access options position : ℕ) → length (file_bytes 5 path info access options position) ≡ 24

@@ -1,4 +1,4 @@
-ghost use Rattle.std.specs.Prelude.{◌≡◌, ◌^◌, ◌*◌, ◌≤◌, ◌<◌, ◌++◌, ◌==◌, ◌||◌, ℕ, Bool, true, false, List, length};
+ghost use Rattle.std.specs.Prelude.{◌≡◌, ◌^◌, ◌*◌, ◌≤◌, ◌<◌, ◌++◌, ◌==◌, ℕ, Bool, true, false, List, length};
 ghost use Rattle.spec_wire.specs.messages.Classes.{is_directory_class, is_query_class};
 ghost use Rattle.spec_exchange.specs.Commands.{Element, Write, Lock, ListDirectory, QueryFile};
 ghost use Rattle.spec_exchange.specs.Operations.{charge};
@@ -43,7 +43,7 @@ pub fn list_again()
 // QUERY_INFO of a file
 pub fn query_again()
     ensures { (paid : ℕ) (header rest : List ℕ) (file class room : ℕ) → length header ≡ 64 → file < 256 ^ 8 → class < 256 ^ 1
-        → is_query_class 1 class ≡ true → ((class == 7) || (class == 15)) ≡ false → room < 256 ^ 4 → charge room ≤ paid
+        → is_query_class 1 class ≡ true → (class == 15) ≡ false → room < 256 ^ 4 → charge room ≤ paid
         → HeardPaid 16 paid (header ++ (body_of (QueryFile file class room) ++ rest)) query_in (QueryFile file class room) }
 {
     query_info_request_law();

@@ -65,11 +65,11 @@ pub fn created_reply()
 
 // QUERY_INFO of class 5
 pub fn stat_reply()
-    ensures { (header rest token : List ℕ) (file room : ℕ) (path : List ℕ) (info : Info) (access options : ℕ)
+    ensures { (header rest token : List ℕ) (file room : ℕ) (path : List ℕ) (info : Info) (access options position : ℕ)
         → length header ≡ 64 → IsInfo info
         → body_in (QueryFile file 5 room)
-        (header ++ (success_body token (QueryFile file 5 room) (FileInfo 5 path info access options) ++ rest))
-        ≡ Some (FileInfo 5 [] (of_length info.size) 0 0) }
+        (header ++ (success_body token (QueryFile file 5 room) (FileInfo 5 path info access options position) ++ rest))
+        ≡ Some (FileInfo 5 [] (of_length info.size) 0 0 0) }
 {
     query_info_response_law();
     file_standard_information_law();

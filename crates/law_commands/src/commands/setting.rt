@@ -7,7 +7,8 @@ ghost use Rattle.law_commands.specs.commands.Fitting.{IsSetting, HeardPaid};
 
 use law_wire::{
     file_allocation_information_law, file_basic_information_law, file_disposition_information_law,
-    file_end_of_file_information_law, file_rename_information_law, set_info_request_law,
+    file_end_of_file_information_law, file_mode_information_law, file_position_information_law,
+    file_rename_information_law, set_info_request_law,
 };
 
 // SET_INFO
@@ -22,4 +23,6 @@ pub fn set_again()
     file_disposition_information_law();
     file_allocation_information_law();
     file_end_of_file_information_law();
+    file_position_information_law();
+    file_mode_information_law();
 }

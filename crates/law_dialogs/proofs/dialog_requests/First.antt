@@ -1,5 +1,5 @@
 -- The interim response comes: the client finds no fault in it, and both ends have its transcript and its challenge.
-use Rattle.std.proofs.Common.{◌≡◌, ℕ, ◌+◌, ◌==◌, inr, Bool, true, false, List, [], ◌∷◌, ◌++◌}
+use Rattle.std.proofs.Common.{◌≡◌, ℕ, ◌==◌, inr, Bool, true, false, List, [], ◌∷◌, ◌++◌}
 use Rattle.std.proofs.Common.{length, refl, sym, ap, ◌∙◌, subst, eqb-true, arith, Option, Some, None, is_some}
 use Rattle.std.proofs.lemmas.List.{length-take-le, append_assoc}
 use Rattle.sha2.proofs.Facts256.{length-sha256}
@@ -14,7 +14,7 @@ use Rattle.spec_crypto.specs.tokens.Tokens.{Users}
 use Rattle.spec_crypto.specs.tokens.Tokens.{Begun, Pending, first_token}
 use Rattle.spec_world.specs.Settings.{WorldSettings, draw}
 use Rattle.spec_world.specs.Messages.{HeardMessage}
-use Rattle.spec_world.specs.Hearing.{behind_turn, window_behind}
+use Rattle.spec_world.specs.Hearing.{window_behind}
 use Rattle.spec_world.specs.Logon.{Progress, Interim, progress, token_in, pending_by, challenge_of, answer_token_by, greeting_transcript}
 use Rattle.spec_world.specs.Logon.{made_or_greeted, pending_with}
 use Rattle.spec_world.specs.Answering.{server_end_moved}

@@ -1,5 +1,5 @@
 -- The answer to a NEGOTIATE comes: the client finds no fault in a success, and both ends have its greeting.
-use Rattle.std.proofs.Common.{◌≡◌, ℕ, ◌+◌, ◌==◌, Bool, true, false, List, [], ◌∷◌, ◌++◌, refl, sym}
+use Rattle.std.proofs.Common.{◌≡◌, ℕ, ◌==◌, Bool, true, false, List, [], ◌∷◌, ◌++◌, refl, sym}
 use Rattle.std.proofs.Common.{ap, ◌∙◌, subst, arith, Option, Some, None}
 use Rattle.spec_wire.specs.messages.Negotiate.{negotiate_response_in}
 use Rattle.spec_exchange.specs.Status.{success}

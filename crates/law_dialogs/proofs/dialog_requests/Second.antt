@@ -1,11 +1,9 @@
 -- The final response comes: the client finds no fault in a success, and both ends have the same keys.
-use Rattle.std.proofs.Common.{◌≡◌, ℕ, ◌+◌, ◌==◌, inl, Bool, true, false, not, ◌&&◌, List, [], ◌∷◌}
+use Rattle.std.proofs.Common.{◌≡◌, ℕ, ◌==◌, inl, Bool, true, false, not, ◌&&◌, List, [], ◌∷◌}
 use Rattle.std.proofs.Common.{◌++◌, refl, sym, ap, ◌∙◌, subst, eqb-true, Option, Some, None}
 use Rattle.spec_exchange.specs.Table.{put}
 use Rattle.spec_exchange.specs.Status.{success}
 use Rattle.spec_exchange.specs.Commands.{has_bit}
-use Rattle.spec_exchange.specs.State.{Body, Empty, Created, Closed, Content, Count, Interfaces, Listing, FileInfo, VolumeInfo, SetUp}
-use Rattle.spec_exchange.specs.State.{Connected}
 use Rattle.spec_exchange.specs.Client.{SaidSecond}
 use Rattle.spec_exchange.specs.Network.{Sent, answer}
 use Rattle.spec_wire.specs.credits.Window.{granted}

@@ -1,5 +1,5 @@
 -- A Serve of a dialog's request leaves a world tied.
-use Rattle.std.proofs.Common.{◌≡◌, ℕ, ◌+◌, ◌-◌, ◌≤◌, ◌==◌, Bool, true, false, ◌&&◌, if◌then◌else◌, List, [], ◌∷◌, ◌++◌, length}
+use Rattle.std.proofs.Common.{◌≡◌, ℕ, ◌+◌, ◌≤◌, ◌==◌, Bool, true, false, ◌&&◌, if◌then◌else◌, List, [], ◌∷◌, ◌++◌, length}
 use Rattle.std.proofs.Common.{refl, sym, ap, ◌∙◌, subst, eqb-true, arith, Option, Some, None, Result, Ok}
 use Rattle.spec_wire.specs.declared.messages.error.MessageError.{MessageError}
 use Rattle.spec_wire.specs.messages.TreeConnect.{tree_connect_request_in, tree_connect_request_fault}

@@ -1,5 +1,5 @@
 -- A dialog goes on: its next SESSION_SETUP waits for the server's end, as it was made.
-use Rattle.std.proofs.Common.{◌≡◌, ℕ, ◌+◌, ◌<◌, ◌^◌, ◌==◌, Bool, true, false, if◌then◌else◌, List, [], ◌∷◌, ◌++◌, refl}
+use Rattle.std.proofs.Common.{◌≡◌, ℕ, ◌<◌, ◌^◌, ◌==◌, Bool, true, false, if◌then◌else◌, List, [], ◌∷◌, ◌++◌, refl}
 use Rattle.std.proofs.Common.{sym, ap, ◌∙◌, subst, arith, Some, None, is_some}
 use Rattle.spec_exchange.specs.Table.{put}
 use Rattle.spec_exchange.specs.Operations.{Op}

@@ -1,6 +1,6 @@
 -- What the whole look at a frame leaves: NEGOTIATE's greeting and what is in the making stay, each message that isn't a NEGOTIATE
 -- stands behind a greeting, and a fault is ACCESS_DENIED.
-use Rattle.std.proofs.Common.{◌≡◌, ℕ, Bool, true, false, not, ◌&&◌, ◌||◌, if◌then◌else◌, List, [], ◌∷◌, refl}
+use Rattle.std.proofs.Common.{◌≡◌, ℕ, Bool, true, false, not, ◌&&◌, if◌then◌else◌, List, [], ◌∷◌, refl}
 use Rattle.std.proofs.Common.{Option, Some, None, is_some, Result, Ok, Err}
 use Rattle.law_server.proofs.tables.Logic.{either}
 use Rattle.spec_world.specs.Messages.{HeardMessage}

@@ -1,11 +1,11 @@
 -- Which effects of the server leave the numbers that sessions drew as they are.
-use Rattle.std.proofs.Common.{◌≡◌, ℕ, true}
+use Rattle.law_server.proofs.tables.Closing.{left_beside}
+use Rattle.std.proofs.Common.{◌≡◌, ℕ}
 use Rattle.std.proofs.Common.{refl, ◌∙◌, Option, Some, None, is_some}
-use Rattle.spec_exchange.specs.Commands.{CreateRequest, deletes_on_close}
+use Rattle.spec_exchange.specs.Commands.{CreateRequest}
 use Rattle.spec_exchange.specs.State.{Server, Message}
-use Rattle.spec_exchange.specs.Files.{set_delete_pending, remove_file, empty_file}
-use Rattle.spec_exchange.specs.Files.{file_attributes}
-use Rattle.spec_exchange.specs.Opens.{drop_open, leave_open, pending_behind, without_gone, goes}
+use Rattle.spec_exchange.specs.Files.{empty_file, file_attributes}
+use Rattle.spec_exchange.specs.Opens.{leave_open}
 use Rattle.spec_exchange.specs.CheckCreate.{empties}
 use Rattle.spec_exchange.specs.CheckOpen.{is_late, is_slot}
 use Rattle.spec_exchange.specs.Effects.{reach, keep_slot, attach, attached, keep_closed, change_file, file_made}
@@ -16,15 +16,8 @@ use Rattle.law_server.proofs.tables.Logic.{either}
 abbrev pub SameDrawn : Server → Server → Type 0
 SameDrawn s t = t.channel_numbers_drawn ≡ s.channel_numbers_drawn
 
-pending_drawn : (s : Server) (o : ℕ) → SameDrawn s (pending_behind s o)
-pending_drawn s o = either (λ t. t.channel_numbers_drawn ≡ s.channel_numbers_drawn)
-    (deletes_on_close (s.opened o).options) (set_delete_pending s (s.opened o).file true) s (λ _. refl) (λ _. refl)
-
-gone_drawn : (s : Server) (f : ℕ) → SameDrawn s (without_gone s f)
-gone_drawn s f = either (λ t. t.channel_numbers_drawn ≡ s.channel_numbers_drawn) (goes s f) (remove_file s f) s (λ _. refl) (λ _. refl)
-
 pub left_drawn : (s : Server) (o : ℕ) → SameDrawn s (leave_open s o)
-left_drawn s o = gone_drawn (drop_open (pending_behind s o) o) (s.opened o).file ∙ pending_drawn s o
+left_drawn s o = (left_beside s o).channel_numbers_drawn
 
 pub reached_drawn : (s : Server) (m : Message) (o : ℕ) → SameDrawn s (reach s m o)
 reached_drawn s m o = either (λ t. t.channel_numbers_drawn ≡ s.channel_numbers_drawn) (is_late s m o) s _ (λ _. refl) (λ _. refl)

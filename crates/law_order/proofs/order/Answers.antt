@@ -24,7 +24,7 @@ use Rattle.law_order.specs.order.Newest.{Pair, LowSequences}
 use Rattle.law_order.proofs.order.Sound.{Sound, sound, sound_without_room}
 use Rattle.law_order.proofs.order.Pairs.{shut_left, Alike, Moves, same, moves_alike, moves_on, expire_moves, shut_moves}
 use Rattle.law_order.proofs.order.Pairs.{in_time, reach_moves, attached_moves, slot_alike, change_alike, file_alike}
-use Rattle.law_order.proofs.order.Pairs.{end_moves, end_named_moves, begun_pair, deadlines_moves, gone_alike, pending_alike}
+use Rattle.law_order.proofs.order.Pairs.{end_moves, end_named_moves, begun_pair, deadlines_moves, settled_alike, pending_alike}
 use Rattle.law_order.proofs.order.Pairs.{expired_alike, Still, still_same, still_alike, still_on, still_shut, still_end}
 use Rattle.law_order.proofs.order.Pairs.{still_end_named, still_expire, still_deadlines, content_expire}
 
@@ -458,21 +458,21 @@ drop_at : (s : Server) (p o x : ℕ) → put s.session_of_open p None o ≡ Some
 drop_at s p o x e = grind arith
 
 leave_at : (s : Server) (p o x : ℕ) → (leave_open s p).session_of_open o ≡ Some x → s.session_of_open o ≡ Some x
-leave_at s p o x e = let a = gone_alike (drop_open (pending_behind s p) p) (s.opened p).file in
+leave_at s p o x e = let a = settled_alike (drop_open (pending_behind s p) p) (s.opened p).file in
     let b = pending_alike s p in drop_at s p o x (ap (λ f. put f p None o) (sym b.session_of_open)
     ∙ (ap (λ f. f o) (sym a.session_of_open) ∙ e))
 
 leave_present : (s : Server) (p : ℕ) → (leave_open s p).present ≡ s.present
-leave_present s p = let a = gone_alike (drop_open (pending_behind s p) p) (s.opened p).file in let b = pending_alike s p
+leave_present s p = let a = settled_alike (drop_open (pending_behind s p) p) (s.opened p).file in let b = pending_alike s p
     in a.present ∙ b.present
 
 leave_sequence : (s : Server) (p : ℕ) → (leave_open s p).sequence ≡ s.sequence
-leave_sequence s p = let a = gone_alike (drop_open (pending_behind s p) p) (s.opened p).file in
+leave_sequence s p = let a = settled_alike (drop_open (pending_behind s p) p) (s.opened p).file in
     let b = pending_alike s p in a.sequence ∙ b.sequence
 
 leave_on : (s : Server) (p o : ℕ) → (leave_open s p).standing o ≡ true → (leave_open s p).session_of_open o ≡ s.session_of_open o
 leave_on s p o h =
-    let a = gone_alike (drop_open (pending_behind s p) p) (s.opened p).file in let b = pending_alike s p in
+    let a = settled_alike (drop_open (pending_behind s p) p) (s.opened p).file in let b = pending_alike s p in
     ap (λ f. f o) a.session_of_open ∙ dropped (pending_behind s p).standing (pending_behind s p).session_of_open p o
     (ap (λ f. f o) (sym a.standing) ∙ h) ∙ ap (λ f. f o) b.session_of_open
   where

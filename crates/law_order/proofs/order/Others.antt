@@ -16,6 +16,7 @@ use Rattle.spec_exchange.specs.Fold.{fold, fold_from, with_record, begin_epoch, 
 use Rattle.spec_exchange.specs.Fold.{created_file, lock_granted, shut_recorded, recovered_from, recovery_records}
 use Rattle.spec_exchange.specs.Fold.{nothing_yet, may_create, may_have_open, is_file, may_rename, may_remove}
 use Rattle.spec_exchange.specs.Fold.{opening_records}
+use Rattle.law_records.proofs.recovery.Marks.{opened_same}
 use Rattle.spec_exchange.specs.Status.{success}
 use Rattle.spec_exchange.specs.Content.{is_empty}
 use Rattle.spec_exchange.specs.Commands.{all_lock, all_unlock}
@@ -239,7 +240,8 @@ version_epoch s n = either (λ (t : Server). t.epoch ≡ s.epoch) ((n == 2) && (
 recorded_epoch : (d : Server) → (fold_from d (opening_records d)).epoch ≡ d.epoch + 1
 unfolding fold_from
 recorded_epoch d =
-    either (λ (rs : List Record). (fold_from d rs).epoch ≡ d.epoch + 1) (d.version == 1)
+    ap (λ (t : Server). t.epoch) (opened_same d)
+    ∙ either (λ (rs : List Record). (fold_from d rs).epoch ≡ d.epoch + 1) (d.version == 1)
     (VersionRecord 2 ∷ EpochRecord (d.epoch + 1) ∷ []) (EpochRecord (d.epoch + 1) ∷ [])
     (λ _. let v = version_epoch d 2 in epoch_begun (set_version d 2) (d.epoch + 1) (grind arith)) (λ _. epoch_begun d (d.epoch + 1) refl)
 

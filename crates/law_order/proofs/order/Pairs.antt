@@ -1,7 +1,7 @@
 -- What the server does keeps every pair that reached an open: while the open stands and the pair's session is there, the
 -- open is attached in that session, at this sequence or a newer one.
 use Rattle.spec_exchange.specs.Effects.{leave_all, keep_all_closed, close_all, opens_of_tree, drop_tree}
-use Rattle.law_server.proofs.tables.Closing.{closed_beside, closed_fewer}
+use Rattle.law_server.proofs.tables.Closing.{closed_beside, closed_fewer, left_beside, left_fewer}
 use Rattle.std.proofs.lemmas.Bool.Decides.{nat_tests}
 use Rattle.std.proofs.Common.{◌≡◌, ◌≢◌, ℕ, ◌≤◌, nat_lt, Bool, true, false, not, ◌&&◌, List, [], ◌∷◌, refl, arith, sym, ◌∙◌, ap}
 use Rattle.std.proofs.Common.{Option, Some, None, is_some}
@@ -9,7 +9,7 @@ use Rattle.spec_exchange.specs.Table.{put}
 use Rattle.spec_exchange.specs.Commands.{CreateRequest, SetupRequest, deletes_on_close}
 use Rattle.spec_exchange.specs.State.{Server, Message, Making}
 use Rattle.spec_exchange.specs.Files.{set_delete_pending, remove_file}
-use Rattle.spec_exchange.specs.Opens.{drop_open, pending_behind, leave_open, without_gone, goes, with_guid}
+use Rattle.spec_exchange.specs.Opens.{drop_open, pending_behind, leave_open, without_gone, is_kept_back, left_file, goes, with_guid}
 use Rattle.spec_exchange.specs.CheckCreate.{empties}
 use Rattle.spec_exchange.specs.CheckOpen.{is_stale, is_late, is_slot}
 use Rattle.spec_exchange.specs.CheckSetup.{is_new}
@@ -134,12 +134,25 @@ gone_alike s f = either (Alike s) (goes s f) (remove_file s f) s (λ _. record {
   opened = refl;
 }) (λ _. same s)
 
+pub settled_alike : (s : Server) (f : ℕ) → Alike s (left_file s f)
+settled_alike s f = either (Alike s) (is_kept_back s f) (set_delete_pending s f false) (without_gone s f) (λ _. record {
+  standing = refl;
+  present = refl;
+  session_of_open = refl;
+  sequence = refl;
+  epoch = refl;
+  open_ids_given = refl;
+  making = refl;
+  by_guid = refl;
+  opened = refl;
+}) (λ _. gone_alike s f)
+
 pub leave_moves : (s : Server) (o : ℕ) → Moves s (leave_open s o)
 leave_moves s o =
     moves_on s (pending_behind s o) (leave_open s o) (moves_alike s (pending_behind s o) (pending_alike s o))
     (moves_on (pending_behind s o) (drop_open (pending_behind s o) o) (leave_open s o)
     (drop_moves (pending_behind s o) o)
-    (moves_alike _ _ (gone_alike (drop_open (pending_behind s o) o) (s.opened o).file)))
+    (moves_alike _ _ (settled_alike (drop_open (pending_behind s o) o) (s.opened o).file)))
 
 pub expired_alike : (s : Server) (client : ℕ) (guid : Option ℕ) → Alike s (add_expired_guid s client guid)
 expired_alike s client None = same s
@@ -411,7 +424,7 @@ deadlines_moves s now = moves_alike s (with_deadlines s now) (record {
 -- it has left
 pub shut_left : (s : Server) (o session : ℕ) (guid : Option ℕ) → (keep_closed (leave_open s o) session guid).standing o ≡ false
 shut_left s o session guid =
-    let a = closed_alike (leave_open s o) session guid in let b = gone_alike (drop_open (pending_behind s o) o) (s.opened o).file in
+    let a = closed_alike (leave_open s o) session guid in let b = settled_alike (drop_open (pending_behind s o) o) (s.opened o).file in
     ap (λ f. f o) a.standing ∙ (ap (λ f. f o) b.standing ∙ put_self (pending_behind s o).standing o)
   where
     put_self : (f : ℕ → Bool) (p : ℕ) → put f p false p ≡ false
@@ -439,24 +452,11 @@ still_alike s t a q = record {
   sequence = λ o. let l = ap (λ f. f o) q in omega (arith, l);
 }
 
-still_drop : (s : Server) (o : ℕ) → Still s (drop_open s o)
-still_drop s o = record { session_of_open = λ p x e. dropped s.session_of_open o p x e; sequence = λ p. omega arith }
-  where
-    dropped : (f : ℕ → Option ℕ) (o p x : ℕ) → put f o None p ≡ Some x → f p ≡ Some x
-    dropped f o p x e = grind arith
-
-still_gone : (s : Server) (f : ℕ) → Still s (without_gone s f)
-still_gone s f = either (Still s) (goes s f) (remove_file s f) s (λ _. still_alike s _ refl refl) (λ _. still_same s)
-
-still_pending : (s : Server) (o : ℕ) → Still s (pending_behind s o)
-still_pending s o = either (Still s) (deletes_on_close (s.opened o).options)
-    (set_delete_pending s (s.opened o).file true) s (λ _. still_alike s _ refl refl) (λ _. still_same s)
-
 pub still_leave : (s : Server) (o : ℕ) → Still s (leave_open s o)
-still_leave s o =
-    still_on s (pending_behind s o) (leave_open s o) (still_pending s o)
-    (still_on (pending_behind s o) (drop_open (pending_behind s o) o) (leave_open s o)
-    (still_drop (pending_behind s o) o) (still_gone (drop_open (pending_behind s o) o) (s.opened o).file))
+still_leave s o = record {
+  session_of_open = (left_fewer s o).session_of_open;
+  sequence = λ p. let l = ap (λ (f : ℕ → ℕ). f p) (left_beside s o).sequence in omega (arith, l);
+}
 
 still_expired : (s : Server) (client : ℕ) (guid : Option ℕ) → Still s (add_expired_guid s client guid)
 still_expired s client None = still_same s
@@ -494,12 +494,7 @@ still_deadlines s now = still_alike s _ refl refl
 -- ---- and no byte changes
 
 pub content_leave : (s : Server) (o : ℕ) → (leave_open s o).content ≡ s.content
-content_leave s o =
-    gone (drop_open (pending_behind s o) o) (s.opened o).file ∙ either (λ (t : Server). t.content ≡ s.content)
-    (deletes_on_close (s.opened o).options) (set_delete_pending s (s.opened o).file true) s (λ _. refl) (λ _. refl)
-  where
-    gone : (s : Server) (f : ℕ) → (without_gone s f).content ≡ s.content
-    gone s f = either (λ (t : Server). t.content ≡ s.content) (goes s f) (remove_file s f) s (λ _. refl) (λ _. refl)
+content_leave s o = (left_beside s o).content
 
 pub content_expire : (s : Server) (o : ℕ) → (expire s o).content ≡ s.content
 content_expire s o = guid_added (leave_open s o) (s.opened o).client_guid (s.opened o).create_guid ∙ content_leave s o

@@ -2,7 +2,7 @@
 use Rattle.std.proofs.Common.{eqb-true, ◌≡◌, ℕ, ◌+◌, ◌≤◌, ◌==◌, Bool, true, false, not, ◌&&◌, if◌then◌else◌, List, []}
 use Rattle.std.proofs.Common.{◌∷◌, refl, arith, sym, subst, ◌∙◌, ap, Some, slice_get}
 use Rattle.spec_exchange.specs.Table.{put, is_filled}
-use Rattle.spec_exchange.specs.Fold.{fold_from, sweep, recovered_from}
+use Rattle.spec_exchange.specs.Fold.{fold_from, sweep, recovered_from, unmark_records}
 use Rattle.spec_exchange.specs.Texts.{same_name}
 use Rattle.spec_exchange.specs.CheckSetup.{pipes_name}
 use Rattle.spec_exchange.specs.Operations.{NoSession}
@@ -112,7 +112,7 @@ keeps w a (Finish refusal) f i = either (λ v. ContentsHold v a) (not w.client.l
 -- ---- at the start
 
 begins : (z : Settings) → ContentsHold (start z) (λ g. 0)
-unfolding fold_from sweep
+unfolding fold_from sweep unmark_records
 begins z =
     record {
       token_up = λ j n x h. absurd (cc);

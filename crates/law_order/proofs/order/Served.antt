@@ -1,4 +1,5 @@
 -- What an answer to a read, a write or an end says and does, and one to a request to attach an open.
+use Rattle.law_server.proofs.tables.Closing.{left_beside}
 use Rattle.law_sessions.proofs.sessions.Trees.{before_tied}
 use Rattle.std.proofs.lemmas.Bool.Decides.{nat_tests}
 use Rattle.std.proofs.Common.{inl, inr, ◌≡◌, ◌≢◌, ℕ, ◌≤◌, ◌<◌, ◌==◌, nat_lt, Bool, true, false, not, ◌&&◌}
@@ -8,10 +9,9 @@ use Rattle.spec_exchange.specs.Texts.{same_name}
 use Rattle.spec_exchange.specs.Status.{success, user_session_deleted, file_closed, file_not_available, end_of_file}
 use Rattle.spec_exchange.specs.Content.{ContentOp, Write as Writes, Read as Reads, SetEnd as Ends, Still, is_change}
 use Rattle.spec_exchange.specs.Content.{effect, value, past_end, written, ended}
-use Rattle.spec_exchange.specs.Commands.{Create, CreateRequest, Reconnect, form, deletes_on_close}
+use Rattle.spec_exchange.specs.Commands.{Create, CreateRequest, Reconnect, form}
 use Rattle.spec_exchange.specs.State.{Server, Message, Heard, Record, Answer, Body}
-use Rattle.spec_exchange.specs.Files.{set_delete_pending, remove_file}
-use Rattle.spec_exchange.specs.Opens.{is_of_session, leave_open, drop_open, pending_behind, without_gone, goes}
+use Rattle.spec_exchange.specs.Opens.{is_of_session, leave_open}
 use Rattle.spec_exchange.specs.CheckCreate.{has_guid}
 use Rattle.spec_exchange.specs.CheckOpen.{is_late, file_of}
 use Rattle.spec_exchange.specs.CheckSetup.{tree_in}
@@ -277,17 +277,7 @@ before_low : (s t : Server) → Earlier s t → LowSequences s → LowSequences 
 before_low s t k low = k.moves.low low
 
 leave_trees : (s : Server) (o : ℕ) → (leave_open s o).trees ≡ s.trees × (leave_open s o).user ≡ s.user
-leave_trees s o = let g = gone_trees (drop_open (pending_behind s o) o) (s.opened o).file in let k = pending_trees s o
-    in (g.0 ∙ k.0, g.1 ∙ k.1)
-  where
-    gone_trees : (s : Server) (f : ℕ) → (without_gone s f).trees ≡ s.trees × (without_gone s f).user ≡ s.user
-    gone_trees s f = either (λ (t : Server). t.trees ≡ s.trees × t.user ≡ s.user) (goes s f) (remove_file s f) s
-        (λ _. (refl, refl)) (λ _. (refl, refl))
-
-    pending_trees : (s : Server) (o : ℕ) → (pending_behind s o).trees ≡ s.trees × (pending_behind s o).user ≡ s.user
-    pending_trees s o = either (λ (t : Server). t.trees ≡ s.trees × t.user ≡ s.user)
-        (deletes_on_close (s.opened o).options) (set_delete_pending s (s.opened o).file true) s (λ _. (refl, refl))
-        (λ _. (refl, refl))
+leave_trees s o = let b = left_beside s o in (b.trees, b.user)
 
 expire_trees : (s : Server) (o : ℕ) → (expire s o).trees ≡ s.trees × (expire s o).user ≡ s.user
 expire_trees s o = by_guid (s.opened o).create_guid
@@ -306,12 +296,7 @@ before_user s now t (inl e) = ap (λ (u : Server). u.user) e
 before_user s now t (inr (o, d, e)) = ap (λ (u : Server). u.user) e ∙ (expire_trees (with_deadlines s now) o).1
 
 leave_at_on : (s : Server) (o : ℕ) → (leave_open s o).session_on ≡ s.session_on
-leave_at_on s o = gone (drop_open (pending_behind s o) o) (s.opened o).file
-    ∙ either (λ (t : Server). t.session_on ≡ s.session_on) (deletes_on_close (s.opened o).options)
-    (set_delete_pending s (s.opened o).file true) s (λ _. refl) (λ _. refl)
-  where
-    gone : (s : Server) (f : ℕ) → (without_gone s f).session_on ≡ s.session_on
-    gone s f = either (λ (t : Server). t.session_on ≡ s.session_on) (goes s f) (remove_file s f) s (λ _. refl) (λ _. refl)
+leave_at_on s o = (left_beside s o).session_on
 
 before_on : (s : Server) (now : ℕ) (t : Server) → Before s now t → t.session_on ≡ s.session_on
 before_on s now t (inl e) = ap (λ (u : Server). u.session_on) e

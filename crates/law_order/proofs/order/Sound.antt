@@ -7,6 +7,7 @@ use Rattle.spec_exchange.specs.Commands.{Command, Aside, Unreadable, Setup, Logo
 use Rattle.spec_exchange.specs.Commands.{Close, Flush, Read, Write, Lock, Ioctl, ListDirectory, QueryFile, QueryVolume}
 use Rattle.spec_exchange.specs.Commands.{SetInfo, CreateRequest, Durable, Reconnect, SetupRequest, Shows, Begins, Bad}
 use Rattle.spec_exchange.specs.Commands.{Refused, Logon, Setting, SetBasic, Rename, SetDelete, SetAllocation, SetEnd}
+use Rattle.spec_exchange.specs.Commands.{SetPosition, SetMode}
 use Rattle.spec_exchange.specs.Commands.{Element, form, is_setup, no_file}
 use Rattle.spec_exchange.specs.State.{Server, Message, Body, Empty, Named}
 use Rattle.spec_exchange.specs.Ranges.{RangeAnswer, Stands, Denied}
@@ -222,6 +223,8 @@ setting_sound s m o (SetDelete flag) on t =
 setting_sound s m o (SetAllocation size) on t = size_sound s m o (allocated size (length (s.content (file_of s o))))
     (allocation_change s (file_of s o) size) on t
 setting_sound s m o (SetEnd size) on t = size_sound s m o size (PutEnd size) on t
+setting_sound s m o (SetPosition position) on t = record { is = on }
+setting_sound s m o SetMode on t = record { is = on }
 
 set_sound : (s : Server) (m : Message) (o : ℕ) (setting : Setting) → On s m o → Sound s m (set_check s m o setting)
 set_sound s m o setting on = either (Sound s m) (is_late s m o) _ _ (λ _. record { is = tt }) (λ t. setting_sound s m o setting on t)
@@ -268,8 +271,11 @@ tree_sound s m pipes (ListDirectory o class restart single pattern room) =
 tree_sound s m pipes (QueryFile o class room) = open_sound s m o _
     (λ on. either (Sound s m) (needs_attributes class && not (has_access s o 0x80)) _ _ (λ _. record {
       is = on;
-    }) (λ _. either (Sound s m) (nat_lt room (file_info_size class (path_of s (file_of s o)))) _ _
-    (λ _. record { is = on }) (λ _. record { is = on })))
+    }) (λ _. either (Sound s m) (class == 21) _ _ (λ _. record {
+      is = on;
+    }) (λ _. either (Sound s m)
+    (nat_lt room (file_info_size class (is_directory s (file_of s o)) (path_of s (file_of s o)))) _ _
+    (λ _. record { is = on }) (λ _. record { is = on }))))
 tree_sound s m pipes (QueryVolume o class room) = open_sound s m o _
     (λ on. either (Sound s m) (nat_lt room (volume_info_size class)) _ _ (λ _. record { is = on }) (λ _. record {
       is = on;

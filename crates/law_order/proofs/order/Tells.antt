@@ -1,4 +1,5 @@
 -- What a success says to a create's own message: its open was made now, or its guid names the one that it tells.
+use Rattle.law_server.proofs.tables.Closing.{left_beside}
 use Rattle.std.proofs.Common.{◌⊎◌, inl, inr, ◌≡◌, ℕ, ◌==◌, nat_le, Bool, true, false, not, ◌&&◌, ◌||◌, refl, arith, sym}
 use Rattle.std.proofs.Common.{subst, ◌∙◌, ap, Option, Some, None, is_some}
 use Rattle.spec_exchange.specs.Table.{is_at}
@@ -6,8 +7,8 @@ use Rattle.spec_exchange.specs.Texts.{same_name}
 use Rattle.spec_exchange.specs.Status.{success}
 use Rattle.spec_exchange.specs.Commands.{Create, CreateRequest, Durable, deletes_on_close, form, create_form, path_form, is_setup}
 use Rattle.spec_exchange.specs.State.{Server, Message, Heard, Answer}
-use Rattle.spec_exchange.specs.Files.{find, set_delete_pending, remove_file}
-use Rattle.spec_exchange.specs.Opens.{deletes, mapped, leave_open, drop_open, pending_behind, without_gone, goes}
+use Rattle.spec_exchange.specs.Files.{find}
+use Rattle.spec_exchange.specs.Opens.{deletes, mapped, leave_open}
 use Rattle.spec_exchange.specs.Operations.{id_in}
 use Rattle.spec_exchange.specs.CheckCreate.{shares, keeps_guid, max_guids, is_counted_out, refused_by, after_names}
 use Rattle.spec_exchange.specs.CheckCreate.{names, new_check, live_check, refusal_check, guid_check, durable_check}
@@ -160,12 +161,7 @@ tells_at s m d now (AddTree pipes) h f = absurd (h.is)
 tells_at s m d now DropTree h f = absurd (h.is)
 
 leave_refused : (s : Server) (o : ℕ) → (leave_open s o).refused ≡ s.refused
-leave_refused s o = gone (drop_open (pending_behind s o) o) (s.opened o).file
-    ∙ either (λ (t : Server). t.refused ≡ s.refused) (deletes_on_close (s.opened o).options)
-    (set_delete_pending s (s.opened o).file true) s (λ _. refl) (λ _. refl)
-  where
-    gone : (s : Server) (f : ℕ) → (without_gone s f).refused ≡ s.refused
-    gone s f = either (λ (t : Server). t.refused ≡ s.refused) (goes s f) (remove_file s f) s (λ _. refl) (λ _. refl)
+leave_refused s o = (left_beside s o).refused
 
 before_refused : (s : Server) (now : ℕ) (t : Server) → Before s now t → t.refused ≡ s.refused
 before_refused s now t (inl e) = ap (λ (u : Server). u.refused) e

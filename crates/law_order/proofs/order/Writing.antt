@@ -10,6 +10,7 @@ use Rattle.spec_exchange.specs.Commands.{Command, Aside, Unreadable, Setup, Logo
 use Rattle.spec_exchange.specs.Commands.{Close, Flush, Read, Write, Lock, Ioctl, ListDirectory, QueryFile, QueryVolume}
 use Rattle.spec_exchange.specs.Commands.{SetInfo, CreateRequest, Setting, SetBasic, Rename, SetDelete, SetAllocation}
 use Rattle.spec_exchange.specs.Commands.{SetEnd}
+use Rattle.spec_exchange.specs.Commands.{SetPosition, SetMode}
 use Rattle.spec_exchange.specs.State.{Server, Message, Heard, Record, Answer, Body, Open}
 use Rattle.spec_exchange.specs.Files.{root, exists, exists_in, empty_file}
 use Rattle.spec_exchange.specs.Files.{file_attributes}
@@ -171,6 +172,8 @@ setting_asks s m o (SetEnd size) change e c h = inr (h.access, ap (λ x. writes_
   where
     same_test : (o : ℕ) → (o == o) ≡ true
     same_test o = grind arith
+setting_asks s m o (SetPosition position) change e c h = inl (ap alters_bytes c)
+setting_asks s m o SetMode change e c h = inl (ap alters_bytes c)
 
 alter_asks : (s : Server) (m : Message) (o : ℕ) (change : Change) (body : Body) → WriteFacts s m o change body
     ⊎ SettingFacts s m o change body → Asks s m o change

@@ -25,12 +25,14 @@ use Rattle.spec_exchange.specs.Fold.{may_replace, may_rename, may_remove, fold_f
 use Rattle.spec_exchange.specs.Listing.{any_tail, after_character, one_character, one_byte, matches, accepts, rank}
 use Rattle.spec_exchange.specs.Listing.{listed_before, insert_named, children, parent_file, all_named, is_behind}
 use Rattle.spec_exchange.specs.Listing.{wanted, entry_part, entry_size, next_multiple, fitting, first_of_them}
-use Rattle.spec_exchange.specs.Listing.{one_or_all, last_name, file_info_size, volume_info_size}
+use Rattle.spec_exchange.specs.Listing.{one_or_all, last_name, is_short_class, streams_size, file_info_size}
+use Rattle.spec_exchange.specs.Listing.{volume_info_size}
 use Rattle.spec_exchange.specs.Network.{run}
 use Rattle.spec_exchange.specs.Opens.{bits_if, mapped, reads, writes, deletes, is_shared, denies_writers, opens_in}
 use Rattle.spec_exchange.specs.Opens.{admits, file_has_open, goes, pending_records, shut_records, gone_records}
-use Rattle.spec_exchange.specs.Opens.{leave_records}
-use Rattle.spec_exchange.specs.Opens.{mapped_read_only, granted}
+use Rattle.spec_exchange.specs.Opens.{leave_records, mapped_read_only, granted, is_kept_back, left_file_records}
+use Rattle.spec_exchange.specs.Fold.{is_left_pending, mark_records, unmark_records}
+use Rattle.spec_exchange.specs.Files.{is_found_pending, has_pending_parent}
 use Rattle.spec_exchange.specs.Operations.{names_in, are_below, is_text, is_spelled_path}
 use Rattle.spec_exchange.specs.Order.{order_from, Replays, count, precedes}
 use Rattle.spec_exchange.specs.Ranges.{overlaps, is_denied, any_wraps, count_owned, add_ranges, prepended, take_range}
@@ -51,7 +53,8 @@ use Rattle.spec_exchange.specs.Texts.{is_plain, is_component, components_from, i
 use Rattle.law_outcomes.specs.scripts.Scripts.{is_quiet_script, has_given_up}
 
 unfoldable pub computed : ℕ
-unfolding found_names missing_names found_attributes missing_attributes names_of_found names is_counted_out open_below target_refused rename_names
+unfolding is_kept_back left_file_records is_left_pending mark_records unmark_records is_found_pending has_pending_parent
+    found_names missing_names found_attributes missing_attributes names_of_found names is_counted_out open_below target_refused rename_names
     delete_names basic_names listing_of count_channels waits has_free settle_no_slots has_bit deletes_on_close path_form padded
     is_empty written ended effect value past_end is_change touches is_listed meets collides same_bytes timeout_of
     new_open create_records lock_records change_records is_touched_at plain_in leave_all staying_in ranges_staying
@@ -62,7 +65,7 @@ unfolding found_names missing_names found_attributes missing_attributes names_of
     may_set_times sweep may_make may_restore may_have_open may_create is_file same_target may_replace may_rename may_remove
     fold_from persistent_in ranges_that_stay any_tail after_character one_character one_byte matches accepts rank
     listed_before insert_named children parent_file all_named is_behind wanted entry_part entry_size next_multiple
-    fitting first_of_them one_or_all last_name file_info_size volume_info_size run bits_if mapped mapped_read_only granted reads writes deletes
+    fitting first_of_them one_or_all last_name is_short_class streams_size file_info_size volume_info_size run bits_if mapped mapped_read_only granted reads writes deletes
     is_shared denies_writers opens_in admits file_has_open goes pending_records shut_records gone_records leave_records
     names_in are_below is_text is_spelled_path is_utf8 chars order_from Replays count precedes overlaps is_denied
     any_wraps count_owned add_ranges prepended take_range take_ranges stands_or lock_ranges unlock_ranges change_ranges

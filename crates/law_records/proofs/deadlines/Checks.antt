@@ -17,8 +17,9 @@ use Rattle.spec_exchange.specs.CheckSetup.{second_token, session_check, setup_ch
 use Rattle.spec_exchange.specs.Commands.{Aside, Bad, Begins, Close, Command, Create, CreateRequest, Durable, Flush, Ioctl, ListDirectory}
 use Rattle.spec_exchange.specs.Commands.{Lock, Logoff, Logon, QueryFile, QueryVolume, Read, Reconnect, Refused, Rename, SetAllocation}
 use Rattle.spec_exchange.specs.Commands.{SetBasic, SetDelete, SetEnd, SetInfo, Setting, Setup, SetupRequest, Shows, TreeConnect}
+use Rattle.spec_exchange.specs.Commands.{SetPosition, SetMode}
 use Rattle.spec_exchange.specs.Commands.{deletes_on_close, TreeDisconnect, Unreadable, Write, Element, form, is_setup}
-use Rattle.spec_exchange.specs.Files.{find, has_parent, root, info_of, is_directory, is_found_directory}
+use Rattle.spec_exchange.specs.Files.{find, has_parent, has_pending_parent, root, info_of, is_directory, is_found_directory, is_found_pending}
 use Rattle.spec_exchange.specs.Files.{is_full_directory, passes_room, path_of, used}
 use Rattle.spec_exchange.specs.Files.{is_read_only, exists}
 use Rattle.spec_exchange.specs.Listing.{all_named, children, fitting, one_or_all, parent_file, wanted, insert_named}
@@ -27,7 +28,7 @@ use Rattle.spec_exchange.specs.Opens.{granted}
 use Rattle.spec_exchange.specs.Status.{access_denied, disk_full, duplicate_objectid, file_lock_conflict}
 use Rattle.spec_exchange.specs.Status.{file_not_available, insufficient_resources}
 use Rattle.spec_exchange.specs.Status.{file_closed, invalid_device_request, invalid_parameter, object_name_collision, object_name_not_found}
-use Rattle.spec_exchange.specs.Status.{object_path_not_found, request_not_accepted, user_session_deleted}
+use Rattle.spec_exchange.specs.Status.{object_path_not_found, delete_pending, request_not_accepted, user_session_deleted}
 use Rattle.spec_exchange.specs.Ranges.{may_write}
 use Rattle.spec_exchange.specs.Content.{is_empty}
 use Rattle.spec_exchange.specs.State.{Accept, Count, Empty, End, Entry, Heard, Message, Named, Server, ServerEvent, Stop}
@@ -59,6 +60,15 @@ parent : (s : Server) (f : ℕ → Option ℕ) (path : List ℕ) → has_parent 
 unfolding has_parent
 parent s f path = ap (is_found_directory (with s f)) (found s f (parent_of path)) ∙ found_directory s f (find s (parent_of path))
 
+found_pending : (s : Server) (f : ℕ → Option ℕ) (o : Option ℕ) → is_found_pending (with s f) o ≡ is_found_pending s o
+unfolding is_found_pending
+found_pending s f None = refl
+found_pending s f (Some g) = refl
+
+pending_parent : (s : Server) (f : ℕ → Option ℕ) (path : List ℕ) → has_pending_parent (with s f) path ≡ has_pending_parent s path
+unfolding has_pending_parent
+pending_parent s f path = ap (is_found_pending (with s f)) (found s f (parent_of path)) ∙ found_pending s f (find s (parent_of path))
+
 found_name : (s : Server) (f : ℕ → Option ℕ) (r : CreateRequest) (o : Option ℕ) → names_of_found (with s f) r o ≡ names_of_found s r o
 unfolding names_of_found found_names found_attributes is_directory is_read_only exists granted
 found_name s f r None = refl
@@ -66,7 +76,8 @@ found_name s f r (Some g) = refl
 
 name : (s : Server) (f : ℕ → Option ℕ) (r : CreateRequest) (o : Option ℕ) → names (with s f) r o ≡ names s r o
 unfolding names
-name s f r o = either _ _ _ _ _ _ (ap (λ (b : Bool). is_some o || b) (parent s f r.path)) (found_name s f r o) refl
+name s f r o = either _ _ (Some object_path_not_found) _ _ _ (ap (λ (b : Bool). not (is_some o || b)) (parent s f r.path)) refl
+    (either _ _ (Some delete_pending) _ _ _ (pending_parent s f r.path) refl (found_name s f r o))
 
 -- ---- CREATE
 
@@ -212,10 +223,11 @@ renamed s f g replace path =
     either (g == root) _ (Some access_denied) _ _ _ refl refl
     (either (is_directory (with s f) g && is_below (path_of (with s f) g) path) _ (Some invalid_parameter) _ _ _ refl refl
     (either _ _ (Some object_path_not_found) _ _ _ (ap not (parent s f path)) refl
+    (either _ _ (Some delete_pending) _ _ _ (pending_parent s f path) refl
     (either _ _ (Some object_name_collision) _ _ _ (ap (λ (o : Option ℕ). is_some o && not replace) (found s f path)) refl
     (either _ _ (Some access_denied) _ _ _ (ap (λ (o : Option ℕ). target_refused (with s f) (target_of g o)) (found s f path)
     ∙ target s f (target_of g (find s path))) refl
-    (either _ _ (Some access_denied) None _ _ (ap (λ (b : Bool). is_directory s g && b) (below s f s.entries (path_of s g))) refl refl)))))
+    (either _ _ (Some access_denied) None _ _ (ap (λ (b : Bool). is_directory s g && b) (below s f s.entries (path_of s g))) refl refl))))))
 
 pathed : (s : Server) (f : ℕ → Option ℕ) (o : ℕ) (path : List ℕ) → path_change (with s f) o path ≡ path_change s o path
 pathed s f o path = ap (λ (n : Option ℕ). PutPath (target_of (file_of s o) n) path) (found s f path)
@@ -247,6 +259,8 @@ set s f m o (Rename replace path) =
 set s f m o (SetDelete flag) = refl
 set s f m o (SetAllocation size) = sized s f m o _ (allocation_change s (file_of s o) size)
 set s f m o (SetEnd size) = sized s f m o size (PutEnd size)
+set s f m o (SetPosition position) = refl
+set s f m o SetMode = refl
 
 set_checked : (s : Server) (f : ℕ → Option ℕ) (m : Message) (o : ℕ) (x : Setting) → set_check (with s f) m o x ≡ set_check s m o x
 set_checked s f m o x = either (is_late s m o) _ (Refuse file_not_available) _ _ _ refl refl (set s f m o x)

@@ -2,15 +2,15 @@
 use Rattle.std.proofs.Common.{◌≡◌, ℕ, ◌==◌, Bool, true, false, if◌then◌else◌, ◌∷◌, List, Option, Some, None, refl, ap, ◌∙◌}
 use Rattle.spec_exchange.specs.Commands.{deletes_on_close}
 use Rattle.spec_exchange.specs.Files.{exists, is_directory, is_full_directory, path_of, remove_file, set_delete_pending}
-use Rattle.spec_exchange.specs.Opens.{drop_open, file_has_open, goes, pending_behind, without_gone}
+use Rattle.spec_exchange.specs.Opens.{drop_open, file_has_open, goes, pending_behind, without_gone, is_kept_back, left_file}
 use Rattle.spec_exchange.specs.State.{ExpireRecord, Open, Origin, Record, Server}
 use Rattle.spec_exchange.specs.Step.{add_expired_guid, expire, expire_records, first_deadline, with_deadlines}
 use Rattle.law_records.proofs.deadlines.Checks.{with}
-use Rattle.law_records.proofs.deadlines.Opens.{gone_records_same}
+use Rattle.law_records.proofs.deadlines.Opens.{left_file_records_same}
 
 pub front : (s : Server) (f : ℕ → Option ℕ) (g : Origin) (o : ℕ) → expire_records (with s f) g o ≡ expire_records s g o
 unfolding expire_records
-front s f g o = ap (λ (rs : List Record). ExpireRecord g o ∷ rs) (gone_records_same s f g o)
+front s f g o = ap (λ (rs : List Record). ExpireRecord g o ∷ rs) (left_file_records_same s f g o)
 
 -- ---- it leaves as it stands, and each other open gets its deadline all the same
 
@@ -42,6 +42,15 @@ gone u now x = by (goes u x)
     by true = refl
     by false = refl
 
+settled : (u : Server) (now x : ℕ) → left_file (with_deadlines u now) x ≡ with_deadlines (left_file u x) now
+unfolding is_kept_back exists file_has_open is_full_directory is_directory path_of
+settled u now x = by (is_kept_back u x)
+  where
+    by : (b : Bool) → (if b then set_delete_pending (with_deadlines u now) x false else without_gone (with_deadlines u now) x)
+        ≡ with_deadlines (if b then set_delete_pending u x false else without_gone u x) now
+    by true = refl
+    by false = gone u now x
+
 kept : (u : Server) (now client : ℕ) (g : Option ℕ) → add_expired_guid (with_deadlines u now) client g
     ≡ with_deadlines (add_expired_guid u client g) now
 kept u now client None = refl
@@ -50,7 +59,7 @@ kept u now client (Some g) = refl
 pub expired : (s : Server) (now o : ℕ) → expire (with_deadlines s now) o ≡ with_deadlines (expire s o) now
 expired s now o =
     let x = (s.opened o).file in let c = (s.opened o).client_guid in let g = (s.opened o).create_guid in
-    ap (λ (u : Server). add_expired_guid (without_gone (drop_open u o) x) c g) (pend s now o)
-    ∙ (ap (λ (u : Server). add_expired_guid (without_gone u x) c g) (dropped (pending_behind s o) now o)
-    ∙ (ap (λ (u : Server). add_expired_guid u c g) (gone (drop_open (pending_behind s o) o) now x)
-    ∙ kept (without_gone (drop_open (pending_behind s o) o) x) now c g))
+    ap (λ (u : Server). add_expired_guid (left_file (drop_open u o) x) c g) (pend s now o)
+    ∙ (ap (λ (u : Server). add_expired_guid (left_file u x) c g) (dropped (pending_behind s o) now o)
+    ∙ (ap (λ (u : Server). add_expired_guid u c g) (settled (drop_open (pending_behind s o) o) now x)
+    ∙ kept (left_file (drop_open (pending_behind s o) o) x) now c g))

@@ -7,8 +7,9 @@ use Rattle.spec_exchange.specs.Effects.{end_if_named, end_records, ranges_stayin
 use Rattle.spec_exchange.specs.Files.{exists, is_directory, is_full_directory, path_of, remove_file, set_delete_pending}
 use Rattle.spec_exchange.specs.Opens.{drop_open, file_has_open, goes, gone_records, is_of_tree, leave_open, leave_records, pending_behind}
 use Rattle.spec_exchange.specs.Opens.{pending_records, shut_records, without_gone}
+use Rattle.spec_exchange.specs.Opens.{is_kept_back, left_file, left_file_records}
 use Rattle.spec_exchange.specs.Records.{origin_at}
-use Rattle.spec_exchange.specs.State.{Origin, Range, Record, Server}
+use Rattle.spec_exchange.specs.State.{DeleteRecord, Origin, Range, Record, Server}
 use Rattle.spec_exchange.specs.Step.{ends_with, forget_connection, last_session, take_all_records, take_out}
 use Rattle.spec_exchange.specs.Table.{put}
 use Rattle.law_records.proofs.deadlines.Checks.{with}
@@ -31,21 +32,38 @@ gone u f x = by (goes u x)
     by true = refl
     by false = refl
 
+settled : (u : Server) (f : ℕ → Option ℕ) (x : ℕ) → left_file (with u f) x ≡ with (left_file u x) f
+unfolding is_kept_back exists file_has_open is_full_directory is_directory path_of
+settled u f x = by (is_kept_back u x)
+  where
+    by : (b : Bool) → (if b then set_delete_pending (with u f) x false else without_gone (with u f) x)
+        ≡ with (if b then set_delete_pending u x false else without_gone u x) f
+    by true = refl
+    by false = gone u f x
+
 pub left : (s : Server) (f : ℕ → Option ℕ) (o : ℕ) → leave_open (with s f) o ≡ with (leave_open s o) (put f o None)
 left s f o =
-    ap (λ (u : Server). without_gone (drop_open u o) (s.opened o).file) (pend s f o)
-    ∙ gone (drop_open (pending_behind s o) o) (put f o None) (s.opened o).file
+    ap (λ (u : Server). left_file (drop_open u o) (s.opened o).file) (pend s f o)
+    ∙ settled (drop_open (pending_behind s o) o) (put f o None) (s.opened o).file
 
-pub gone_records_same : (s : Server) (f : ℕ → Option ℕ) (g : Origin) (o : ℕ)
-    → gone_records (drop_open (pending_behind (with s f) o) o) g (s.opened o).file
-    ≡ gone_records (drop_open (pending_behind s o) o) g (s.opened o).file
+gone_same : (u : Server) (f : ℕ → Option ℕ) (g : Origin) (x : ℕ) → gone_records (with u f) g x ≡ gone_records u g x
 unfolding gone_records goes exists file_has_open is_full_directory is_directory path_of
-gone_records_same s f g o = ap (λ (u : Server). gone_records (drop_open u o) g (s.opened o).file) (pend s f o)
+gone_same u f g x = refl
+
+settled_same : (u : Server) (f : ℕ → Option ℕ) (g : Origin) (x : ℕ) → left_file_records (with u f) g x ≡ left_file_records u g x
+unfolding left_file_records is_kept_back exists file_has_open is_full_directory is_directory path_of
+settled_same u f g x = ap (λ (rs : List Record). if is_kept_back u x then DeleteRecord g x false ∷ [] else rs) (gone_same u f g x)
+
+pub left_file_records_same : (s : Server) (f : ℕ → Option ℕ) (g : Origin) (o : ℕ)
+    → left_file_records (drop_open (pending_behind (with s f) o) o) g (s.opened o).file
+    ≡ left_file_records (drop_open (pending_behind s o) o) g (s.opened o).file
+left_file_records_same s f g o = ap (λ (u : Server). left_file_records (drop_open u o) g (s.opened o).file) (pend s f o)
+    ∙ settled_same (drop_open (pending_behind s o) o) (put f o None) g (s.opened o).file
 
 pub left_records : (s : Server) (f : ℕ → Option ℕ) (g : Origin) (o : ℕ) → leave_records (with s f) g o ≡ leave_records s g o
 unfolding leave_records pending_records shut_records
 left_records s f g o =
-    ap (λ (rs : List Record). pending_records s g o ++ (shut_records s g o ++ rs)) (gone_records_same s f g o)
+    ap (λ (rs : List Record). pending_records s g o ++ (shut_records s g o ++ rs)) (left_file_records_same s f g o)
 
 -- ---- several
 

@@ -29,7 +29,7 @@ alone_by law s now e =
     let d = with_deadlines s now in
     ap (λ (r : Ruling). where_it_fits d now r (carried_out d now r)) (law.ruled s now e)
     ∙ by_fit d now (ruling s e) (fits d (carried_out d now (ruling s e)).records) (fits s (carried_out s now (ruling s e)).records)
-    (same_fits s d (carried_out d now (ruling s e)).records refl ∙ ap (fits s) (law.owed s now (ruling s e)))
+    (same_fits s d (carried_out d now (ruling s e)).records refl refl ∙ ap (fits s) (law.owed s now (ruling s e)))
 
 pub records_by : Dated → (s : Server) (now : ℕ) (e : ServerEvent) → (event_answer (with_deadlines s now) now e).records
     ≡ (event_answer s now e).records
@@ -93,7 +93,7 @@ fit_is : Dated → (s : Server) (now o : ℕ) (e : ServerEvent)
     → fits (with_deadlines s now) (front_of s e o ++ (behind_of s now e o).records)
     ≡ fits s (front_of s e o ++ (carried_out (expire s o) now (ruling (expire s o) e)).records)
 fit_is law s now o e =
-    same_fits s (with_deadlines s now) (front_of s e o ++ (behind_of s now e o).records) refl
+    same_fits s (with_deadlines s now) (front_of s e o ++ (behind_of s now e o).records) refl refl
     ∙ ap (λ (rs : List Record). fits s (front_of s e o ++ rs)) (law.owed (expire s o) now (ruling (expire s o) e))
 
 pub behind_by : Dated → (s : Server) (now o : ℕ) (e : ServerEvent) → due (with_deadlines s now) now ≡ Some o

@@ -84,7 +84,7 @@ swept_before s (g ∷ fs) f h = there_before s g f (swept_before (without_gone s
 
 -- ---- without those that stay
 
-unfoldable kept : (ℕ → Bool) → List ℕ → List ℕ
+unfoldable pub kept : (ℕ → Bool) → List ℕ → List ℕ
 kept p [] = []
 kept p (x ∷ xs) = if p x then x ∷ kept p xs else kept p xs
 
@@ -102,7 +102,7 @@ swept_kept p u (x ∷ xs) h =
     (λ e. subst (λ (w : Server). swept_of w xs ≡ swept_of u (kept p xs))
     (sym (gone_same u x (no_may (may_go u x) (p x) (h x) e))) (swept_kept p u xs h))
 
-has_kept : (p : ℕ → Bool) (f : ℕ) (xs : List ℕ) → has f (kept p xs) ≡ (p f && has f xs)
+pub has_kept : (p : ℕ → Bool) (f : ℕ) (xs : List ℕ) → has f (kept p xs) ≡ (p f && has f xs)
 unfolding kept
 has_kept p f [] = none (p f)
   where
@@ -120,7 +120,7 @@ above_kept p n (x ∷ xs) h = by (p x) (above_kept p n xs (back_of (nat_lt n x) 
     by true old = both (nat_lt n x) (above n (kept p xs)) (front_of (nat_lt n x) (above n xs) h) old
     by false old = old
 
-kept_ascends : (p : ℕ → Bool) (xs : List ℕ) → is_ascending xs ≡ true → is_ascending (kept p xs) ≡ true
+pub kept_ascends : (p : ℕ → Bool) (xs : List ℕ) → is_ascending xs ≡ true → is_ascending (kept p xs) ≡ true
 unfolding kept
 kept_ascends p [] h = h
 kept_ascends p (x ∷ xs) h = by (p x) (kept_ascends p xs (ascending_rest x xs h))
@@ -157,7 +157,7 @@ tail_same x xs ys a b h = λ f. by f (x == f) refl (h f)
     by f true e i = subst (λ (z : ℕ). has z xs ≡ has z ys) (eqb-true x f e) (a ∙ sym b)
     by f false e i = cut (x == f) (has f xs) (has f ys) e i
 
-same_lists : (xs ys : List ℕ) → is_ascending xs ≡ true → is_ascending ys ≡ true → SameNumbers xs ys → xs ≡ ys
+pub same_lists : (xs ys : List ℕ) → is_ascending xs ≡ true → is_ascending ys ≡ true → SameNumbers xs ys → xs ≡ ys
 same_lists [] [] a b h = refl
 same_lists [] (y ∷ ys) a b h = absurd (clash (has y (y ∷ ys)) (sym (h y)) (here y ys))
 same_lists (x ∷ xs) [] a b h = absurd (clash (has x (x ∷ xs)) (h x) (here x xs))
@@ -176,7 +176,7 @@ unfolding sweep swept_of numbers
 sweep_is s [] = refl
 sweep_is s (e ∷ es) = sweep_is (without_gone s e.file) es
 
-both_have : (e d p q : Bool) → q ≡ e → (e ≡ true → d ≡ true → p ≡ true) → ((e && d) && q) ≡ ((e && d) && p)
+pub both_have : (e d p q : Bool) → q ≡ e → (e ≡ true → d ≡ true → p ≡ true) → ((e && d) && q) ≡ ((e && d) && p)
 both_have true true p q i h = i ∙ sym (h refl refl)
 both_have true false p q i h = refl
 both_have false d p q i h = refl

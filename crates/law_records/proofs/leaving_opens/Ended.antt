@@ -12,7 +12,7 @@ use Rattle.law_server.proofs.tables.SessionEffects.{forget_keeps}
 use Rattle.law_records.specs.leaving_opens.Since.{LeftSince}
 use Rattle.law_server.proofs.tables.Leaving.{not_plain}
 use Rattle.law_server.proofs.tables.Logic.{front_of, back_of, not_true}
-use Rattle.law_records.proofs.leaving_opens.Left.{left_opens, left_opened, left_directory, left_standing, exists_same, held}
+use Rattle.law_records.proofs.leaving_opens.Left.{left_opens, left_opened, left_directory, left_standing, exists_same, held, has_same}
 
 -- ---- the opens without several
 
@@ -110,7 +110,8 @@ ended left marked went s u x now i a =
           (not_true (leaves u x o) (back_of (u.standing o) (not (leaves u x o)) e)));
       opens = λ f e. a.opens f e ∙ ap (λ (ys : List ℕ). length ys + left f) (held t f u.opened (staying_in u x u.opens)
           (all_opened u (plain_of u x)) (sym (staying u x)));
-      pending = λ f e. a.pending f (exists_same v t f refl ∙ e);
+      pending = λ f e h. a.pending f (exists_same v t f refl ∙ e)
+          (has_same t v f (staying u x) (sym (all_opened u (plain_of u x))) ∙ h);
       entries = a.entries;
       directory = sym (all_directory u (plain_of u x)) ∙ a.directory;
       opened = sym (all_opened u (plain_of u x)) ∙ a.opened;
@@ -123,7 +124,7 @@ forgotten left marked went s u k a =
       fits = forget_keeps u k a.fits;
       stood = a.stood;
       opens = a.opens;
-      pending = λ f e. a.pending f (exists_same (forget_connection u k) u f refl ∙ e);
+      pending = λ f e h. a.pending f (exists_same (forget_connection u k) u f refl ∙ e) (has_same u (forget_connection u k) f refl refl ∙ h);
       entries = a.entries;
       directory = a.directory;
       opened = a.opened;

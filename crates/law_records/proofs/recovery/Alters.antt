@@ -6,6 +6,7 @@ use Rattle.std.proofs.lemmas.Bool.Decides.{nat_tests}
 use Rattle.spec_exchange.specs.Texts.{is_path, is_below}
 use Rattle.spec_exchange.specs.Content.{written, ended, is_empty}
 use Rattle.spec_exchange.specs.Commands.{Basic, Setting, SetBasic, Rename, SetDelete, SetAllocation, SetEnd}
+use Rattle.spec_exchange.specs.Commands.{SetPosition, SetMode}
 use Rattle.spec_exchange.specs.State.{Server, Message, Origin, WriteRecord, EndRecord, BasicRecord, DeleteRecord, RenameRecord, Body}
 use Rattle.spec_exchange.specs.Table.{number_or_zero}
 use Rattle.spec_exchange.specs.Files.{root, find, path_of, exists, is_directory, has_parent, passes_room, set_content}
@@ -206,6 +207,8 @@ setting_allowed s o (SetAllocation size) says =
     let f = file_of s o in let old = length (s.content f) in
     end_allowed s f size (nat_lt size old) says.file (λ e. ap (passes_room s f) (sym (cut_size size old e)) ∙ says.room)
 setting_allowed s o (SetEnd size) says = (says.file, says.room)
+setting_allowed s o (SetPosition position) says = tt
+setting_allowed s o SetMode says = tt
 
 pub allowed : (s : Server) (m : Message) (o : ℕ) (c : Change) (body : Body) → AlterFacts s m o c body → Allows s (file_of s o) c
 allowed s m o c body facts = by facts.asked

@@ -1,14 +1,14 @@
 -- A state that mirrors another mirrors itself, and has the same durable part.
-use Rattle.std.proofs.Common.{◌≡◌, ℕ, ◌+◌, ◌≤◌, ◌==◌, Bool, true, false, ◌&&◌, if◌then◌else◌, List, [], ◌∷◌, ◌++◌, refl}
+use Rattle.std.proofs.Common.{◌≡◌, ℕ, ◌+◌, ◌≤◌, ◌==◌, Bool, true, false, not, ◌&&◌, if◌then◌else◌, List, [], ◌∷◌, ◌++◌, refl}
 use Rattle.std.proofs.Common.{arith, sym, subst, ◌∙◌, ap, Option, Some, None}
 use Rattle.spec_exchange.specs.Table.{has}
-use Rattle.spec_exchange.specs.State.{Server, Open, Kept, Record, VersionRecord, EpochRecord, Entry}
-use Rattle.spec_exchange.specs.Files.{remove_file}
-use Rattle.spec_exchange.specs.Records.{entry_bytes}
+use Rattle.spec_exchange.specs.State.{Server, Open, Kept, Record, VersionRecord, EpochRecord, DeleteRecord, Entry}
+use Rattle.spec_exchange.specs.Files.{root, exists, remove_file, set_delete_pending}
+use Rattle.spec_exchange.specs.Records.{origin_at, entry_bytes}
 use Rattle.spec_exchange.specs.Opens.{goes, without_gone}
 use Rattle.spec_exchange.specs.Fold.{nothing_yet, no_open, full_room, persistent_in, stays, stays_by_guid}
 use Rattle.spec_exchange.specs.Fold.{ranges_that_stay, durable, fold, fold_from, sweep, begin_epoch, set_version}
-use Rattle.spec_exchange.specs.Fold.{recovery_records, recovered_from, opening_records}
+use Rattle.spec_exchange.specs.Fold.{recovery_records, recovered_from, opening_records, epoch_records, with_record, is_left_pending, mark_records, unmark_records}
 use Rattle.law_server.specs.tables.Fits.{Listed}
 use Rattle.law_server.proofs.tables.Logic.{either, both, back_of}
 use Rattle.law_records.specs.recovery.Recovers.{staying, kept_ranges, kept_guid, RecordOpens, Mirrors, RecordRecovers}
@@ -134,12 +134,28 @@ own_epoch d number h =
 own_version : (d : Server) (number : ℕ) → Own d → Own (set_version d number)
 own_version d number h = either (λ x. Own x) ((number == 2) && (d.version == 1)) (record d { version = 2 }) d (λ _. h) (λ _. h)
 
-own_recovered : (d s : Server) → Own d → Own (fold_from d (opening_records s))
+own_marked : (d s : Server) (es : List Entry) → Own d → Own (fold_from d (unmark_records s es))
+unfolding fold_from unmark_records mark_records
+own_marked d s [] h = h
+own_marked d s (e ∷ es) h =
+    either (λ rs. Own (fold_from d (rs ++ unmark_records s es))) (is_left_pending s e.file)
+    (DeleteRecord (origin_at 0) e.file false ∷ []) []
+    (λ _. own_marked (with_record d (DeleteRecord (origin_at 0) e.file false)) s es
+    (either (λ x. Own x) (exists d e.file && not (e.file == root)) (set_delete_pending d e.file false) d (λ _. h) (λ _. h)))
+    (λ _. own_marked d s es h)
+
+own_begun : (d s : Server) → Own d → Own (fold_from d (epoch_records s))
 unfolding fold_from
-own_recovered d s h =
+own_begun d s h =
     either (λ rs. Own (fold_from d rs)) (s.version == 1) (VersionRecord 2 ∷ EpochRecord (s.epoch + 1) ∷ []) (EpochRecord (s.epoch + 1) ∷ [])
     (λ _. own_epoch (set_version d 2) (s.epoch + 1) (own_version d 2 h))
     (λ _. own_epoch d (s.epoch + 1) h)
+
+own_recovered : (d s : Server) → Own d → Own (fold_from d (opening_records s))
+own_recovered d s h =
+    let b = fold_from s (epoch_records s) in
+    subst (λ x. Own x) (sym (fold_append d (epoch_records s) (unmark_records b b.entries)))
+    (own_marked (fold_from d (epoch_records s)) b b.entries (own_begun d s h))
 
 configured : (d s : Server) (journal : ℕ) → Own d → s.room ≤ full_room → Mirrors d (record d {
   share = s.share;

@@ -7,6 +7,8 @@ use Rattle.spec_exchange.specs.Commands.{deletes_on_close}
 use Rattle.spec_exchange.specs.State.{Server, Open, Origin, Entry, DeleteRecord, RemoveRecord}
 use Rattle.spec_exchange.specs.Files.{exists, exists_in, set_delete_pending, remove_file, without_file}
 use Rattle.spec_exchange.specs.Opens.{opens_in, file_has_open, drop_open, goes, without_gone, pending_behind}
+use Rattle.spec_exchange.specs.Opens.{is_kept_back, left_file, left_file_records}
+use Rattle.law_server.proofs.tables.Closing.{left_beside}
 use Rattle.spec_exchange.specs.Opens.{leave_open, pending_records, shut_records, gone_records, leave_records}
 use Rattle.spec_exchange.specs.Effects.{leaves, plain_in, plain_of, leave_all, leave_all_records, guid_staying}
 use Rattle.spec_exchange.specs.Effects.{ranges_staying, end_session, end_records, end_if_named, records_if_named}
@@ -16,7 +18,7 @@ use Rattle.law_records.specs.recovery.Recovers.{staying, kept_ranges, kept_guid,
 use Rattle.law_records.proofs.recovery.Lists.{ext, has_without, has_file, at_head, in_tail, persistent_staying, has_persistent}
 use Rattle.law_records.proofs.recovery.Ranges.{kept_ranges_staying}
 use Rattle.law_records.proofs.recovery.Files.{put_same_bool}
-use Rattle.law_records.proofs.recovery.Leaves.{pending_if, fold_append, removable, removed, may_set_pending, pending_record}
+use Rattle.law_records.proofs.recovery.Leaves.{pending_if, fold_append, removable, removed, may_set_pending, pending_record, may_clear}
 use Rattle.law_records.proofs.recovery.Leaves.{plain_records, records_apart}
 use Rattle.law_server.proofs.tables.Logic.{back_of, both}
 
@@ -250,11 +252,40 @@ chain_gone s0 d s origin f h =
       | false ↦ λ g. h
     ] refl
 
+chain_settled : (s0 d s : Server) (origin : Origin) (f : ℕ) → Chain s0 d s
+    → Chain s0 (fold_from d (left_file_records s origin f)) (left_file s f)
+unfolding left_file_records fold_from exists
+chain_settled s0 d s origin f h =
+    elim (is_kept_back s f) as (λ b. is_kept_back s f ≡ b → Chain s0 (fold_from d (if b then DeleteRecord origin f false ∷ [] else gone_records s origin f))
+    (if b then set_delete_pending s f false else without_gone s f)) [
+      | true ↦ λ k.
+          subst (λ x. Chain s0 x (set_delete_pending s f false))
+          (sym (pending_record d origin f false (may_clear d s f h.files.entries k)))
+          (record {
+            files = record {
+              entries = h.files.entries;
+              next_file = h.files.next_file;
+              directory = h.files.directory;
+              delete_pending = ap (λ x. put x f false) h.files.delete_pending;
+              basic = h.files.basic;
+              content = h.files.content;
+            };
+            opens = h.opens;
+            counts = h.counts;
+            directory = h.directory;
+            subset = h.subset;
+            there = h.there;
+            not_root = h.not_root;
+          })
+      | false ↦ λ k. chain_gone s0 d s origin f h
+    ] refl
+
 gone_opens : (s : Server) (f : ℕ) → (without_gone s f).opens ≡ s.opens
 gone_opens s f = elim (goes s f) as (λ b. (if b then remove_file s f else s).opens ≡ s.opens) [ true ↦ refl | false ↦ refl ]
 
-gone_rows : (s : Server) (f : ℕ) → (without_gone s f).opened ≡ s.opened
-gone_rows s f = elim (goes s f) as (λ b. (if b then remove_file s f else s).opened ≡ s.opened) [ true ↦ refl | false ↦ refl ]
+left_file_opens : (s : Server) (f : ℕ) → (left_file s f).opens ≡ s.opens
+left_file_opens s f = elim (is_kept_back s f) as (λ b. (if b then set_delete_pending s f false else without_gone s f).opens ≡ s.opens)
+    [ true ↦ refl | false ↦ gone_opens s f ]
 
 pending_opens : (s : Server) (f : ℕ) (b : Bool) → (pending_if s f b).opens ≡ s.opens
 pending_opens s f true = refl
@@ -265,19 +296,18 @@ pending_rows s f true = refl
 pending_rows s f false = refl
 
 pub leave_opens : (s : Server) (o : ℕ) → (leave_open s o).opens ≡ without o s.opens
-leave_opens s o = gone_opens (drop_open (pending_behind s o) o) (s.opened o).file
+leave_opens s o = left_file_opens (drop_open (pending_behind s o) o) (s.opened o).file
     ∙ ap (without o) (pending_opens s (s.opened o).file (deletes_on_close (s.opened o).options))
 
 pub leave_rows : (s : Server) (o : ℕ) → (leave_open s o).opened ≡ s.opened
-leave_rows s o = gone_rows (drop_open (pending_behind s o) o) (s.opened o).file ∙ pending_rows s (s.opened o).file
-    (deletes_on_close (s.opened o).options)
+leave_rows s o = (left_beside s o).opened
 
 chain_leaves : (s0 d s : Server) (origin : Origin) (o : ℕ) → has o s.opens ≡ true → (s.opened o).persistent ≡ false
     → Chain s0 d s → Chain s0 (fold_from d (leave_records s origin o)) (leave_open s o)
 unfolding leave_records
 chain_leaves s0 d s origin o in_it plain h =
     let f = (s.opened o).file in let b = deletes_on_close (s.opened o).options in let behind =
-    drop_open (pending_behind s o) o in let gone = gone_records behind origin f in
+    drop_open (pending_behind s o) o in let gone = left_file_records behind origin f in
     let first = if b && not (s.delete_pending f) then DeleteRecord origin f true ∷ [] else [] in
     let pended = chain_pending s0 d s origin o f b (s.delete_pending f) refl (h.there o in_it) (h.not_root o in_it) h in
     let drops = chain_drops s0 (fold_from d first) (pending_if s f b) o (ap (λ (rows : ℕ → Open). (rows o).persistent)
@@ -285,7 +315,7 @@ chain_leaves s0 d s origin o in_it plain h =
     let all = records_apart (pending_records s origin o) (shut_records s origin o) gone
     ∙ ap (λ rs. rs ++ gone) (plain_records d s origin o plain) in
     subst (λ x. Chain s0 x (leave_open s o)) (sym (ap (fold_from d) all ∙ fold_append d first gone))
-    (chain_gone s0 (fold_from d first) behind origin f drops)
+    (chain_settled s0 (fold_from d first) behind origin f drops)
 
 first_apart : (o p : ℕ) (os : List ℕ) → distinct (o ∷ os) ≡ true → has p os ≡ true → p ≢ o
 first_apart o p os h e q = cc (front (has o os) (distinct os) h, subst (λ x. has x os ≡ true) q e)

@@ -6,6 +6,7 @@ use Rattle.spec_exchange.specs.Commands.{deletes_on_close}
 use Rattle.spec_exchange.specs.State.{Server, Open, Range, Record, Origin, DeleteRecord, RemoveRecord, CloseRecord, ExpireRecord}
 use Rattle.spec_exchange.specs.Files.{root, exists, is_full_directory, set_delete_pending, remove_file}
 use Rattle.spec_exchange.specs.Opens.{file_has_open, drop_open, goes, without_gone, pending_behind, leave_open}
+use Rattle.spec_exchange.specs.Opens.{is_kept_back, left_file, left_file_records}
 use Rattle.spec_exchange.specs.Opens.{pending_records, shut_records, gone_records, leave_records}
 use Rattle.spec_exchange.specs.Step.{add_expired_guid, expire, expire_records, max_expired_guids}
 use Rattle.spec_exchange.specs.Fold.{with_record, fold_from, may_remove, shut_recorded}
@@ -52,6 +53,36 @@ gone_recorded d s origin f h l =
       | false ↦ λ g. h
     ] refl
 
+-- ---- a directory that can't go loses its mark
+
+kept_gives : (m r e o u : Bool) → (m && (not r && (e && (not o && u)))) ≡ true → r ≡ false × e ≡ true
+kept_gives m r e o u h = (grind arith, grind arith)
+
+clears_by : (e r : Bool) → e ≡ true → r ≡ false → (e && not r) ≡ true
+clears_by e r a b = grind arith
+
+pub may_clear : (d s : Server) (f : ℕ) → d.entries ≡ s.entries → is_kept_back s f ≡ true → (exists d f && not (f == root)) ≡ true
+unfolding is_kept_back
+may_clear d s f e k =
+    let facts = kept_gives (s.delete_pending f) (f == root) (exists s f) (file_has_open s f) (is_full_directory s f) k in
+    clears_by (exists d f) (f == root) (same_exists d s e f ∙ facts.1) facts.0
+
+pub pending_record : (d : Server) (origin : Origin) (f : ℕ) (flag : Bool) → (exists d f && not (f == root)) ≡ true
+    → with_record d (DeleteRecord origin f flag) ≡ set_delete_pending d f flag
+pending_record d origin f flag may = rw may refl
+
+pub settled_recorded : (d s : Server) (origin : Origin) (f : ℕ) → Mirrors d s → Listed s
+    → Mirrors (fold_from d (left_file_records s origin f)) (left_file s f)
+unfolding left_file_records fold_from
+settled_recorded d s origin f h l =
+    elim (is_kept_back s f) as (λ b. is_kept_back s f ≡ b
+    → Mirrors (fold_from d (if b then DeleteRecord origin f false ∷ [] else gone_records s origin f))
+    (if b then set_delete_pending s f false else without_gone s f)) [
+      | true ↦ λ k. subst (λ x. Mirrors x (set_delete_pending s f false))
+          (sym (pending_record d origin f false (may_clear d s f h.0.entries k))) (sets_pending d s f false h)
+      | false ↦ λ k. gone_recorded d s origin f h l
+    ] refl
+
 -- ---- what holds of an open that leaves
 
 pub record Leaver (s : Server) (o : ℕ) : Type 0 where
@@ -93,10 +124,6 @@ plain_by d s o f false leaver plain h = (h.0, drops_plain d s o plain leaver.own
 
 pub may_set_pending : (d s : Server) (f : ℕ) → d.entries ≡ s.entries → exists s f ≡ true → f ≢ 0 → (exists d f && not (f == root)) ≡ true
 may_set_pending d s f e there n = let same = same_exists d s e f in grind arith
-
-pub pending_record : (d : Server) (origin : Origin) (f : ℕ) (flag : Bool) → (exists d f && not (f == root)) ≡ true
-    → with_record d (DeleteRecord origin f flag) ≡ set_delete_pending d f flag
-pending_record d origin f flag may = rw may refl
 
 pending_by : (d s : Server) (origin : Origin) (f : ℕ) (b c : Bool) → s.delete_pending f ≡ c → exists s f ≡ true
     → (b ≡ true → f ≢ 0) → Mirrors d s
@@ -162,11 +189,11 @@ pub leaves_recorded : (d s : Server) (origin : Origin) (o : ℕ) → Leaver s o 
     → Mirrors (fold_from d (leave_records s origin o)) (leave_open s o)
 unfolding leave_records
 leaves_recorded d s origin o leaver l h =
-    let behind = drop_open (pending_behind s o) o in let gone = gone_records behind origin (s.opened o).file in
+    let behind = drop_open (pending_behind s o) o in let gone = left_file_records behind origin (s.opened o).file in
     subst (λ x. Mirrors x (leave_open s o))
     (sym (ap (fold_from d) (records_apart (pending_records s origin o) (shut_records s origin o) gone)
     ∙ fold_append d (pending_records s origin o ++ shut_records s origin o) gone))
-    (gone_recorded (fold_from d (pending_records s origin o ++ shut_records s origin o)) behind origin (s.opened o).file
+    (settled_recorded (fold_from d (pending_records s origin o ++ shut_records s origin o)) behind origin (s.opened o).file
     (left_recorded d s origin o leaver h)
     (listed_after s o (s.opened o).file (deletes_on_close (s.opened o).options) l))
 
@@ -205,6 +232,22 @@ gone_expired d s origin f client (Some g) h l =
       | false ↦ λ q. h2
     ] refl
 
+settled_expired : (d s : Server) (origin : Origin) (f client : ℕ) (guid : Option ℕ) → Mirrors d s → Listed s
+    → Mirrors (fold_from (add_expired_guid d client guid) (left_file_records s origin f))
+    (add_expired_guid (left_file s f) client guid)
+unfolding left_file_records fold_from
+settled_expired d s origin f client None h l = settled_recorded d s origin f h l
+settled_expired d s origin f client (Some g) h l =
+    let e = add_expired_guid d client (Some g) in let t = add_expired_guid s client (Some g) in
+    elim (is_kept_back s f) as (λ b. is_kept_back s f ≡ b
+    → Mirrors (fold_from e (if b then DeleteRecord origin f false ∷ [] else gone_records s origin f))
+    (add_expired_guid (if b then set_delete_pending s f false else without_gone s f) client (Some g))) [
+      | true ↦ λ k. subst (λ x. Mirrors x (set_delete_pending t f false))
+          (sym (pending_record e origin f false (may_clear e s f h.0.entries k)))
+          (sets_pending e t f false (adds_expired_guid d s client (Some g) h))
+      | false ↦ λ k. gone_expired d s origin f client (Some g) h l
+    ] refl
+
 expire_record : (d : Server) (origin : Origin) (o : ℕ) → d.standing o ≡ true → nat_lt d.expired_count max_expired_guids
     ≡ true → with_record d (ExpireRecord origin o) ≡ add_expired_guid (shut_recorded d o) (d.opened o).client_guid
     (d.opened o).create_guid
@@ -220,7 +263,7 @@ expires_recorded d s origin o leaver kept few l h =
     let first = expire_record d origin o (h.1.standing o ∙ stays)
     (ap (λ n. nat_lt n max_expired_guids) h.2.expired_count ∙ few)
     ∙ ap (λ (r : Open). add_expired_guid (shut_recorded d o) r.client_guid r.create_guid) row in
-    subst (λ x. Mirrors (fold_from x (gone_records behind origin (s.opened o).file)) (expire s o)) (sym first)
-    (gone_expired (shut_recorded d o) behind origin (s.opened o).file (s.opened o).client_guid (s.opened o).create_guid
+    subst (λ x. Mirrors (fold_from x (left_file_records behind origin (s.opened o).file)) (expire s o)) (sym first)
+    (settled_expired (shut_recorded d o) behind origin (s.opened o).file (s.opened o).client_guid (s.opened o).create_guid
     (shuts d s o leaver stays h)
     (listed_after s o (s.opened o).file (deletes_on_close (s.opened o).options) l))

@@ -18,14 +18,15 @@ use Rattle.spec_exchange.specs.Step.{add_expired_guid, max_expired_guids}
 use Rattle.spec_exchange.specs.Fold.{nothing_yet, with_record, fold_from, fold, sweep, begin_epoch, set_version}
 use Rattle.spec_exchange.specs.Fold.{may_create, may_have_open, restore, created_file, is_file, may_rename, may_remove}
 use Rattle.spec_exchange.specs.Fold.{lock_granted, lock_recorded, shut_recorded, recovery_records, recovered_from}
-use Rattle.spec_exchange.specs.Fold.{opening_records}
+use Rattle.spec_exchange.specs.Fold.{epoch_records, unmark_records}
 use Rattle.law_server.proofs.tables.Logic.{either, both}
 use Rattle.law_records.specs.recovery.Recovers.{staying, kept_guid, Files, RecordOpens, RecordRecovers}
 use Rattle.law_records.specs.recovery.Restarted.{Bare, Restarted, EntriesLeft}
-use Rattle.law_server.specs.tables.Fits.{Listed}
+use Rattle.law_server.specs.tables.Fits.{Listed, RootStays}
 use Rattle.law_records.proofs.recovery.Lists.{has_file, has_persistent}
 use Rattle.law_records.proofs.recovery.Leaves.{fold_append}
 use Rattle.law_records.proofs.recovery.Sweeps.{left_behind, held_behind}
+use Rattle.law_records.proofs.recovery.Marks.{Unmarked, unmarked_itself, unmarked_from, pending_opened}
 
 -- ---- no record keeps a session
 
@@ -60,6 +61,7 @@ bare_opened s f action (Some n) h =
       unreached = none_put s.sequence n.id 0 h.unreached;
       undated = none_put s.deadline n.id None h.undated;
       unlisted = none_put s.enumeration_location n.id None h.unlisted;
+      unmoved = none_put s.current_byte_offset n.id 0 h.unmoved;
       absent = h.absent;
       no_count = h.no_count;
       no_trees = h.no_trees;
@@ -78,6 +80,7 @@ bare_dropped s o h =
       unreached = h.unreached;
       undated = none_put s.deadline o None h.undated;
       unlisted = h.unlisted;
+      unmoved = h.unmoved;
       absent = h.absent;
       no_count = h.no_count;
       no_trees = h.no_trees;
@@ -155,6 +158,7 @@ bare_fold rs = bare_from nothing_yet rs (record {
   unreached = λ o. refl;
   undated = λ o. refl;
   unlisted = λ o. refl;
+  unmoved = λ o. refl;
   absent = λ x. refl;
   no_count = refl;
   no_trees = λ x. refl;
@@ -295,7 +299,7 @@ version_raised s number =
     })
     (λ _. record { carried = carries_itself s; epoch = refl })
 
-recovers_epoch : (d : Server) → NextEpoch d (fold_from d (opening_records d)) (d.epoch + 1)
+recovers_epoch : (d : Server) → NextEpoch d (fold_from d (epoch_records d)) (d.epoch + 1)
 unfolding fold_from
 recovers_epoch d =
     let r = version_raised d 2 in
@@ -304,33 +308,45 @@ recovers_epoch d =
     (λ _. epoch_begins d (set_version d 2) (d.epoch + 1) (sym (ap (λ n. n + 1) r.epoch)) r.carried)
     (λ _. epoch_begins d d (d.epoch + 1) refl (carries_itself d))
 
-recovers_next : (d : Server) (n : ℕ) → d.epoch ≡ n → NextEpoch d (fold_from d (opening_records d)) (n + 1)
-recovers_next d n e = subst (λ i. NextEpoch d (fold_from d (opening_records d)) (i + 1)) e (recovers_epoch d)
+recovers_next : (d : Server) (n : ℕ) → d.epoch ≡ n → NextEpoch d (fold_from d (epoch_records d)) (n + 1)
+recovers_next d n e = subst (λ i. NextEpoch d (fold_from d (epoch_records d)) (i + 1)) e (recovers_epoch d)
+
+-- ---- and behind it marks are cleared
+
+abbrev begun : List Record → Server
+begun rs = fold_from (fold rs) (epoch_records (fold rs))
+
+folded : (rs : List Record) → fold (rs ++ recovery_records rs) ≡ fold_from (begun rs) (unmark_records (begun rs) (begun rs).entries)
+folded rs = fold_append nothing_yet rs (recovery_records rs)
+    ∙ fold_append (fold rs) (epoch_records (fold rs)) (unmark_records (begun rs) (begun rs).entries)
+
+unmarked : (rs : List Record) → Unmarked (begun rs) (fold (rs ++ recovery_records rs))
+unmarked rs = let b = begun rs in subst (λ x. Unmarked b x) (sym (folded rs)) (unmarked_from b b b.entries (unmarked_itself b))
 
 -- ---- the restart
 
 pub restarted : (s : Server) (rs : List Record) → RecordRecovers rs s → Restarted s (recovered_from s rs)
 restarted s rs h =
-    let all = subst (λ (x : Server). NextEpoch (fold rs) x (s.epoch + 1))
-    (sym (fold_append nothing_yet rs (recovery_records rs))) (recovers_next (fold rs) s.epoch h.2.epoch) in
-    let c = all.carried in let b = bare_fold (rs ++ recovery_records rs) in
+    let all = recovers_next (fold rs) s.epoch h.2.epoch in let c = all.carried in
+    let marks = unmarked rs in let same = marks.same in let b = bare_fold (rs ++ recovery_records rs) in
     record {
-      epoch = all.epoch;
-      open_ids_given = all.open_ids_given;
-      session_ids_given = all.session_ids_given;
-      opens = c.opens ∙ h.1.opens;
-      standing = λ o. ap (λ (x : ℕ → Bool). x o) c.standing ∙ h.1.standing o;
-      opened = λ o e. ap (λ (x : ℕ → Open). x o) c.opened ∙ h.1.opened o e;
-      lock_sequences = λ o i e. ap (λ (x : ℕ → ℕ → Option Kept). x o i) c.lock_sequences ∙ h.1.lock_sequences o i e;
-      by_guid = λ p g. ap (λ (x : ℕ → ℕ → Option ℕ). x p g) c.by_guid ∙ h.1.by_guid p g;
-      ranges = λ f. ap (λ (x : ℕ → List Range). x f) c.ranges ∙ h.1.ranges f;
-      next_file = c.next_file ∙ h.0.next_file;
-      directory = c.directory ∙ h.0.directory;
-      delete_pending = c.delete_pending ∙ h.0.delete_pending;
-      basic = c.basic ∙ h.0.basic;
-      content = c.content ∙ h.0.content;
-      expired_guids = c.expired_guids ∙ h.2.expired_guids;
-      expired_count = c.expired_count ∙ h.2.expired_count;
+      epoch = ap (λ (x : Server). x.epoch) same ∙ all.epoch;
+      open_ids_given = ap (λ (x : Server). x.open_ids_given) same ∙ all.open_ids_given;
+      session_ids_given = ap (λ (x : Server). x.session_ids_given) same ∙ all.session_ids_given;
+      opens = ap (λ (x : Server). x.opens) same ∙ (c.opens ∙ h.1.opens);
+      standing = λ o. ap (λ (x : Server). x.standing o) same ∙ (ap (λ (x : ℕ → Bool). x o) c.standing ∙ h.1.standing o);
+      opened = λ o e. ap (λ (x : Server). x.opened o) same ∙ (ap (λ (x : ℕ → Open). x o) c.opened ∙ h.1.opened o e);
+      lock_sequences = λ o i e. ap (λ (x : Server). x.lock_sequences o i) same
+          ∙ (ap (λ (x : ℕ → ℕ → Option Kept). x o i) c.lock_sequences ∙ h.1.lock_sequences o i e);
+      by_guid = λ p g. ap (λ (x : Server). x.by_guid p g) same ∙ (ap (λ (x : ℕ → ℕ → Option ℕ). x p g) c.by_guid ∙ h.1.by_guid p g);
+      ranges = λ f. ap (λ (x : Server). x.ranges f) same ∙ (ap (λ (x : ℕ → List Range). x f) c.ranges ∙ h.1.ranges f);
+      next_file = ap (λ (x : Server). x.next_file) same ∙ (c.next_file ∙ h.0.next_file);
+      directory = ap (λ (x : Server). x.directory) same ∙ (c.directory ∙ h.0.directory);
+      delete_pending = λ f e. sym (ap (λ (x : ℕ → Bool). x f) (c.delete_pending ∙ h.0.delete_pending)) ∙ marks.fewer f e;
+      basic = ap (λ (x : Server). x.basic) same ∙ (c.basic ∙ h.0.basic);
+      content = ap (λ (x : Server). x.content) same ∙ (c.content ∙ h.0.content);
+      expired_guids = ap (λ (x : Server). x.expired_guids) same ∙ (c.expired_guids ∙ h.2.expired_guids);
+      expired_count = ap (λ (x : Server). x.expired_count) same ∙ (c.expired_count ∙ h.2.expired_count);
       bare = b;
     }
 
@@ -353,26 +369,44 @@ stays_not_pending m o e = grind arith
 stays_opened : (m o : Bool) → o ≡ true → (m && not o) ≡ false
 stays_opened m o e = grind arith
 
-left_from : (d s : Server) → Listed s → Files d s → RecordOpens d s → EntriesLeft s (fold_from d (opening_records d))
-left_from d s l f h =
+-- the file of an open that stays has an open behind the epoch too
+opened_behind : (d b : Server) (f : ℕ) → Carried d b → file_has_open d f ≡ true → file_has_open b f ≡ true
+unfolding file_has_open
+opened_behind d b f c h = subst (λ (os : List ℕ). is_filled (opens_in b.opened os f) ≡ true) (sym c.opens)
+    (subst (λ (rows : ℕ → Open). is_filled (opens_in rows d.opens f) ≡ true) (sym c.opened) h)
+
+same_opened : (b u : Server) (p : ℕ → Bool) (f : ℕ) → u ≡ record b { delete_pending = p } → file_has_open b f ≡ true → file_has_open u f ≡ true
+unfolding file_has_open
+same_opened b u p f same h = ap (λ (x : Server). is_filled (opens_in x.opened x.opens f)) same ∙ h
+
+left_from : (s : Server) (rs : List Record) → Listed s → RootStays s → Files (fold rs) s → RecordOpens (fold rs) s
+    → EntriesLeft s (fold (rs ++ recovery_records rs))
+left_from s rs l stays_there f h =
+    let d = fold rs in let b = begun rs in let c = (recovers_next d d.epoch refl).carried in
+    let marks = unmarked rs in let same : (fold (rs ++ recovery_records rs)).entries ≡ b.entries = ap (λ (x : Server). x.entries) marks.same in
+    let pends : b.delete_pending ≡ s.delete_pending = c.delete_pending ∙ f.delete_pending in
     record {
-      were = λ g e. let t = left_behind d d g e in (
+      were = λ g e. let t = left_behind d d g (ap (λ es. exists_in es g) (sym same) ∙ e) in (
         ap (λ es. exists_in es g) (sym f.entries) ∙ t.0,
-        t.1
-            ∙ ap (λ es. path_in es g) f.entries,
+        ap (λ es. path_in es g) same ∙ (t.1 ∙ ap (λ es. path_in es g) f.entries),
       );
-      not_pending = λ g m. held_behind d d g (stays_not_pending (d.delete_pending g) (file_has_open d g)
-          (ap (λ (x : ℕ → Bool). x g) f.delete_pending ∙ m)) ∙ ap (λ es. exists_in es g) f.entries;
-      held = λ o stays. let g = (s.opened o).file in
-          held_behind d d g (stays_opened (d.delete_pending g) (file_has_open d g) (open_there d s o l h stays))
-          ∙ ap (λ es. exists_in es g) f.entries;
+      not_pending = λ g m. ap (λ es. exists_in es g) same ∙ (held_behind d d g (stays_not_pending (d.delete_pending g) (file_has_open d g)
+          (ap (λ (x : ℕ → Bool). x g) f.delete_pending ∙ m)) ∙ ap (λ es. exists_in es g) f.entries);
+      held = λ o stays. let g = (s.opened o).file in ap (λ es. exists_in es g) same
+          ∙ (held_behind d d g (stays_opened (d.delete_pending g) (file_has_open d g) (open_there d s o l h stays))
+          ∙ ap (λ es. exists_in es g) f.entries);
+      held_pending = λ o stays. let g = (s.opened o).file in
+          marks.held g (opened_behind d b g c (open_there d s o l h stays)) ∙ ap (λ (x : ℕ → Bool). x g) pends;
+      opened = λ g e m. same_opened b (fold (rs ++ recovery_records rs)) (fold (rs ++ recovery_records rs)).delete_pending g marks.same
+          (pending_opened b g (ap (λ (x : ℕ → Bool). x 0) pends ∙ stays_there) (ap (λ es. exists_in es g) (sym same) ∙ e)
+          (ap (λ (x : Server). x.delete_pending g) (sym (folded rs)) ∙ m));
     }
 
-pub entries_left : (s : Server) (rs : List Record) → Listed s → RecordRecovers rs s → EntriesLeft s (recovered_from s rs)
-entries_left s rs l h =
-    let t = subst (λ (x : Server). EntriesLeft s x) (sym (fold_append nothing_yet rs (recovery_records rs)))
-    (left_from (fold rs) s l h.0 h.1) in
-    record { were = t.were; not_pending = t.not_pending; held = t.held }
+pub entries_left : (s : Server) (rs : List Record) → Listed s → RootStays s → RecordRecovers rs s → EntriesLeft s (recovered_from s rs)
+unfolding file_has_open
+entries_left s rs l stays h =
+    let t = left_from s rs l stays h.0 h.1 in
+    record { were = t.were; not_pending = t.not_pending; held = t.held; held_pending = t.held_pending; opened = t.opened }
 
 -- ---- what the laws above ask of it
 

@@ -3,7 +3,7 @@ use Rattle.std.proofs.Common.{◌≡◌, ◌≢◌, ℕ, ◌+◌, ◌==◌, Bool
 use Rattle.spec_exchange.specs.State.{Server, Entry, VersionRecord, EpochRecord}
 use Rattle.spec_exchange.specs.Files.{root, exists, exists_in, path_in, is_full_directory, remove_file, without_file}
 use Rattle.spec_exchange.specs.Opens.{file_has_open, goes, without_gone}
-use Rattle.spec_exchange.specs.Fold.{fold_from, sweep, begin_epoch, set_version, opening_records}
+use Rattle.spec_exchange.specs.Fold.{fold_from, sweep, begin_epoch, set_version, epoch_records}
 use Rattle.law_server.proofs.tables.Logic.{either}
 
 exists_cut : (es : List Entry) (f : ℕ) → exists_in (without_file f es) f ≡ false
@@ -50,7 +50,7 @@ left_epoch s u number h = either (λ x. Left s x) (number == u.epoch + 1) (recor
 left_version : (s u : Server) (number : ℕ) → Left s u → Left s (set_version u number)
 left_version s u number h = either (λ x. Left s x) ((number == 2) && (u.version == 1)) (record u { version = 2 }) u (λ _. h) (λ _. h)
 
-pub left_behind : (d s : Server) → Left d (fold_from d (opening_records s))
+pub left_behind : (d s : Server) → Left d (fold_from d (epoch_records s))
 unfolding fold_from
 left_behind d s =
     let all : Left d d = λ g e. (e, refl) in
@@ -106,7 +106,7 @@ unfolding file_has_open
 held_version s u number g h = either (λ x. Held s x g) ((number == 2) && (u.version == 1)) (record u { version = 2 }) u
     (λ _. record { there = h.there; still = h.still }) (λ _. h)
 
-pub held_behind : (d s : Server) (g : ℕ) → Stays d g → exists_in (fold_from d (opening_records s)).entries g ≡ exists_in d.entries g
+pub held_behind : (d s : Server) (g : ℕ) → Stays d g → exists_in (fold_from d (epoch_records s)).entries g ≡ exists_in d.entries g
 unfolding fold_from
 held_behind d s g stays =
     let all : Held d d g = record { there = refl; still = stays } in

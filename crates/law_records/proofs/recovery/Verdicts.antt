@@ -14,10 +14,10 @@ use Rattle.spec_exchange.specs.Records.{origin_of}
 use Rattle.spec_exchange.specs.Verdict.{Verdict, Refuse, Give, KeepRefusal, Repeat, Attach, Make, TurnDown, Tell, Show}
 use Rattle.spec_exchange.specs.Verdict.{KeepSlot, PutRanges, Alter, CloseOpen, Challenge, ChallengeBinding, Begin, Join}
 use Rattle.spec_exchange.specs.Verdict.{EndSession, AddTree, DropTree, Change, PutBytes, PutEnd, PutBasic}
-use Rattle.spec_exchange.specs.Verdict.{PutDeletePending, PutPath, PutNothing}
+use Rattle.spec_exchange.specs.Verdict.{PutDeletePending, PutPath, PutNothing, Place}
 use Rattle.spec_exchange.specs.Effects.{apply, reach, attach, attached, keep_slot, set_ranges, lock_records}
 use Rattle.spec_exchange.specs.Effects.{change_file, change_records, keep_closed, keep_all_closed, leave_all}
-use Rattle.spec_exchange.specs.Effects.{leave_all_records, opens_of_tree, drop_tree}
+use Rattle.spec_exchange.specs.Effects.{leave_all_records, opens_of_tree, drop_tree, listed_at, positioned_at}
 use Rattle.spec_exchange.specs.Fold.{fold_from}
 use Rattle.law_server.specs.tables.Fits.{Fits, Listed, Ascending, GuidOpen, OpenGuid, OpenIds, RangeOwners, OpenFiles}
 use Rattle.law_server.proofs.tables.Logic.{either}
@@ -90,9 +90,12 @@ attaches : (d s : Server) (m : Message) (o : ℕ) → Mirrors d s → Mirrors (f
 attaches d s m o h = either (λ x. Mirrors (fold_from d []) x) (is_some (s.session_of_open o)) s (attach s m o)
     (λ _. nothing_owed d s h) (λ _. nothing_owed d s h)
 
-shows : (d s : Server) (m : Message) (o : ℕ) (last : Option (List ℕ)) → Mirrors d s → Mirrors (fold_from d [])
-    (record (reach s m o) { enumeration_location = put s.enumeration_location o last })
-shows d s m o last h = reached d s m o h
+shows : (d s : Server) (m : Message) (o : ℕ) (place : Place) → Mirrors d s → Mirrors (fold_from d [])
+    (record (reach s m o) {
+      enumeration_location = listed_at s.enumeration_location o place;
+      current_byte_offset = positioned_at s.current_byte_offset o place;
+    })
+shows d s m o place h = reached d s m o h
 
 -- ---- locks
 

@@ -7,7 +7,7 @@ use Rattle.spec_exchange.specs.Effects.{apply, attach, attached, change_file, en
 use Rattle.spec_exchange.specs.Effects.{keep_slot, opens_of_tree, reach, set_ranges}
 use Rattle.spec_exchange.specs.Files.{empty_file, remove_file, set_delete_pending}
 use Rattle.spec_exchange.specs.Files.{file_attributes}
-use Rattle.spec_exchange.specs.Opens.{drop_open, goes, leave_open, pending_behind}
+use Rattle.spec_exchange.specs.Opens.{drop_open, goes, leave_open, pending_behind, is_kept_back, without_gone}
 use Rattle.spec_exchange.specs.Records.{fits, origin_at}
 use Rattle.spec_exchange.specs.State.{Answer, Message, Record, Server, ServerEvent}
 use Rattle.spec_exchange.specs.Status.{success}
@@ -51,8 +51,9 @@ closed_same u x (Some g) = refl
 
 left_same : (s : Server) (o : ℕ) → (leave_open s o).version ≡ s.version
 left_same s o =
-    let w = pending_behind s o in let v = drop_open w o in
-    one_of (goes v (s.opened o).file) (remove_file v (s.opened o).file) v w.version refl refl
+    let w = pending_behind s o in let v = drop_open w o in let f = (s.opened o).file in
+    one_of (is_kept_back v f) (set_delete_pending v f false) (without_gone v f) w.version refl
+    (one_of (goes v f) (remove_file v f) v w.version refl refl)
     ∙ one_of (deletes_on_close (s.opened o).options) (set_delete_pending s (s.opened o).file true) s s.version refl refl
 
 made_same : (s : Server) (r : CreateRequest) (found : Option ℕ) (now : ℕ) → (file_made s r found now).version ≡ s.version

@@ -5,7 +5,7 @@ use Rattle.spec_exchange.specs.Commands.{deletes_on_close}
 use Rattle.spec_exchange.specs.State.{Server, Entry, Open, Origin, Record, CloseRecord, DeleteRecord, RemoveRecord}
 use Rattle.spec_exchange.specs.Files.{root, exists, exists_in, is_directory, is_full_directory, path_in, path_of}
 use Rattle.spec_exchange.specs.Texts.{is_below}
-use Rattle.spec_exchange.specs.Opens.{opens_of}
+use Rattle.spec_exchange.specs.Opens.{file_has_open, opens_of}
 use Rattle.law_server.specs.tables.Fits.{Fits}
 
 -- the entries without those of files that went
@@ -13,13 +13,13 @@ unfoldable pub entries_left : (ℕ → Bool) → List Entry → List Entry
 entries_left went [] = []
 entries_left went (e ∷ es) = if went e.file then entries_left went es else e ∷ entries_left went es
 
--- from the state s to the state u behind the opens that left: how many of each file's did, which files are delete pending
--- by them, and which went
+-- from the state s to the state u behind the opens that left: how many of each file's did, which files that have an open yet are
+-- delete pending by them, and which went
 pub record LeftSince (left : ℕ → ℕ) (marked went : ℕ → Bool) (s u : Server) : Type 0 where
   pub fits : Fits u
   pub stood : (o : ℕ) → u.standing o ≡ true → s.standing o ≡ true
   pub opens : (f : ℕ) → exists s f ≡ true → length (opens_of s f) ≡ length (opens_of u f) + left f
-  pub pending : (f : ℕ) → exists u f ≡ true → u.delete_pending f ≡ (s.delete_pending f || marked f)
+  pub pending : (f : ℕ) → exists u f ≡ true → file_has_open u f ≡ true → u.delete_pending f ≡ (s.delete_pending f || marked f)
   pub entries : u.entries ≡ entries_left went s.entries
   pub directory : u.directory ≡ s.directory
   pub opened : u.opened ≡ s.opened
@@ -39,9 +39,19 @@ is_last left s u f = not (f == root) && (nat_le (length (opens_of s f)) (left f 
 abbrev pub goes_with : (ℕ → ℕ) → (ℕ → Bool) → Server → Server → Open → Bool
 goes_with left marked s u row = (was_pending marked s row.file || deletes_at_close row) && is_last left s u row.file
 
+-- the same of a directory in which something stands: it stays, and is delete pending no longer
+abbrev pub is_last_full : (ℕ → ℕ) → Server → Server → ℕ → Bool
+is_last_full left s u f = not (f == root) && (nat_le (length (opens_of s f)) (left f + 1) && is_full_directory u f)
+
+abbrev pub is_kept_with : (ℕ → ℕ) → (ℕ → Bool) → Server → Server → Open → Bool
+is_kept_with left marked s u row = (was_pending marked s row.file || deletes_at_close row) && is_last_full left s u row.file
+
 -- where it is the only one that leaves
 abbrev pub goes_alone : Server → Open → Bool
 goes_alone s row = (s.delete_pending row.file || deletes_at_close row) && is_last (λ f. 0) s s row.file
+
+abbrev pub is_kept_alone : Server → Open → Bool
+is_kept_alone s row = (s.delete_pending row.file || deletes_at_close row) && is_last_full (λ f. 0) s s row.file
 
 -- one more open that left: its file has one more, is delete pending where the open deletes it, and goes where it was the last
 pub record LeftBehind (left : ℕ → ℕ) (marked went : ℕ → Bool) (more : ℕ → ℕ) (marks gone : ℕ → Bool) (s u : Server)
@@ -61,10 +71,14 @@ left_records false origin o f marks = marked_records marks origin f
 abbrev pub went_records : Bool → Origin → ℕ → List Record
 went_records gone origin f = if gone then RemoveRecord origin f ∷ [] else []
 
+-- of its file, behind it
+abbrev pub parted_records : Bool → Bool → Origin → ℕ → List Record
+parted_records kept gone origin f = if kept then DeleteRecord origin f false ∷ [] else went_records gone origin f
+
 abbrev pub records_behind : (ℕ → ℕ) → (ℕ → Bool) → Server → Server → Origin → ℕ → Open → List Record
 records_behind left marked s u origin o row = left_records row.persistent origin o row.file
     (deletes_at_close row && not (was_pending marked s row.file))
-    ++ went_records (goes_with left marked s u row) origin row.file
+    ++ parted_records (is_kept_with left marked s u row) (goes_with left marked s u row) origin row.file
 
 -- these opens stand
 abbrev pub AllStand : Server → List ℕ → Type 0

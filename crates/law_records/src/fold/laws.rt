@@ -1,12 +1,12 @@
 ghost use Rattle.std.specs.Prelude.{◌≡◌, ◌++◌, ◌∷◌, [], ℕ, List, Bool, None, Option, true};
 ghost use Rattle.spec_exchange.specs.Commands.{path_form};
 ghost use Rattle.spec_exchange.specs.Files.{exists, exists_in, make_file, remove_file, rename_file};
-ghost use Rattle.spec_exchange.specs.Fold.{created_file, may_create, may_restore, shut_recorded, sweep};
+ghost use Rattle.spec_exchange.specs.Fold.{created_file, may_create, may_restore, shut_recorded, sweep, unmark_records};
 ghost use Rattle.spec_exchange.specs.Opens.{pending_behind, without_gone};
 ghost use Rattle.spec_exchange.specs.State.{NewOpen, Server};
 ghost use Rattle.spec_exchange.specs.Table.{has};
 ghost use Rattle.spec_exchange.specs.Texts.{is_path};
-ghost use Rattle.law_records.specs.fold.Order.{FilesAscend, swept_of};
+ghost use Rattle.law_records.specs.fold.Order.{FilesAscend, marks_of, swept_of};
 ghost use Rattle.law_server.specs.tables.Fits.{Fits, is_ascending};
 
 /// Behind what a create makes of its file the state fits yet, the file is there, and the open may be restored as before.
@@ -40,6 +40,13 @@ pub fn swept_law()
         → sweep s s.entries ≡ swept_of s fs }
     ensures ascending { (s : Server) (fs : List ℕ) → FilesAscend s → FilesAscend (swept_of s fs) }
     ensures before { (s : Server) (fs : List ℕ) (f : ℕ) → exists_in (swept_of s fs).entries f ≡ true → exists_in s.entries f ≡ true }
+{}
+
+/// The marks that a start clears are those of whatever ascending numbers hold all files that are delete pending.
+pub fn marks_law()
+    ensures { (s : Server) (fs : List ℕ) → Fits s → FilesAscend s → is_ascending fs ≡ true
+        → ((f : ℕ) → exists_in s.entries f ≡ true → s.delete_pending f ≡ true → has f fs ≡ true)
+        → unmark_records s s.entries ≡ marks_of s fs }
 {}
 
 /// Before an open leaves, its file is delete pending where it deletes on close, and the state fits yet.

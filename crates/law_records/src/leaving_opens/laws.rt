@@ -2,12 +2,12 @@ ghost use Rattle.std.specs.Prelude.{◌≡◌, ◌≤◌, ◌+◌, ◌==◌, ◌
 ghost use Rattle.spec_exchange.specs.State.{Origin, Server};
 ghost use Rattle.spec_exchange.specs.Effects.{end_session, leave_all, leave_all_records, plain_of};
 ghost use Rattle.spec_exchange.specs.Files.{exists, is_full_directory, root};
-ghost use Rattle.spec_exchange.specs.Opens.{drop_open, goes, leave_open, leave_records, opens_of, pending_behind};
+ghost use Rattle.spec_exchange.specs.Opens.{drop_open, goes, is_kept_back, leave_open, leave_records, opens_of, pending_behind};
 ghost use Rattle.spec_exchange.specs.Records.{origin_at};
 ghost use Rattle.spec_exchange.specs.Step.{ends_with, forget_connection, take_all_out, take_all_records};
 ghost use Rattle.law_records.specs.leaving_opens.Out.{ends_left};
 ghost use Rattle.law_records.specs.leaving_opens.Since.{AllStand, AreOpensBelow, LeftBehind, LeftSince, OpensNumbered};
-ghost use Rattle.law_records.specs.leaving_opens.Since.{all_gone, goes_alone, records_behind};
+ghost use Rattle.law_records.specs.leaving_opens.Since.{all_gone, goes_alone, is_kept_alone, records_behind};
 ghost use Rattle.law_server.specs.tables.Fits.{Fits, is_ascending};
 
 /// Before any open leaves nothing is left, marked or gone.
@@ -57,10 +57,12 @@ pub fn empty_law()
         → all_gone went fs ≡ not (is_full_directory u f) }
 {}
 
-/// An open that leaves alone: whether its file goes with it.
+/// An open that leaves alone: whether its file goes with it, or stays without its mark.
 pub fn alone_law()
-    ensures { (s : Server) (o : ℕ) → Fits s → s.standing o ≡ true
+    ensures goes { (s : Server) (o : ℕ) → Fits s → s.standing o ≡ true
         → goes (drop_open (pending_behind s o) o) (s.opened o).file ≡ goes_alone s (s.opened o) }
+    ensures stays { (s : Server) (o : ℕ) → Fits s → s.standing o ≡ true
+        → is_kept_back (drop_open (pending_behind s o) o) (s.opened o).file ≡ is_kept_alone s (s.opened o) }
 {}
 
 /// Connections that are lost one behind the other, as at a stop: which session ends with the next one, and what stands behind it.

@@ -6,6 +6,7 @@ use Rattle.spec_exchange.specs.Texts.{begins_with_backslash, is_path}
 use Rattle.spec_exchange.specs.Commands.{Command, Unreadable, Aside, Setup, Logoff, TreeConnect, TreeDisconnect, Create, Close}
 use Rattle.spec_exchange.specs.Commands.{Flush, Read, Write, Lock, Ioctl, ListDirectory, QueryFile, QueryVolume, SetInfo}
 use Rattle.spec_exchange.specs.Commands.{Setting, SetBasic, Rename, SetDelete, SetAllocation, SetEnd, CreateRequest, Reconnect}
+use Rattle.spec_exchange.specs.Commands.{SetPosition, SetMode}
 use Rattle.spec_exchange.specs.Commands.{asks_directory, asks_file, form, path_form, made_form, create_form, is_setup}
 use Rattle.spec_exchange.specs.Commands.{has_bit}
 use Rattle.spec_exchange.specs.State.{Server, Message, ServerEvent, Accept, Heard, End, Stop, Record, Answer}
@@ -112,6 +113,8 @@ sets_fit (Rename replace path) t e = leaf_of_text path t (path_kept path e)
 sets_fit (SetDelete flag) t e = tt
 sets_fit (SetAllocation size) t e = tt
 sets_fit (SetEnd size) t e = tt
+sets_fit (SetPosition position) t e = tt
+sets_fit SetMode t e = tt
 
 asks_fit : (c : Command) → IsTyped c → form c ≡ None → AsksFit c
 asks_fit (Create r) t e = (λ new. leaf_of_text r.path t.0 (create_kept r (made_kept r new e)), t.1)

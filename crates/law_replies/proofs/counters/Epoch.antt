@@ -2,7 +2,7 @@
 use Rattle.std.proofs.Common.{◌≡◌, ℕ, ◌+◌, ◌≤◌, Bool, true, false, not, if◌then◌else◌, List, [], ◌∷◌, refl, ap, subst, arith}
 use Rattle.spec_exchange.specs.State.{Server, Reply}
 use Rattle.spec_exchange.specs.Client.{Client}
-use Rattle.spec_exchange.specs.Fold.{fold_from}
+use Rattle.spec_exchange.specs.Fold.{fold_from, sweep, unmark_records}
 use Rattle.spec_exchange.specs.Dialogs.{DialogStep, GoesOn, Accepts, Binds, Readies, Refuses, dialog_step}
 use Rattle.spec_exchange.specs.ClientStep.{Act, Nothing, Sends, Asks, CloseChannel, CloseChannels, AllSettled, Pushes, IsCut, IsReady}
 use Rattle.spec_exchange.specs.ClientStep.{Hears, act, client_after}
@@ -169,7 +169,7 @@ epoch_on w (Finish refusal) r s =
 
 -- the first start begins the first epoch
 first_epoch : (z : Settings) → (start z).server.epoch ≡ 1
-unfolding fold_from
+unfolding fold_from sweep unmark_records
 first_epoch z = refl
 
 pub first_upto : (z : Settings) → (start z).server.epoch ≤ 1 + restarts_in []

@@ -1,6 +1,6 @@
 -- Operations are taken where they keep their limits, and stay as they are.
 use Rattle.std.proofs.lemmas.Bool.{eqb-false}
-use Rattle.std.proofs.Common.{◌≡◌, ℕ, ◌+◌, ◌-◌, ◌<◌, ◌≤◌, ◌==◌, eqb-true, true, false, if◌then◌else◌, refl, sym, subst, arith}
+use Rattle.std.proofs.Common.{◌≡◌, ℕ, ◌+◌, ◌<◌, ◌≤◌, ◌==◌, eqb-true, true, false, if◌then◌else◌, refl, sym, subst, arith}
 use Rattle.spec_exchange.specs.State.{last_moment, no_later}
 use Rattle.spec_exchange.specs.Operations.{Op, keeps_limits}
 use Rattle.spec_exchange.specs.Client.{Client, may_take, take_op}

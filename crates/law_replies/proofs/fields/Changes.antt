@@ -11,9 +11,8 @@ use Rattle.spec_exchange.specs.State.{Server, Message, Entry, Open}
 use Rattle.spec_exchange.specs.Files.{times_at, touched, emptied_basic, make_file, set_content, empty_file, store_basic}
 use Rattle.spec_exchange.specs.Files.{set_delete_pending, without_file, without_target, remove_file, path_in, path_of}
 use Rattle.spec_exchange.specs.Files.{moved_entries, rename_file}
-use Rattle.spec_exchange.specs.Files.{file_attributes}
-use Rattle.spec_exchange.specs.Files.{directory_attributes}
-use Rattle.spec_exchange.specs.Opens.{drop_open, leave_open, pending_behind, without_gone, goes}
+use Rattle.spec_exchange.specs.Files.{file_attributes, directory_attributes}
+use Rattle.spec_exchange.specs.Opens.{drop_open, leave_open, pending_behind, without_gone, goes, is_kept_back, left_file}
 use Rattle.spec_exchange.specs.CheckCreate.{last_file, empties}
 use Rattle.spec_exchange.specs.CheckOpen.{is_late, is_slot, file_of}
 use Rattle.spec_exchange.specs.Effects.{apply, reach, attached, attach, keep_slot, keep_closed, change_file, file_made, new_file}
@@ -234,8 +233,11 @@ pub pending_set : (s : Server) (o : ℕ) → RowsFit s → RowsFit (pending_behi
 pending_set s o h =
     either RowsFit (deletes_on_close (s.opened o).options) (set_delete_pending s (s.opened o).file true) s (λ _. h) (λ _. h)
 
+left_file_fits : (s : Server) (f : ℕ) → RowsFit s → RowsFit (left_file s f)
+left_file_fits s f h = either RowsFit (is_kept_back s f) (set_delete_pending s f false) (without_gone s f) (λ _. h) (λ _. gone s f h)
+
 left : (s : Server) (o : ℕ) → RowsFit s → RowsFit (leave_open s o)
-left s o h = gone (drop_open (pending_behind s o) o) (s.opened o).file (pending_set s o h)
+left s o h = left_file_fits (drop_open (pending_behind s o) o) (s.opened o).file (pending_set s o h)
 
 pub expired_added : (s : Server) (client : ℕ) (g : Option ℕ) → RowsFit s → RowsFit (add_expired_guid s client g)
 expired_added s client None h = h

@@ -1,5 +1,7 @@
 -- What is told of the server's rows fits, since they do.
+use Rattle.law_server.proofs.tables.Closing.{left_beside}
 use Rattle.std.proofs.Common.{◌≡◌, ℕ, ◌+◌, ◌<◌, ◌≤◌, ◌^◌, nat_le, nat_lt, Bool, true, false, not, ◌&&◌, ◌||◌, if◌then◌else◌}
+use Rattle.std.specs.Prelude.{◌==◌}
 use Rattle.std.proofs.Common.{List, [], ◌∷◌, length, refl, sym, subst, arith, inl, inr, Option, Some, None, is_some}
 use Rattle.std.proofs.lemmas.Bool.Decides.{nat_tests}
 use Rattle.spec_exchange.specs.Table.{is_at}
@@ -10,9 +12,9 @@ use Rattle.spec_exchange.specs.Commands.{Command, Unreadable, Aside, Setup, Logo
 use Rattle.spec_exchange.specs.Commands.{Close, Flush, Read, Write, Lock, Ioctl, ListDirectory, QueryFile, QueryVolume, SetInfo}
 use Rattle.spec_exchange.specs.Commands.{CreateRequest, Durable, Reconnect, deletes_on_close, form, is_setup}
 use Rattle.spec_exchange.specs.State.{Server, Message, Heard, Named, Record, Listing}
-use Rattle.spec_exchange.specs.Files.{find, path_of, is_directory, info_of, remove_file, set_delete_pending}
-use Rattle.spec_exchange.specs.Opens.{id_of, max_ids, deletes, mapped, is_of_tree, drop_open, pending_behind}
-use Rattle.spec_exchange.specs.Opens.{without_gone, goes, leave_open}
+use Rattle.spec_exchange.specs.Files.{find, path_of, is_directory, info_of}
+use Rattle.spec_exchange.specs.Opens.{id_of, max_ids, deletes, mapped, is_of_tree}
+use Rattle.spec_exchange.specs.Opens.{leave_open}
 use Rattle.spec_exchange.specs.CheckCreate.{last_file, keeps_guid, max_guids, is_counted_out, action_of, names, shares, refused_by}
 use Rattle.spec_exchange.specs.CheckCreate.{refused_create, after_names, new_check, live_check, refusal_check, guid_check, has_guid}
 use Rattle.spec_exchange.specs.CheckCreate.{reconnect_check, durable_check, reconnect_or_create, create_check}
@@ -93,8 +95,9 @@ told_query : (n : ℕ) (s : Server) (o class room : ℕ) → RowsFit s → Tells
 told_query n s o class room h =
     let row = h.opens o in
     either (Tells n) (needs_attributes class && not (has_access s o 0x80)) _ _ (λ _. tt)
-    (λ _. either (Tells n) (nat_lt room (file_info_size class (path_of s (file_of s o)))) _ _ (λ _. tt)
-    (λ _. info_fits s (file_of s o) row.number h))
+    (λ _. either (Tells n) (class == 21) _ _ (λ _. tt)
+    (λ _. either (Tells n) (nat_lt room (file_info_size class (is_directory s (file_of s o)) (path_of s (file_of s o)))) _ _ (λ _. tt)
+    (λ _. info_fits s (file_of s o) row.number h)))
 
 told_listing : (n o class : ℕ) (last : Option (List ℕ)) (all fit : List Named) → FitsBody n (Listing class fit)
     → Tells n (listing_of o class last all fit)
@@ -306,16 +309,8 @@ body_fits n t m now records DropTree k w i h e f told = absurd told
 
 -- ---- the state that the checks see
 
-epoch_pending : (n : ℕ) (s : Server) (o : ℕ) → s.epoch ≤ n → (pending_behind s o).epoch ≤ n
-epoch_pending n s o l =
-    either (λ (u : Server). u.epoch ≤ n) (deletes_on_close (s.opened o).options) (set_delete_pending s (s.opened o).file true) s
-    (λ _. l) (λ _. l)
-
-epoch_gone : (n : ℕ) (s : Server) (f : ℕ) → s.epoch ≤ n → (without_gone s f).epoch ≤ n
-epoch_gone n s f l = either (λ (u : Server). u.epoch ≤ n) (goes s f) (remove_file s f) s (λ _. l) (λ _. l)
-
 epoch_left : (n : ℕ) (s : Server) (o : ℕ) → s.epoch ≤ n → (leave_open s o).epoch ≤ n
-epoch_left n s o l = epoch_gone n (drop_open (pending_behind s o) o) (s.opened o).file (epoch_pending n s o l)
+epoch_left n s o l = subst (λ (k : ℕ). k ≤ n) (sym (left_beside s o).epoch) l
 
 epoch_added : (n : ℕ) (s : Server) (client : ℕ) (g : Option ℕ) → s.epoch ≤ n → (add_expired_guid s client g).epoch ≤ n
 epoch_added n s client None l = l

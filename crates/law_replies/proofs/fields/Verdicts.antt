@@ -4,6 +4,7 @@ use Rattle.std.proofs.Common.{if◌then◌else◌, List, [], ◌∷◌, ◌⊎�
 use Rattle.std.proofs.lemmas.Bool.Decides.{nat_tests}
 use Rattle.spec_exchange.specs.Content.{is_empty}
 use Rattle.spec_exchange.specs.Commands.{Command, Create, SetInfo, Basic, Setting, SetBasic, Rename, SetDelete, SetAllocation, SetEnd}
+use Rattle.spec_exchange.specs.Commands.{SetPosition, SetMode}
 use Rattle.spec_exchange.specs.Commands.{CreateRequest, Durable}
 use Rattle.spec_exchange.specs.State.{Server, Message, Body}
 use Rattle.spec_exchange.specs.Files.{root, find, is_directory, set_time, set_basic, passes_room}
@@ -133,6 +134,8 @@ setting_keeps s m o (SetAllocation size) i op h g says =
     (λ e. ended_few size c (below_it size (length c) e (h.sizes (file_of s o)))) (λ _. tt)
 setting_keeps s m o (SetEnd size) i op h g says =
     ended_few size (s.content (file_of s o)) (size_few s (file_of s o) size h says.room)
+setting_keeps s m o (SetPosition position) i op h g says = tt
+setting_keeps s m o SetMode i op h g says = tt
 
 alter_keeps : (s : Server) (m : Message) (o : ℕ) (change : Change) (body : Body) → Fits s → RowsFit s → AsksFit m.command
     → OpenFacts s m o → WriteFacts s m o change body ⊎ SettingFacts s m o change body

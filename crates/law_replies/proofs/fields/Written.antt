@@ -15,9 +15,7 @@ use Rattle.spec_exchange.specs.State.{CloseRecord, ExpireRecord}
 use Rattle.spec_exchange.specs.Files.{root, find, exists, is_directory, has_parent, path_in, used, passes_room, make_file, set_content}
 use Rattle.spec_exchange.specs.Files.{empty_file, store_basic, set_delete_pending, remove_file, rename_file, without_file}
 use Rattle.spec_exchange.specs.Ranges.{RangeAnswer, Stands, Denied, change_ranges}
-use Rattle.spec_exchange.specs.Opens.{drop_open, leave_open, pending_behind, without_gone, goes, leave_records}
-use Rattle.spec_exchange.specs.Opens.{pending_records, shut_records, gone_records}
-use Rattle.spec_exchange.specs.Opens.{granted}
+use Rattle.spec_exchange.specs.Opens.{drop_open, leave_open, pending_behind, without_gone, goes, leave_records, pending_records, shut_records, gone_records, granted, is_kept_back, left_file_records}
 use Rattle.spec_exchange.specs.CheckCreate.{last_file, max_files}
 use Rattle.spec_exchange.specs.CheckOpen.{target_of, file_of}
 use Rattle.spec_exchange.specs.Effects.{apply, new_open, new_file, create_records, is_persistent, recorded_index}
@@ -31,7 +29,7 @@ use Rattle.spec_exchange.specs.Verdict.{EndSession, AddTree, DropTree, Change, P
 use Rattle.spec_exchange.specs.Verdict.{PutDeletePending, PutPath, PutNothing}
 use Rattle.spec_exchange.specs.Fold.{full_room, fold, fold_from, with_record, sweep, may_make, may_create, may_have_open, restored_row}
 use Rattle.spec_exchange.specs.Fold.{restore, created_file, is_file, may_rename, may_remove, lock_granted, lock_recorded, shut_recorded}
-use Rattle.spec_exchange.specs.Fold.{nothing_yet, no_times, no_open, opening_records}
+use Rattle.spec_exchange.specs.Fold.{nothing_yet, no_times, no_open, opening_records, epoch_records, is_left_pending, mark_records, unmark_records}
 use Rattle.spec_exchange.specs.Step.{expire_records, max_expired_guids, ends_with, take_out, take_all_records, add_expired_guid}
 use Rattle.law_server.proofs.tables.Logic.{either, front_of, back_of, not_true}
 use Rattle.law_commands.specs.commands.Fitting.{IsBasic}
@@ -71,6 +69,15 @@ fit_gone : (s : Server) (origin : Origin) (f : ℕ) → AllFit (gone_records s o
 unfolding gone_records
 fit_gone s origin f = either AllFit (goes s f) (RemoveRecord origin f ∷ []) [] (λ _. (tt, tt)) (λ _. tt)
 
+fit_mark : (s : Server) (f : ℕ) → AllFit (mark_records s f)
+unfolding mark_records
+fit_mark s f = either AllFit (is_left_pending s f) (DeleteRecord (origin_at 0) f false ∷ []) [] (λ _. (tt, tt)) (λ _. tt)
+
+fit_settled : (s : Server) (origin : Origin) (f : ℕ) → AllFit (left_file_records s origin f)
+unfolding left_file_records
+fit_settled s origin f = either AllFit (is_kept_back s f) (DeleteRecord origin f false ∷ []) (gone_records s origin f) (λ _. (tt, tt))
+    (λ _. fit_gone s origin f)
+
 fit_shut : (s : Server) (origin : Origin) (o : ℕ) → AllFit (shut_records s origin o)
 unfolding shut_records
 fit_shut s origin o = either AllFit (s.opened o).persistent (CloseRecord origin o ∷ []) [] (λ _. (tt, tt)) (λ _. tt)
@@ -86,8 +93,8 @@ unfolding leave_records
 fit_left s origin o =
     let f = (s.opened o).file in
     let d = drop_open (pending_behind s o) o in
-    fit_more (pending_records s origin o) (shut_records s origin o ++ gone_records d origin f) (fit_pending s origin o)
-    (fit_more (shut_records s origin o) (gone_records d origin f) (fit_shut s origin o) (fit_gone d origin f))
+    fit_more (pending_records s origin o) (shut_records s origin o ++ left_file_records d origin f) (fit_pending s origin o)
+    (fit_more (shut_records s origin o) (left_file_records d origin f) (fit_shut s origin o) (fit_settled d origin f))
 
 fit_all_left : (s : Server) (origin : Origin) (os : List ℕ) → AllFit (leave_all_records s origin os)
 unfolding leave_all_records
@@ -107,7 +114,7 @@ fit_named s origin (Some session) q = fit_ended s origin session q
 
 pub fit_expired : (s : Server) (origin : Origin) (o : ℕ) → AllFit (expire_records s origin o)
 unfolding expire_records
-fit_expired s origin o = (tt, fit_gone (drop_open (pending_behind s o) o) origin (s.opened o).file)
+fit_expired s origin o = (tt, fit_settled (drop_open (pending_behind s o) o) origin (s.opened o).file)
 
 pub fit_all_out : (s : Server) (ks : List ℕ) (now : ℕ) (q : Bool) → AllFit (take_all_records s ks now q)
 unfolding take_all_records
@@ -397,10 +404,20 @@ unfolding fold_from
 folds s [] e h = h
 folds s (r ∷ rs) e h = folds (with_record s r) rs e.1 (by_record s r e.0 h)
 
-pub fit_opening : (d : Server) → AllFit (opening_records d)
-fit_opening d =
+fit_epoch : (d : Server) → AllFit (epoch_records d)
+fit_epoch d =
     either AllFit (d.version == 1) (VersionRecord 2 ∷ EpochRecord (d.epoch + 1) ∷ []) (EpochRecord (d.epoch + 1) ∷ [])
     (λ _. (tt, (tt, tt))) (λ _. (tt, tt))
+
+fit_unmarked : (d : Server) (es : List Entry) → AllFit (unmark_records d es)
+unfolding unmark_records
+fit_unmarked d [] = tt
+fit_unmarked d (e ∷ es) = fit_more (mark_records d e.file) (unmark_records d es) (fit_mark d e.file)
+    (fit_unmarked d es)
+
+pub fit_opening : (d : Server) → AllFit (opening_records d)
+fit_opening d = let b = fold_from d (epoch_records d) in
+    fit_more (epoch_records d) (unmark_records b b.entries) (fit_epoch d) (fit_unmarked b b.entries)
 
 zero_8 : 0 < 256 ^ 8
 zero_8 = omega arith

@@ -32,6 +32,7 @@ use Rattle.spec_wire.specs.messages.VolumeClasses.{file_fs_size_information_spel
 use Rattle.spec_wire.specs.messages.VolumeClasses.{file_fs_device_information_spelling, file_fs_device_information_table}
 use Rattle.spec_wire.specs.messages.VolumeClasses.{file_fs_attribute_information_spelling, file_fs_attribute_information_whole}
 use Rattle.spec_wire.specs.messages.VolumeClasses.{file_fs_full_size_information_spelling, file_fs_full_size_information_table}
+use Rattle.spec_wire.specs.messages.VolumeClasses.{file_fs_sector_size_information_spelling, file_fs_sector_size_information_table}
 use Rattle.spec_exchange.specs.Commands.{Command, Aside, Unreadable, Setup, Logoff, TreeConnect, TreeDisconnect, Create, Close}
 use Rattle.spec_exchange.specs.Commands.{Flush, Read, Write, Lock, Ioctl, ListDirectory, QueryFile, QueryVolume, SetInfo}
 use Rattle.spec_exchange.specs.State.{Address, CreateReply, Body, Empty, Created, Closed, Content, Count, Interfaces, Listing}
@@ -39,7 +40,7 @@ use Rattle.spec_exchange.specs.State.{FileInfo, VolumeInfo, SetUp, Connected}
 use Rattle.spec_commands.specs.Fits.{FitsSuccess}
 use Rattle.spec_commands.specs.Ids.{file_id}
 use Rattle.spec_commands.specs.Infos.{file_bytes, volume_bytes, listing_bytes, interface_bytes, volume_value, sizes_of}
-use Rattle.spec_commands.specs.Infos.{full_sizes_of, file_system}
+use Rattle.spec_commands.specs.Infos.{full_sizes_of, file_system, sectors}
 use Rattle.spec_commands.specs.ReplyBody.{success_body, created_value, closed_value, untold_value, connected_value}
 use Rattle.spec_commands.specs.ReplyBody.{content_value, count_value, interfaces_value, seals_in}
 use Rattle.spec_commands.specs.ReplyBody.{contexts_told, timeout_told, access_told, disk_id_told}
@@ -181,24 +182,26 @@ interfaces_few file code address =
 few : (fs : List Field) → total fs ≤ 100 → length (with_fields [] fs) ≤ 100
 few fs short = omega (arith, short, length_fields fs [])
 
-volume_by : (room used : ℕ) (a b c d : Bool) → length (if a then file_fs_volume_information_spelling volume_value
+volume_by : (room used : ℕ) (a b c d e : Bool) → length (if a then file_fs_volume_information_spelling volume_value
     else if b then file_fs_size_information_spelling (sizes_of room used)
     else if c then file_fs_device_information_spelling (record { device_type = 7; characteristics = 0x20 })
     else if d then file_fs_attribute_information_spelling file_system
+    else if e then file_fs_sector_size_information_spelling sectors
     else file_fs_full_size_information_spelling (full_sizes_of room used)) ≤ 100
 unfolding total
-volume_by room used true b c d = few (file_fs_volume_information_whole volume_value) (omega arith)
-volume_by room used false true c d = few (file_fs_size_information_table (sizes_of room used)) (omega arith)
-volume_by room used false false true d = few (file_fs_device_information_table (record {
+volume_by room used true b c d e = few (file_fs_volume_information_whole volume_value) (omega arith)
+volume_by room used false true c d e = few (file_fs_size_information_table (sizes_of room used)) (omega arith)
+volume_by room used false false true d e = few (file_fs_device_information_table (record {
   device_type = 7;
   characteristics = 0x20;
 })) (omega arith)
-volume_by room used false false false true = few (file_fs_attribute_information_whole file_system) (omega (arith, ntfs_few))
-volume_by room used false false false false = few (file_fs_full_size_information_table (full_sizes_of room used)) (omega arith)
+volume_by room used false false false true e = few (file_fs_attribute_information_whole file_system) (omega (arith, ntfs_few))
+volume_by room used false false false false true = few (file_fs_sector_size_information_table sectors) (omega arith)
+volume_by room used false false false false false = few (file_fs_full_size_information_table (full_sizes_of room used)) (omega arith)
 
 volume_few : (class room used : ℕ) → length (volume_bytes class room used) ≤ 0 + 100
 unfolding volume_bytes
-volume_few class room used = volume_by room used (class == 1) (class == 3) (class == 4) (class == 5)
+volume_few class room used = volume_by room used (class == 1) (class == 3) (class == 4) (class == 5) (class == 11)
 
 setup_few : (flags : ℕ) (token : List ℕ) → length token < 2 ^ 16
     → length (with_fields [] (session_setup_response_whole (record { session_flags = flags; security = token }))) ≤ 66048
@@ -243,7 +246,7 @@ success_fits token (TreeConnect share) (Content told) short text is = (tt, omega
 success_fits token (TreeConnect share) (Count count) short text is = (tt, omega arith)
 success_fits token (TreeConnect share) (Interfaces address) short text is = (tt, omega arith)
 success_fits token (TreeConnect share) (Listing told entries) short text is = (tt, omega arith)
-success_fits token (TreeConnect share) (FileInfo told path info access options) short text is = (tt, omega arith)
+success_fits token (TreeConnect share) (FileInfo told path info access options position) short text is = (tt, omega arith)
 success_fits token (TreeConnect share) (VolumeInfo told size used) short text is = (tt, omega arith)
 success_fits token (TreeConnect share) (SetUp sealed number) short text is = (tt, omega arith)
 success_fits token (TreeConnect share) (Connected kind capabilities access) short text is =
@@ -255,7 +258,7 @@ success_fits token (Create request) (Content told) short text is = (tt, omega ar
 success_fits token (Create request) (Count count) short text is = (tt, omega arith)
 success_fits token (Create request) (Interfaces address) short text is = (tt, omega arith)
 success_fits token (Create request) (Listing told entries) short text is = (tt, omega arith)
-success_fits token (Create request) (FileInfo told path info access options) short text is = (tt, omega arith)
+success_fits token (Create request) (FileInfo told path info access options position) short text is = (tt, omega arith)
 success_fits token (Create request) (VolumeInfo told size used) short text is = (tt, omega arith)
 success_fits token (Create request) (SetUp sealed number) short text is = (tt, omega arith)
 success_fits token (Create request) (Connected kind capabilities access) short text is = (tt, omega arith)
@@ -266,7 +269,7 @@ success_fits token (Close file query) (Content told) short text is = (tt, omega 
 success_fits token (Close file query) (Count count) short text is = (tt, omega arith)
 success_fits token (Close file query) (Interfaces address) short text is = (tt, omega arith)
 success_fits token (Close file query) (Listing told entries) short text is = (tt, omega arith)
-success_fits token (Close file query) (FileInfo told path info access options) short text is = (tt, omega arith)
+success_fits token (Close file query) (FileInfo told path info access options position) short text is = (tt, omega arith)
 success_fits token (Close file query) (VolumeInfo told size used) short text is = (tt, omega arith)
 success_fits token (Close file query) (SetUp sealed number) short text is = (tt, omega arith)
 success_fits token (Close file query) (Connected kind capabilities access) short text is = (tt, omega arith)
@@ -278,7 +281,7 @@ success_fits token (Read file at many minimum channel) (Content told) short text
 success_fits token (Read file at many minimum channel) (Count count) short text is = (tt, omega arith)
 success_fits token (Read file at many minimum channel) (Interfaces address) short text is = (tt, omega arith)
 success_fits token (Read file at many minimum channel) (Listing told entries) short text is = (tt, omega arith)
-success_fits token (Read file at many minimum channel) (FileInfo told path info access options) short text is =
+success_fits token (Read file at many minimum channel) (FileInfo told path info access options position) short text is =
     (tt, omega arith)
 success_fits token (Read file at many minimum channel) (VolumeInfo told size used) short text is = (tt, omega arith)
 success_fits token (Read file at many minimum channel) (SetUp sealed number) short text is = (tt, omega arith)
@@ -292,7 +295,7 @@ success_fits token (Write file at bytes channel) (Count count) short text is =
     (tt, omega (arith, length_fields (write_response_table (count_value count)) []))
 success_fits token (Write file at bytes channel) (Interfaces address) short text is = (tt, omega arith)
 success_fits token (Write file at bytes channel) (Listing told entries) short text is = (tt, omega arith)
-success_fits token (Write file at bytes channel) (FileInfo told path info access options) short text is =
+success_fits token (Write file at bytes channel) (FileInfo told path info access options position) short text is =
     (tt, omega arith)
 success_fits token (Write file at bytes channel) (VolumeInfo told size used) short text is = (tt, omega arith)
 success_fits token (Write file at bytes channel) (SetUp sealed number) short text is = (tt, omega arith)
@@ -304,7 +307,7 @@ success_fits token (Ioctl file code room) (Content told) short text is = (tt, om
 success_fits token (Ioctl file code room) (Count count) short text is = (tt, omega arith)
 success_fits token (Ioctl file code room) (Interfaces address) short text is = (tt, interfaces_few file code address)
 success_fits token (Ioctl file code room) (Listing told entries) short text is = (tt, omega arith)
-success_fits token (Ioctl file code room) (FileInfo told path info access options) short text is = (tt, omega arith)
+success_fits token (Ioctl file code room) (FileInfo told path info access options position) short text is = (tt, omega arith)
 success_fits token (Ioctl file code room) (VolumeInfo told size used) short text is = (tt, omega arith)
 success_fits token (Ioctl file code room) (SetUp sealed number) short text is = (tt, omega arith)
 success_fits token (Ioctl file code room) (Connected kind capabilities access) short text is = (tt, omega arith)
@@ -327,7 +330,7 @@ success_fits token (ListDirectory file class restart single pattern room) (Listi
   ),
   directory_few (record { output = listing_bytes told entries }) (min room 1048576) is.1,
 )
-success_fits token (ListDirectory file class restart single pattern room) (FileInfo told path info access options) short text is =
+success_fits token (ListDirectory file class restart single pattern room) (FileInfo told path info access options position) short text is =
     (tt, omega arith)
 success_fits token (ListDirectory file class restart single pattern room) (VolumeInfo told size used) short text is =
     (tt, omega arith)
@@ -342,12 +345,12 @@ success_fits token (QueryFile file class room) (Content told) short text is = (t
 success_fits token (QueryFile file class room) (Count count) short text is = (tt, omega arith)
 success_fits token (QueryFile file class room) (Interfaces address) short text is = (tt, omega arith)
 success_fits token (QueryFile file class room) (Listing told entries) short text is = (tt, omega arith)
-success_fits token (QueryFile file class room) (FileInfo told path info access options) short text is = (
-  below_32 (length (file_bytes told path info access options)) room (is text),
+success_fits token (QueryFile file class room) (FileInfo told path info access options position) short text is = (
+  below_32 (length (file_bytes told path info access options position)) room (is text),
   info_few (record {
-    output = file_bytes told path info access options;
+    output = file_bytes told path info access options position;
   }) (min room 1048576)
-      (more_100 (length (file_bytes told path info access options)) room (is text)),
+      (more_100 (length (file_bytes told path info access options position)) room (is text)),
 )
 success_fits token (QueryFile file class room) (VolumeInfo told size used) short text is = (tt, omega arith)
 success_fits token (QueryFile file class room) (SetUp sealed number) short text is = (tt, omega arith)
@@ -359,7 +362,7 @@ success_fits token (QueryVolume file class room) (Content told) short text is = 
 success_fits token (QueryVolume file class room) (Count count) short text is = (tt, omega arith)
 success_fits token (QueryVolume file class room) (Interfaces address) short text is = (tt, omega arith)
 success_fits token (QueryVolume file class room) (Listing told entries) short text is = (tt, omega arith)
-success_fits token (QueryVolume file class room) (FileInfo told path info access options) short text is =
+success_fits token (QueryVolume file class room) (FileInfo told path info access options position) short text is =
     (tt, omega arith)
 success_fits token (QueryVolume file class room) (VolumeInfo told size used) short text is =
     (volume_short told size used, info_few (record { output = volume_bytes told size used }) 0 (volume_few told size used))

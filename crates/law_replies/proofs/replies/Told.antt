@@ -9,6 +9,8 @@ use Rattle.spec_wire.specs.messages.FileClasses.{file_standard_information_spell
 use Rattle.spec_wire.specs.messages.FileClasses.{file_internal_information_spelling, file_internal_information_table}
 use Rattle.spec_wire.specs.messages.FileClasses.{file_network_open_information_spelling, file_network_open_information_table}
 use Rattle.spec_wire.specs.messages.FileClasses.{file_all_information_spelling, file_all_information_whole}
+use Rattle.spec_wire.specs.messages.FileClasses.{file_position_information_spelling, file_position_information_table}
+use Rattle.spec_wire.specs.messages.FileClasses.{file_name_information_spelling, file_name_information_whole}
 use Rattle.spec_wire.specs.declared.messages.directory_class.DirectoryClass.{DirectoryClass}
 use Rattle.spec_exchange.specs.Status.{user_session_deleted, invalid_parameter}
 use Rattle.spec_exchange.specs.Texts.{utf16_length, units_of}
@@ -20,7 +22,7 @@ use Rattle.spec_exchange.specs.Ranges.{may_read}
 use Rattle.spec_exchange.specs.Opens.{is_of_tree}
 use Rattle.spec_exchange.specs.CheckOpen.{file_of, has_access, needs_attributes, there, read_check, file_query_check}
 use Rattle.spec_exchange.specs.CheckOpen.{begins_at, listing_of, list_check}
-use Rattle.spec_exchange.specs.Listing.{all_named, wanted, fitting, one_or_all, file_info_size}
+use Rattle.spec_exchange.specs.Listing.{all_named, wanted, fitting, one_or_all, file_info_size, is_short_class, streams_size}
 use Rattle.spec_exchange.specs.CheckSetup.{tree_in}
 use Rattle.spec_exchange.specs.Check.{check, owed, formed, command_check, with_tree, in_tree, tree_command, on_open, has_session}
 use Rattle.spec_exchange.specs.Effects.{apply}
@@ -32,8 +34,9 @@ use Rattle.law_server.proofs.tables.Logic.{either}
 use Rattle.law_server.proofs.tables.Doors.{Before, Finds, by_verdict, recorded}
 use Rattle.spec_commands.specs.Fits.{AreListed, AreListedIn}
 use Rattle.spec_commands.specs.Infos.{listing_bytes, file_bytes, basic_of, standard_of, network_open_of, all_of}
+use Rattle.spec_commands.specs.Infos.{short_bytes, streams_of}
 use Rattle.spec_commands.specs.Tables.{directory_class}
-use Rattle.spec_commands.proofs.Lengths.{total, length_fields}
+use Rattle.spec_commands.proofs.Lengths.{total, length_fields, short_long, streams_long}
 use Rattle.law_commands.specs.commands.Fitting.{AreFittingNames}
 use Rattle.law_commands.proofs.commands.Limits.{ascii_then}
 use Rattle.law_commands.proofs.commands.PathLength.{sum_append}
@@ -49,8 +52,8 @@ abbrev pub BodyIs : Command → Body → Type 0
 BodyIs (Read file at size minimum channel) (Content bytes) = length bytes ≤ min size 1048576
 BodyIs (ListDirectory file class restart single pattern room) (Listing told entries) =
     AreListedIn (directory_class told) entries × (length (listing_bytes told entries) ≤ min room 1048576 + 7)
-BodyIs (QueryFile file class room) (FileInfo told path info access options) =
-    IsUtf8 path → length (file_bytes told path info access options) ≤ min room 1048576 + 8
+BodyIs (QueryFile file class room) (FileInfo told path info access options position) =
+    IsUtf8 path → length (file_bytes told path info access options position) ≤ min room 1048576 + 8
 BodyIs _ _ = Unit {0}
 
 -- of the verdicts on these
@@ -91,32 +94,50 @@ rooted_few : (path : List ℕ) → IsUtf8 path → length (utf16 (92 ∷ path)) 
 rooted_few path is =
     omega (arith, units_are_counted (92 ∷ path) (ascii_then 92 path (omega arith) is), sum_append (92 ∷ []) path, backslash_few)
 
-file_by : (a b c d : Bool) (path : List ℕ) (i : Info) (access options : ℕ) → IsUtf8 path
+file_by : (k : ℕ) (a b c d e f g h : Bool) (path : List ℕ) (i : Info) (access options position : ℕ) → IsUtf8 path
     → length (if a then file_basic_information_spelling (basic_of i)
     else if b then file_standard_information_spelling (standard_of i)
     else if c then file_internal_information_spelling (record { index_number = i.file })
     else if d then file_network_open_information_spelling (network_open_of i)
-    else file_all_information_spelling (all_of path i access options))
-    ≤ (if a then 40 else if b then 24 else if c then 8 else if d then 56 else 100 + 2 * (utf16_length path + 1)) + 8
+    else if e then short_bytes k access
+    else if f then file_position_information_spelling (record { current_byte_offset = position })
+    else if g then streams_of i
+    else if h then file_name_information_spelling (record { name = utf16 (92 ∷ path) })
+    else file_all_information_spelling (all_of path i access options position))
+    ≤ (if a then 40 else if b then 24 else if c then 8 else if d then 56 else if e then 4 else if f then 8
+    else if g then streams_size i.is_directory else (if h then 4 else 100) + 2 * (utf16_length path + 1)) + 8
 unfolding total
-file_by true b c d path i access options is = omega (arith, length_fields (file_basic_information_table (basic_of i)) [])
-file_by false true c d path i access options is = omega (arith, length_fields (file_standard_information_table (standard_of i)) [])
-file_by false false true d path i access options is = omega (
+file_by k true b c d e f g h path i access options position is = omega (arith, length_fields (file_basic_information_table (basic_of i)) [])
+file_by k false true c d e f g h path i access options position is =
+    omega (arith, length_fields (file_standard_information_table (standard_of i)) [])
+file_by k false false true d e f g h path i access options position is = omega (
   arith,
   length_fields (file_internal_information_table (record { index_number = i.file })) [],
 )
-file_by false false false true path i access options is =
+file_by k false false false true e f g h path i access options position is =
     omega (arith, length_fields (file_network_open_information_table (network_open_of i)) [])
-file_by false false false false path i access options is = omega (
+file_by k false false false false true f g h path i access options position is = omega (arith, short_long k access)
+file_by k false false false false false true g h path i access options position is = omega (
   arith,
-  length_fields (file_all_information_whole (all_of path i access options)) [],
+  length_fields (file_position_information_table (record { current_byte_offset = position })) [],
+)
+file_by k false false false false false false true h path i access options position is = omega (arith, streams_long i)
+file_by k false false false false false false false true path i access options position is = omega (
+  arith,
+  length_fields (file_name_information_whole (record { name = utf16 (92 ∷ path) })) [],
+  rooted_few path is,
+)
+file_by k false false false false false false false false path i access options position is = omega (
+  arith,
+  length_fields (file_all_information_whole (all_of path i access options position)) [],
   rooted_few path is,
 )
 
-file_few : (k : ℕ) (path : List ℕ) (i : Info) (access options : ℕ) → IsUtf8 path
-    → length (file_bytes k path i access options) ≤ file_info_size k path + 8
+file_few : (k : ℕ) (path : List ℕ) (i : Info) (access options position : ℕ) → IsUtf8 path
+    → length (file_bytes k path i access options position) ≤ file_info_size k i.is_directory path + 8
 unfolding file_bytes file_info_size
-file_few k path i access options is = file_by (k == 4) (k == 5) (k == 6) (k == 34) path i access options is
+file_few k path i access options position is =
+    file_by k (k == 4) (k == 5) (k == 6) (k == 34) (is_short_class k) (k == 14) (k == 22) (k == 9) path i access options position is
 
 not_less : (a b : ℕ) → nat_lt a b ≡ false → b ≤ a
 not_less a b e = grind (arith, nat_tests)
@@ -125,15 +146,18 @@ in_room : (n size room : ℕ) → n ≤ size + 8 → size ≤ room → room ≤ 
 in_room n size room a b c = omega (arith, a, b, c)
 
 told_query : (s : Server) (o class room : ℕ) → room ≤ 1048576 → Tells (QueryFile o class room) (file_query_check s o class room)
+unfolding info_of
 told_query s o class room few =
     let P : Verdict → Type 0 = λ v. Tells (QueryFile o class room) v in
     let f = file_of s o in
     either P (needs_attributes class && not (has_access s o 0x80)) _ _ (λ _. tt)
-    (λ _. either P (nat_lt room (file_info_size class (path_of s (file_of s o)))) _ _ (λ _. tt)
-    (λ e is. in_room (length (file_bytes class (path_of s f) (info_of s f) (s.opened o).access (s.opened o).options))
-    (file_info_size class (path_of s f)) room
-    (file_few class (path_of s f) (info_of s f) (s.opened o).access (s.opened o).options is)
-    (not_less room (file_info_size class (path_of s f)) e) few))
+    (λ _. either P (class == 21) _ _ (λ _. tt)
+    (λ _. either P (nat_lt room (file_info_size class (is_directory s f) (path_of s f))) _ _ (λ _. tt)
+    (λ e is. in_room
+    (length (file_bytes class (path_of s f) (info_of s f) (s.opened o).access (s.opened o).options (s.current_byte_offset o)))
+    (file_info_size class (is_directory s f) (path_of s f)) room
+    (file_few class (path_of s f) (info_of s f) (s.opened o).access (s.opened o).options (s.current_byte_offset o) is)
+    (not_less room (file_info_size class (is_directory s f) (path_of s f)) e) few)))
 
 -- ---- a QUERY_DIRECTORY
 

@@ -1,5 +1,5 @@
 -- No session's id, in the client or in what waits, is above a number, and no tree's above the last one.
-use Rattle.std.specs.Prelude.{◌≡◌, ℕ, ◌+◌, ◌≤◌, List, [], ◌∷◌}
+use Rattle.std.specs.Prelude.{ℕ, ◌+◌, ◌≤◌, List, [], ◌∷◌}
 use Rattle.spec_exchange.specs.Opens.{id_of, max_ids}
 use Rattle.spec_exchange.specs.CheckSetup.{last_tree}
 use Rattle.spec_exchange.specs.Client.{Client}

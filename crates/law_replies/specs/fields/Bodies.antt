@@ -16,7 +16,7 @@ pub record FitsCreate (epoch : ℕ) (reply : CreateReply) : Type 0 where
 
 abbrev pub FitsBody : ℕ → Body → Type 0
 FitsBody epoch (Created reply) = FitsCreate epoch reply
-FitsBody epoch (FileInfo class path info access options) = IsInfo info
+FitsBody epoch (FileInfo class path info access options position) = IsInfo info
 FitsBody epoch (Listing class entries) = AreFittingNames entries × (length (listing_bytes class entries) ≤ 1048583)
 FitsBody epoch _ = Unit {0}
 

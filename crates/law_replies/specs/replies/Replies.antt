@@ -9,7 +9,7 @@ use Rattle.law_replies.specs.fields.Rows.{RowsFit}
 
 -- the path that is told of a file is text
 abbrev pub IsTextBody : Body → Type 0
-IsTextBody (FileInfo class path info access options) = IsUtf8 path
+IsTextBody (FileInfo class path info access options position) = IsUtf8 path
 IsTextBody _ = Unit {0}
 
 abbrev pub RepliesFit : Type 0

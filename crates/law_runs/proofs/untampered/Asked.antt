@@ -19,7 +19,7 @@ tells_file _ = false
 -- what a success tells of files and of the volume fits a frame
 abbrev pub IsShort : Command → Body → Type 0
 IsShort (ListDirectory file class restart single pattern room) (Listing told entries) = length (listing_bytes told entries) ≤ 1113900
-IsShort (QueryFile file class room) (FileInfo told path info access options) = length (file_bytes told path info access options) ≤ 1113900
+IsShort (QueryFile file class room) (FileInfo told path info access options position) = length (file_bytes told path info access options position) ≤ 1113900
 IsShort (QueryVolume file class room) (VolumeInfo told size used) = length (volume_bytes told size used) ≤ 1113900
 IsShort _ _ = Unit {0}
 

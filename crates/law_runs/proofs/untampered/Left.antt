@@ -70,12 +70,12 @@ short_24 n e = omega (arith, e)
 
 stat_is : (e create file : ℕ) (b : Body) → IsBodyTold (QueryFile file 5 24) b → FitsBody e b → IsFittingAnswer (OpStat create) b
 stat_is e create file b t f =
-    subst (λ (q : Body). IsFittingAnswer (OpStat create) q) (sym t.4) (refl, subst (λ (q : Body). FitsBody e q) t.4 f)
+    subst (λ (q : Body). IsFittingAnswer (OpStat create) q) (sym t.5) (refl, subst (λ (q : Body). FitsBody e q) t.5 f)
 
 stat_short : (file : ℕ) (b : Body) → IsBodyTold (QueryFile file 5 24) b → IsShort (QueryFile file 5 24) b
 stat_short file b t =
-    subst (λ (q : Body). IsShort (QueryFile file 5 24) q) (sym t.4)
-    (short_24 (length (file_bytes 5 t.0 t.1 t.2 t.3)) (standards_are_short t.0 t.1 t.2 t.3))
+    subst (λ (q : Body). IsShort (QueryFile file 5 24) q) (sym t.5)
+    (short_24 (length (file_bytes 5 t.0 t.1 t.2 t.3 t.4)) (standards_are_short t.0 t.1 t.2 t.3 t.4))
 
 list_is : (e create file : ℕ) (b : Body) → IsBodyTold (ListDirectory file 12 true false (42 ∷ []) 1048576) b → FitsBody e b
     → IsFittingAnswer (OpList create) b

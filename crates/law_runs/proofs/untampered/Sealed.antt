@@ -46,7 +46,7 @@ same_seals (Content bytes) e = e
 same_seals (Count count) e = e
 same_seals (Interfaces address) e = e
 same_seals (Listing class entries) e = e
-same_seals (FileInfo class path info access options) e = e
+same_seals (FileInfo class path info access options position) e = e
 same_seals (VolumeInfo class room used) e = e
 same_seals (Connected kind capabilities access) e = e
 

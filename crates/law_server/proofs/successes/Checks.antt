@@ -10,11 +10,10 @@ use Rattle.spec_exchange.specs.Texts.{begins_with_backslash, is_path, is_below}
 use Rattle.spec_exchange.specs.Content.{is_empty}
 use Rattle.spec_exchange.specs.Commands.{Command, Unreadable, Aside, Setup, Logoff, TreeConnect, TreeDisconnect, Create}
 use Rattle.spec_exchange.specs.Commands.{Close, Flush, Read, Write, Lock, Ioctl, ListDirectory, QueryFile, QueryVolume}
-use Rattle.spec_exchange.specs.Commands.{SetInfo, Setting, SetBasic, Rename, SetDelete, SetAllocation, SetEnd, Element, Basic}
+use Rattle.spec_exchange.specs.Commands.{SetInfo, Setting, SetBasic, Rename, SetDelete, SetAllocation, SetEnd, Element, Basic, SetPosition, SetMode}
 use Rattle.spec_exchange.specs.Commands.{form, path_form, transfer_form, lock_form, room_form, list_form, is_short_pattern, is_setup, all_lock, all_unlock}
 use Rattle.spec_exchange.specs.State.{Server, Message, Range, Named, Empty}
-use Rattle.spec_exchange.specs.Files.{root, find, has_parent, is_directory, is_full_directory, is_read_only}
-use Rattle.spec_exchange.specs.Files.{may_set_attributes, may_set_times}
+use Rattle.spec_exchange.specs.Files.{root, find, has_parent, is_directory, is_full_directory, is_read_only, may_set_attributes, may_set_times, has_pending_parent}
 use Rattle.spec_exchange.specs.Files.{path_of, info_of, set_basic, allocated, passes_room}
 use Rattle.spec_exchange.specs.Ranges.{RangeAnswer, Stands, Denied, change_ranges, lock_ranges, unlock_ranges, stands_or, ranges_of}
 use Rattle.spec_exchange.specs.Ranges.{any_wraps, add_ranges, take_ranges, count_owned, max_ranges, may_read, may_write}
@@ -155,9 +154,10 @@ other_rename s f replace path =
     either OtherIn (f == root) _ _ (λ _. refl)
     (λ _. either OtherIn (is_directory s f && is_below (path_of s f) path) _ _ (λ _. refl)
     (λ _. either OtherIn (not (has_parent s path)) _ _ (λ _. refl)
+    (λ _. either OtherIn (has_pending_parent s path) _ _ (λ _. refl)
     (λ _. either OtherIn (is_some (find s path) && not replace) _ _ (λ _. refl)
     (λ _. either OtherIn (target_refused s (target_of f (find s path))) _ _ (λ _. refl)
-    (λ _. either OtherIn (is_directory s f && open_below s s.entries (path_of s f)) _ _ (λ _. refl) (λ _. tt))))))
+    (λ _. either OtherIn (is_directory s f && open_below s s.entries (path_of s f)) _ _ (λ _. refl) (λ _. tt)))))))
 
 other_delete : (s : Server) (f : ℕ) (flag : Bool) → OtherIn (delete_names s f flag)
 unfolding delete_names
@@ -216,6 +216,8 @@ told_setting s m o (SetDelete flag) =
 told_setting s m o (SetAllocation size) =
     told_size s m o (SetAllocation size) (allocated size (length (s.content (file_of s o)))) (allocation_change s (file_of s o) size)
 told_setting s m o (SetEnd size) = told_size s m o (SetEnd size) size (PutEnd size)
+told_setting s m o (SetPosition position) = refl
+told_setting s m o SetMode = refl
 
 told_set : (s : Server) (m : Message) (o : ℕ) (setting : Setting) → Sets o setting (set_check s m o setting)
 told_set s m o setting =
@@ -228,8 +230,16 @@ told_query : (s : Server) (o class room : ℕ) → TellsOf (QueryFile o class ro
 told_query s o class room =
     let P : Verdict → Type 0 = λ v. TellsOf (QueryFile o class room) v in
     either P (needs_attributes class && not (has_access s o 0x80)) _ _ (λ _. refl)
-    (λ _. either P (nat_lt room (file_info_size class (path_of s (file_of s o)))) _ _ (λ _. refl)
-    (λ _. (path_of s (file_of s o), info_of s (file_of s o), (s.opened o).access, (s.opened o).options, refl)))
+    (λ _. either P (class == 21) _ _ (λ _. refl)
+    (λ _. either P (nat_lt room (file_info_size class (is_directory s (file_of s o)) (path_of s (file_of s o)))) _ _ (λ _. refl)
+    (λ _. (
+      path_of s (file_of s o),
+      info_of s (file_of s o),
+      (s.opened o).access,
+      (s.opened o).options,
+      s.current_byte_offset o,
+      refl,
+    ))))
 
 told_listing : (o class : ℕ) (restart single : Bool) (pattern : List ℕ) (room : ℕ) (last : Option (List ℕ)) (all fit : List Named)
     → TellsOf (ListDirectory o class restart single pattern room) (listing_of o class last all fit)
@@ -347,6 +357,9 @@ other_form (SetInfo o (SetBasic basic)) e = tt
 other_form (SetInfo o (SetDelete flag)) e = tt
 other_form (SetInfo o (SetAllocation size)) e = tt
 other_form (SetInfo o (SetEnd size)) e = tt
+other_form (SetInfo o (SetPosition position)) e =
+    either OtherIn (nat_lt position 0x8000_0000_0000_0000) _ _ (λ _. tt) (λ _. refl)
+other_form (SetInfo o SetMode) e = tt
 other_form (Lock o index number elements) e = other_elements elements
 other_form (Flush o) e = tt
 other_form (Close o query) e = tt

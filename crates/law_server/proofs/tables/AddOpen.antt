@@ -127,4 +127,5 @@ add_open_keeps s o row session sequence n gs trees free above id more most sess 
       next_file = i.next_file;
       file_numbers = i.file_numbers;
       room = i.room;
+      limit = i.limit;
     }

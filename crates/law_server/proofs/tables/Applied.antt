@@ -6,7 +6,7 @@ use Rattle.spec_exchange.specs.Table.{put}
 use Rattle.spec_exchange.specs.Status.{success}
 use Rattle.spec_exchange.specs.Content.{written, ended, is_empty}
 use Rattle.spec_exchange.specs.Commands.{CreateRequest, Durable, SetupRequest, Element, Setting, SetBasic, Rename}
-use Rattle.spec_exchange.specs.Commands.{SetDelete, SetAllocation, SetEnd, asks_directory, deletes_on_close}
+use Rattle.spec_exchange.specs.Commands.{SetDelete, SetAllocation, SetEnd, SetPosition, SetMode, asks_directory, deletes_on_close}
 use Rattle.spec_exchange.specs.State.{Server, Message, Range, Body, NewSession}
 use Rattle.spec_exchange.specs.Files.{root, find, exists, make_file, empty_file, set_content, store_basic, file_attributes}
 use Rattle.spec_exchange.specs.Files.{touched, emptied_basic, is_directory}
@@ -20,7 +20,7 @@ use Rattle.spec_exchange.specs.Verdict.{EndSession, AddTree, DropTree, Change, P
 use Rattle.spec_exchange.specs.Verdict.{PutDeletePending, PutPath, PutNothing}
 use Rattle.spec_exchange.specs.Effects.{apply, reach, attached, guid_of, is_persistent, open_row, next_open, made_attributes}
 use Rattle.spec_exchange.specs.Effects.{guids_after, make_open, keep_slot, set_ranges, change_file, keep_closed}
-use Rattle.spec_exchange.specs.Effects.{end_session, end_if_named, add_session}
+use Rattle.spec_exchange.specs.Effects.{end_session, end_if_named, add_session, listed_at, positioned_at}
 use Rattle.spec_exchange.specs.Step.{due, expire, add_expired_guid}
 use Rattle.law_server.specs.tables.Fits.{Fits, OpenIds, RangeOwners, Listed}
 use Rattle.law_server.proofs.tables.Logic.{either, back_off}
@@ -39,51 +39,52 @@ use Rattle.law_server.proofs.tables.EndSession.{end_session_keeps}
 -- ---- columns that nothing here reads
 
 pub sequence_keeps : (s : Server) (sequence : ℕ → ℕ) → Fits s → Fits (record s { sequence = sequence })
-sequence_keeps s sequence i = unread_keeps s sequence s.lock_sequences s.enumeration_location s.content s.basic
+sequence_keeps s sequence i = unread_keeps s sequence s.lock_sequences s.enumeration_location s.current_byte_offset s.content s.basic
     s.connections s.expired_guids s.expired_count s.version s.journal i
 
-pub listed_keeps : (s : Server) (listed : ℕ → Option (List ℕ)) → Fits s → Fits (record s { enumeration_location = listed })
-listed_keeps s listed i = unread_keeps s s.sequence s.lock_sequences listed s.content s.basic s.connections
+pub places_keep : (s : Server) (listed : ℕ → Option (List ℕ)) (offset : ℕ → ℕ) → Fits s
+    → Fits (record s { enumeration_location = listed; current_byte_offset = offset })
+places_keep s listed offset i = unread_keeps s s.sequence s.lock_sequences listed offset s.content s.basic s.connections
     s.expired_guids s.expired_count s.version s.journal i
 
 pub connections_keeps : (s : Server) (connections : List ℕ) → Fits s → Fits (record s { connections = connections })
-connections_keeps s connections i = unread_keeps s s.sequence s.lock_sequences s.enumeration_location s.content s.basic
+connections_keeps s connections i = unread_keeps s s.sequence s.lock_sequences s.enumeration_location s.current_byte_offset s.content s.basic
     connections s.expired_guids s.expired_count s.version s.journal i
 
 pub version_keeps : (s : Server) (version : ℕ) → Fits s → Fits (record s { version = version })
-version_keeps s version i = unread_keeps s s.sequence s.lock_sequences s.enumeration_location s.content s.basic
+version_keeps s version i = unread_keeps s s.sequence s.lock_sequences s.enumeration_location s.current_byte_offset s.content s.basic
     s.connections s.expired_guids s.expired_count version s.journal i
 
 pub journal_keeps : (s : Server) (journal : ℕ) → Fits s → Fits (record s { journal = journal })
-journal_keeps s journal i = unread_keeps s s.sequence s.lock_sequences s.enumeration_location s.content s.basic
+journal_keeps s journal i = unread_keeps s s.sequence s.lock_sequences s.enumeration_location s.current_byte_offset s.content s.basic
     s.connections s.expired_guids s.expired_count s.version journal i
 
 pub set_content_keeps : (s : Server) (f : ℕ) (bytes : List ℕ) (now : ℕ) → Fits s → Fits (set_content s f bytes now)
-set_content_keeps s f bytes now i = unread_keeps s s.sequence s.lock_sequences s.enumeration_location
+set_content_keeps s f bytes now i = unread_keeps s s.sequence s.lock_sequences s.enumeration_location s.current_byte_offset
     (put s.content f bytes) (put s.basic f (touched (s.basic f) now)) s.connections s.expired_guids s.expired_count
     s.version s.journal i
 
 pub empty_file_keeps : (s : Server) (f attributes now : ℕ) → Fits s → Fits (empty_file s f attributes now)
 empty_file_keeps s f attributes now i =
-    unread_keeps s s.sequence s.lock_sequences s.enumeration_location (put s.content f [])
+    unread_keeps s s.sequence s.lock_sequences s.enumeration_location s.current_byte_offset (put s.content f [])
     (put s.basic f (emptied_basic (s.basic f) attributes now)) s.connections s.expired_guids s.expired_count
     s.version s.journal i
 
 pub store_basic_keeps : (s : Server) (f : ℕ) (basic : Rattle.spec_exchange.specs.Commands.Basic) → Fits s → Fits (store_basic s f basic)
-store_basic_keeps s f basic i = unread_keeps s s.sequence s.lock_sequences s.enumeration_location s.content
+store_basic_keeps s f basic i = unread_keeps s s.sequence s.lock_sequences s.enumeration_location s.current_byte_offset s.content
     (put s.basic f basic) s.connections s.expired_guids s.expired_count s.version s.journal i
 
 pub keep_slot_keeps : (s : Server) (o index number status : ℕ) → Fits s → Fits (keep_slot s o index number status)
 keep_slot_keeps s o index number status i =
     either (λ t. Fits t) (is_slot index) _ _
     (λ _. unread_keeps s s.sequence (Rattle.spec_exchange.specs.Table.put2 s.lock_sequences o index
-    (Some (record { number = number; status = status }))) s.enumeration_location s.content s.basic s.connections
+    (Some (record { number = number; status = status }))) s.enumeration_location s.current_byte_offset s.content s.basic s.connections
     s.expired_guids s.expired_count s.version s.journal i) (λ _. i)
 
 pub add_expired_guid_keeps : (s : Server) (client : ℕ) (guid : Option ℕ) → Fits s → Fits (add_expired_guid s client guid)
 add_expired_guid_keeps s client None i = i
 add_expired_guid_keeps s client (Some g) i =
-    unread_keeps s s.sequence s.lock_sequences s.enumeration_location s.content s.basic s.connections
+    unread_keeps s s.sequence s.lock_sequences s.enumeration_location s.current_byte_offset s.content s.basic s.connections
     (Rattle.spec_exchange.specs.Table.put2 s.expired_guids client g true) (s.expired_count + 1) s.version s.journal
     i
 
@@ -258,6 +259,8 @@ setting_fine s o (SetDelete flag) l f = pending_fine s (file_of s o) flag f.name
 setting_fine s o (SetAllocation size) l f = either (λ c. IsFine s (file_of s o) c)
     (nat_lt size (length (s.content (file_of s o)))) _ _ (λ _. tt) (λ _. tt)
 setting_fine s o (SetEnd size) l f = tt
+setting_fine s o (SetPosition position) l f = tt
+setting_fine s o SetMode l f = tt
 
 fine_of : (s : Server) (m : Message) (o : ℕ) (change : Change) (body : Body) → Listed s → WriteFacts s m o change body
     ⊎ SettingFacts s m o change body → IsFine s (file_of s o) change
@@ -330,7 +333,8 @@ applied_keeps s m now (Attach o r) i f = attached_keeps s m o f.standing (there 
 applied_keeps s m now (Make r found action) i f = make_keeps s m r found action now i f
 applied_keeps s m now (TurnDown o status) i f = reach_keeps s m o i
 applied_keeps s m now (Tell o body) i f = reach_keeps s m o i
-applied_keeps s m now (Show o last body) i f = listed_keeps (reach s m o) (put s.enumeration_location o last) (reach_keeps s m o i)
+applied_keeps s m now (Show o place body) i f = places_keep (reach s m o) (listed_at s.enumeration_location o place)
+    (positioned_at s.current_byte_offset o place) (reach_keeps s m o i)
 applied_keeps s m now (KeepSlot o index number status elements) i f = keep_slot_keeps (reach s m o) o index number
     status (reach_keeps s m o i)
 applied_keeps s m now (PutRanges o index number ranges elements) i f = put_ranges_keeps s m o index number ranges elements i f

@@ -6,17 +6,18 @@ use Rattle.std.proofs.lemmas.Bool.Decides.{nat_tests}
 use Rattle.spec_exchange.specs.Table.{is_at}
 use Rattle.spec_exchange.specs.Status.{success, sharing_violation, insufficient_resources, invalid_device_request}
 use Rattle.spec_exchange.specs.Status.{lock_not_granted, range_not_locked, disk_full}
-use Rattle.spec_exchange.specs.Status.{object_path_not_found, object_name_not_found}
+use Rattle.spec_exchange.specs.Status.{object_name_not_found}
 use Rattle.spec_exchange.specs.Texts.{is_path, is_below, same_name}
 use Rattle.spec_exchange.specs.Content.{is_empty}
 use Rattle.spec_exchange.specs.Commands.{Command, Unreadable, Aside, Setup, Logoff, TreeConnect, TreeDisconnect, Create}
 use Rattle.spec_exchange.specs.Commands.{Close, Flush, Read, Write, Lock, Ioctl, ListDirectory, QueryFile, QueryVolume}
 use Rattle.spec_exchange.specs.Commands.{SetInfo, Setting, SetBasic, Rename, SetDelete, SetAllocation, SetEnd}
+use Rattle.spec_exchange.specs.Commands.{SetPosition, SetMode}
 use Rattle.spec_exchange.specs.Commands.{CreateRequest, Durable, Reconnect, SetupRequest, Shows, Begins, Bad, Refused}
 use Rattle.spec_exchange.specs.Commands.{Logon, Element, deletes_on_close, form, path_form, lock_form, all_lock}
 use Rattle.spec_exchange.specs.Commands.{all_unlock, is_setup, no_file}
 use Rattle.spec_exchange.specs.State.{Server, Message, Making, NewSession, Binding, Range, Body, Empty, Count, Named}
-use Rattle.spec_exchange.specs.Files.{root, find, find_in, path_of, exists, exists_in, is_directory, has_parent, passes_room, allocated}
+use Rattle.spec_exchange.specs.Files.{root, find, find_in, path_of, exists, exists_in, is_directory, has_parent, has_pending_parent, passes_room, allocated}
 use Rattle.spec_exchange.specs.Ranges.{RangeAnswer, Stands, Denied, change_ranges, lock_ranges, unlock_ranges}
 use Rattle.spec_exchange.specs.Ranges.{stands_or, may_write, ranges_of, any_wraps, add_ranges, take_ranges, count_owned}
 use Rattle.spec_exchange.specs.Ranges.{max_ranges}
@@ -90,17 +91,25 @@ there_facts s r f is e = record {
   no_root = grind arith;
 }
 
+-- where no rule of the names is broken, neither is one of what is there or missing, whose directory is there
+names_pass : (s : Server) (r : CreateRequest) (found : Option ℕ) → names s r found ≡ None
+    → (is_some found || has_parent s r.path) ≡ true × names_of_found s r found ≡ None
+unfolding names
+names_pass s r found =
+    let R = λ (u : Option ℕ). u ≡ None → (is_some found || has_parent s r.path) ≡ true × names_of_found s r found ≡ None in
+    either R (not (is_some found || has_parent s r.path)) _ _ (λ _ e. absurd (cc))
+    (λ p. either R (has_pending_parent s r.path) _ _ (λ _ e. absurd (cc)) (λ _ e. (not_false _ p, e)))
+
 names_of_there : (s : Server) (r : CreateRequest) (f : ℕ) → names s r (Some f) ≡ None → found_names s r f ≡ None
-unfolding names names_of_found
-names_of_there s r f e = first_none (found_names s r f) (found_attributes s r f) e
+unfolding names_of_found
+names_of_there s r f e = first_none (found_names s r f) (found_attributes s r f) (names_pass s r (Some f) e).1
 
 names_of_missing : (s : Server) (r : CreateRequest) → names s r None ≡ None → makes_missing r.disposition ≡ true
     × has_parent s r.path ≡ true
-unfolding names names_of_found missing_names
+unfolding names_of_found missing_names
 names_of_missing s r e =
-    either (λ u. u ≡ None → makes_missing r.disposition ≡ true × has_parent s r.path ≡ true) (has_parent s r.path)
-    (first_refusal (missing_names r) (missing_attributes r)) (Some object_path_not_found)
-    (λ p k. (made (makes_missing r.disposition) (first_none (missing_names r) (missing_attributes r) k), p)) (λ _ k. absurd (cc)) e
+    let p = names_pass s r None e in
+    (made (makes_missing r.disposition) (first_none (missing_names r) (missing_attributes r) p.1), p.0)
   where
     made : (b : Bool) → (if b then None else Some object_name_not_found) ≡ None → b ≡ true
     made true k = refl
@@ -470,10 +479,11 @@ rename_rules s f replace path =
     either R (f == root) _ _ (λ _ e. absurd (cc))
     (λ a. either R (is_directory s f && is_below (path_of s f) path) _ _ (λ _ e. absurd (cc))
     (λ b. either R (not (has_parent s path)) _ _ (λ _ e. absurd (cc))
-    (λ c. either R (is_some (find s path) && not replace) _ _ (λ _ e. absurd (cc))
+    (λ c. either R (has_pending_parent s path) _ _ (λ _ e. absurd (cc))
+    (λ p. either R (is_some (find s path) && not replace) _ _ (λ _ e. absurd (cc))
     (λ d. either R (target_refused s (target_of f (find s path))) _ _ (λ _ e. absurd (cc))
     (λ t. either R (is_directory s f && open_below s s.entries (path_of s f)) _ _ (λ _ e. absurd (cc))
-    (λ g e. record { no_root = a; not_below = b; parent = not_false _ c; taken = d; target = t; none_below = g }))))))
+    (λ g e. record { no_root = a; not_below = b; parent = not_false _ c; taken = d; target = t; none_below = g })))))))
 
 path_facts : (s : Server) (m : Message) (o : ℕ) (replace : Bool) (path : List ℕ) → has_access s o 0x1_0000 ≡ true
     → is_path path ≡ true → rename_names s (file_of s o) replace path ≡ None → PathFacts s o replace path
@@ -517,6 +527,8 @@ setting_facts s m o (SetAllocation size) f late c =
     size_facts s m o (allocated size (length (s.content (file_of s o)))) (allocation_change s (file_of s o) size) f late
     (λ h. setting_of s m o (SetAllocation size) c h)
 setting_facts s m o (SetEnd size) f late c = size_facts s m o size (PutEnd size) f late (λ h. setting_of s m o (SetEnd size) c h)
+setting_facts s m o (SetPosition position) f late c = f
+setting_facts s m o SetMode f late c = f
 
 set_facts : (s : Server) (m : Message) (o : ℕ) (setting : Setting) → OpenFacts s m o → m.command ≡ SetInfo o setting
     → Facts s m (set_check s m o setting)
@@ -538,7 +550,9 @@ flush_facts s m o f = either (λ v. Facts s m v) (has_access s o 0x2 || has_acce
 file_query_facts : (s : Server) (m : Message) (o class room : ℕ) → OpenFacts s m o → Facts s m (file_query_check s o class room)
 file_query_facts s m o class room f =
     either (λ v. Facts s m v) (needs_attributes class && not (has_access s o 0x80)) _ _ (λ _. f)
-    (λ _. either (λ v. Facts s m v) (nat_lt room (file_info_size class (path_of s (file_of s o)))) _ _ (λ _. f) (λ _. f))
+    (λ _. either (λ v. Facts s m v) (class == 21) _ _ (λ _. f)
+    (λ _. either (λ v. Facts s m v)
+    (nat_lt room (file_info_size class (is_directory s (file_of s o)) (path_of s (file_of s o)))) _ _ (λ _. f) (λ _. f)))
 
 volume_query_facts : (s : Server) (m : Message) (o class room : ℕ) → OpenFacts s m o → Facts s m (volume_query_check s o class room)
 volume_query_facts s m o class room f = either (λ v. Facts s m v) (nat_lt room (volume_info_size class)) _ _ (λ _. f) (λ _. f)

@@ -4,7 +4,7 @@ use Rattle.spec_exchange.specs.Table.{put, has}
 use Rattle.spec_exchange.specs.Commands.{deletes_on_close}
 use Rattle.spec_exchange.specs.State.{Server, Tree}
 use Rattle.spec_exchange.specs.Files.{set_delete_pending}
-use Rattle.spec_exchange.specs.Opens.{drop_open, with_guid, goes, without_gone, leave_open, is_of_session, is_of_tree}
+use Rattle.spec_exchange.specs.Opens.{drop_open, with_guid, goes, without_gone, is_kept_back, left_file, leave_open, is_of_session, is_of_tree}
 use Rattle.spec_exchange.specs.Effects.{leave_all, keep_closed, keep_all_closed, close_all, tree_opens_in, opens_of_tree}
 use Rattle.spec_exchange.specs.Effects.{without_tree, drop_tree}
 use Rattle.law_server.specs.tables.Fits.{Fits, is_ascending}
@@ -23,15 +23,18 @@ pub record Beside (s t : Server) : Type 0 where
   pub version : t.version ≡ s.version
   pub epoch : t.epoch ≡ s.epoch
   pub journal : t.journal ≡ s.journal
+  pub limit : t.limit ≡ s.limit
   pub next_file : t.next_file ≡ s.next_file
   pub directory : t.directory ≡ s.directory
   pub basic : t.basic ≡ s.basic
   pub content : t.content ≡ s.content
+  pub stored : t.stored ≡ s.stored
   pub open_ids_given : t.open_ids_given ≡ s.open_ids_given
   pub opened : t.opened ≡ s.opened
   pub tree_of_open : t.tree_of_open ≡ s.tree_of_open
   pub sequence : t.sequence ≡ s.sequence
   pub enumeration_location : t.enumeration_location ≡ s.enumeration_location
+  pub current_byte_offset : t.current_byte_offset ≡ s.current_byte_offset
   pub lock_sequences : t.lock_sequences ≡ s.lock_sequences
   pub expired_guids : t.expired_guids ≡ s.expired_guids
   pub expired_count : t.expired_count ≡ s.expired_count
@@ -60,15 +63,18 @@ beside_none s = record {
   version = refl;
   epoch = refl;
   journal = refl;
+  limit = refl;
   next_file = refl;
   directory = refl;
   basic = refl;
   content = refl;
+  stored = refl;
   open_ids_given = refl;
   opened = refl;
   tree_of_open = refl;
   sequence = refl;
   enumeration_location = refl;
+  current_byte_offset = refl;
   lock_sequences = refl;
   expired_guids = refl;
   expired_count = refl;
@@ -98,15 +104,18 @@ beside_both s t u a b = record {
   version = b.version ∙ a.version;
   epoch = b.epoch ∙ a.epoch;
   journal = b.journal ∙ a.journal;
+  limit = b.limit ∙ a.limit;
   next_file = b.next_file ∙ a.next_file;
   directory = b.directory ∙ a.directory;
   basic = b.basic ∙ a.basic;
   content = b.content ∙ a.content;
+  stored = b.stored ∙ a.stored;
   open_ids_given = b.open_ids_given ∙ a.open_ids_given;
   opened = b.opened ∙ a.opened;
   tree_of_open = b.tree_of_open ∙ a.tree_of_open;
   sequence = b.sequence ∙ a.sequence;
   enumeration_location = b.enumeration_location ∙ a.enumeration_location;
+  current_byte_offset = b.current_byte_offset ∙ a.current_byte_offset;
   lock_sequences = b.lock_sequences ∙ a.lock_sequences;
   expired_guids = b.expired_guids ∙ a.expired_guids;
   expired_count = b.expired_count ∙ a.expired_count;
@@ -136,15 +145,18 @@ dropped s o = record {
   version = refl;
   epoch = refl;
   journal = refl;
+  limit = refl;
   next_file = refl;
   directory = refl;
   basic = refl;
   content = refl;
+  stored = refl;
   open_ids_given = refl;
   opened = refl;
   tree_of_open = refl;
   sequence = refl;
   enumeration_location = refl;
+  current_byte_offset = refl;
   lock_sequences = refl;
   expired_guids = refl;
   expired_count = refl;
@@ -174,15 +186,18 @@ gone s t f a = either (λ u. Beside s u) (goes t f) _ _ (λ _. record {
   version = a.version;
   epoch = a.epoch;
   journal = a.journal;
+  limit = a.limit;
   next_file = a.next_file;
   directory = a.directory;
   basic = a.basic;
   content = a.content;
+  stored = a.stored;
   open_ids_given = a.open_ids_given;
   opened = a.opened;
   tree_of_open = a.tree_of_open;
   sequence = a.sequence;
   enumeration_location = a.enumeration_location;
+  current_byte_offset = a.current_byte_offset;
   lock_sequences = a.lock_sequences;
   expired_guids = a.expired_guids;
   expired_count = a.expired_count;
@@ -203,6 +218,47 @@ gone s t f a = either (λ u. Beside s u) (goes t f) _ _ (λ _. record {
   making = a.making;
 }) (λ _. a)
 
+settled : (s t : Server) (f : ℕ) → Beside s t → Beside s (left_file t f)
+settled s t f a = either (λ u. Beside s u) (is_kept_back t f) _ _ (λ _. record {
+  share = a.share;
+  room = a.room;
+  encrypts = a.encrypts;
+  address = a.address;
+  version = a.version;
+  epoch = a.epoch;
+  journal = a.journal;
+  limit = a.limit;
+  next_file = a.next_file;
+  directory = a.directory;
+  basic = a.basic;
+  content = a.content;
+  stored = a.stored;
+  open_ids_given = a.open_ids_given;
+  opened = a.opened;
+  tree_of_open = a.tree_of_open;
+  sequence = a.sequence;
+  enumeration_location = a.enumeration_location;
+  current_byte_offset = a.current_byte_offset;
+  lock_sequences = a.lock_sequences;
+  expired_guids = a.expired_guids;
+  expired_count = a.expired_count;
+  present = a.present;
+  sessions = a.sessions;
+  session_ids_given = a.session_ids_given;
+  user = a.user;
+  client = a.client;
+  cipher = a.cipher;
+  signing = a.signing;
+  channel_numbers_drawn = a.channel_numbers_drawn;
+  trees = a.trees;
+  next_tree = a.next_tree;
+  refused = a.refused;
+  guids = a.guids;
+  connections = a.connections;
+  session_on = a.session_on;
+  making = a.making;
+}) (λ _. gone s t f a)
+
 pending_too : (s : Server) (f : ℕ) (t : Server) → Beside (set_delete_pending s f true) t → Beside s t
 pending_too s f t a = record {
   share = a.share;
@@ -212,15 +268,18 @@ pending_too s f t a = record {
   version = a.version;
   epoch = a.epoch;
   journal = a.journal;
+  limit = a.limit;
   next_file = a.next_file;
   directory = a.directory;
   basic = a.basic;
   content = a.content;
+  stored = a.stored;
   open_ids_given = a.open_ids_given;
   opened = a.opened;
   tree_of_open = a.tree_of_open;
   sequence = a.sequence;
   enumeration_location = a.enumeration_location;
+  current_byte_offset = a.current_byte_offset;
   lock_sequences = a.lock_sequences;
   expired_guids = a.expired_guids;
   expired_count = a.expired_count;
@@ -243,9 +302,9 @@ pending_too s f t a = record {
 
 pub left_beside : (s : Server) (o : ℕ) → Beside s (leave_open s o)
 left_beside s o =
-    either (λ (t : Server). Beside s (without_gone (drop_open t o) (s.opened o).file)) (deletes_on_close (s.opened o).options) _ _
-    (λ _. gone s _ (s.opened o).file (pending_too s (s.opened o).file _ (dropped (set_delete_pending s (s.opened o).file true) o)))
-    (λ _. gone s _ (s.opened o).file (dropped s o))
+    either (λ (t : Server). Beside s (left_file (drop_open t o) (s.opened o).file)) (deletes_on_close (s.opened o).options) _ _
+    (λ _. settled s _ (s.opened o).file (pending_too s (s.opened o).file _ (dropped (set_delete_pending s (s.opened o).file true) o)))
+    (λ _. settled s _ (s.opened o).file (dropped s o))
 
 pub all_left_beside : (s : Server) (os : List ℕ) → Beside s (leave_all s os)
 unfolding leave_all
@@ -262,15 +321,18 @@ guid_beside s session (Some g) = record {
   version = refl;
   epoch = refl;
   journal = refl;
+  limit = refl;
   next_file = refl;
   directory = refl;
   basic = refl;
   content = refl;
+  stored = refl;
   open_ids_given = refl;
   opened = refl;
   tree_of_open = refl;
   sequence = refl;
   enumeration_location = refl;
+  current_byte_offset = refl;
   lock_sequences = refl;
   expired_guids = refl;
   expired_count = refl;
@@ -337,15 +399,19 @@ fewer_gone : (s t : Server) (f : ℕ) → Fewer s t → Fewer s (without_gone t 
 fewer_gone s t f a = either (λ u. Fewer s u) (goes t f) _ _
     (λ _. record { standing = a.standing; session_of_open = a.session_of_open; by_guid = a.by_guid }) (λ _. a)
 
+fewer_settled : (s t : Server) (f : ℕ) → Fewer s t → Fewer s (left_file t f)
+fewer_settled s t f a = either (λ u. Fewer s u) (is_kept_back t f) _ _
+    (λ _. record { standing = a.standing; session_of_open = a.session_of_open; by_guid = a.by_guid }) (λ _. fewer_gone s t f a)
+
 fewer_pending : (s : Server) (f : ℕ) (t : Server) → Fewer (set_delete_pending s f true) t → Fewer s t
 fewer_pending s f t a = record { standing = a.standing; session_of_open = a.session_of_open; by_guid = a.by_guid }
 
 pub left_fewer : (s : Server) (o : ℕ) → Fewer s (leave_open s o)
 left_fewer s o =
-    either (λ (t : Server). Fewer s (without_gone (drop_open t o) (s.opened o).file)) (deletes_on_close (s.opened o).options) _ _
-    (λ _. fewer_gone s _ (s.opened o).file (fewer_pending s (s.opened o).file _
+    either (λ (t : Server). Fewer s (left_file (drop_open t o) (s.opened o).file)) (deletes_on_close (s.opened o).options) _ _
+    (λ _. fewer_settled s _ (s.opened o).file (fewer_pending s (s.opened o).file _
     (fewer_dropped (set_delete_pending s (s.opened o).file true) o)))
-    (λ _. fewer_gone s _ (s.opened o).file (fewer_dropped s o))
+    (λ _. fewer_settled s _ (s.opened o).file (fewer_dropped s o))
 
 all_left_fewer : (s : Server) (os : List ℕ) → Fewer s (leave_all s os)
 unfolding leave_all
@@ -375,12 +441,15 @@ StandInTurn s (o ∷ os) = (s.standing o ≡ true) × StandInTurn (leave_open s 
 gone_standing : (s : Server) (f : ℕ) → (without_gone s f).standing ≡ s.standing
 gone_standing s f = either (λ (t : Server). t.standing ≡ s.standing) (goes s f) _ _ (λ _. refl) (λ _. refl)
 
+settled_standing : (s : Server) (f : ℕ) → (left_file s f).standing ≡ s.standing
+settled_standing s f = either (λ (t : Server). t.standing ≡ s.standing) (is_kept_back s f) _ _ (λ _. refl) (λ _. gone_standing s f)
+
 pub left_standing : (s : Server) (o : ℕ) → (leave_open s o).standing ≡ put s.standing o false
 left_standing s o =
-    either (λ (t : Server). (without_gone (drop_open t o) (s.opened o).file).standing ≡ put s.standing o false)
+    either (λ (t : Server). (left_file (drop_open t o) (s.opened o).file).standing ≡ put s.standing o false)
     (deletes_on_close (s.opened o).options) _ _
-    (λ _. gone_standing (drop_open (set_delete_pending s (s.opened o).file true) o) (s.opened o).file)
-    (λ _. gone_standing (drop_open s o) (s.opened o).file)
+    (λ _. settled_standing (drop_open (set_delete_pending s (s.opened o).file true) o) (s.opened o).file)
+    (λ _. settled_standing (drop_open s o) (s.opened o).file)
 
 other_stands : (s : Server) (o p : ℕ) → (o == p) ≡ false → s.standing p ≡ true → (leave_open s o).standing p ≡ true
 other_stands s o p n h = ap (λ (f : ℕ → Bool). f p) (left_standing s o) ∙ by (o == p) n

@@ -116,4 +116,5 @@ drop_open_keeps s o stands i =
       next_file = i.next_file;
       file_numbers = i.file_numbers;
       room = i.room;
+      limit = i.limit;
     }

@@ -194,4 +194,5 @@ end_session_keeps s session now is_quiet i =
       next_file = i.next_file;
       file_numbers = end_session_file_numbers s session now is_quiet i.file_numbers i.open_files i.listed i.not_root i.root_stays;
       room = i.room;
+      limit = i.limit;
     }

@@ -66,6 +66,7 @@ make_file_keeps s path is_dir attributes now i =
       next_file = make_file_next_file s path is_dir attributes now i.next_file;
       file_numbers = make_file_file_numbers s path is_dir attributes now i.file_numbers i.next_file;
       room = i.room;
+      limit = i.limit;
     }
 
 set_delete_pending_root_stays : (s : Server) (f : ℕ) (flag : Bool) → (flag ≡ true → f ≢ root) → RootStays s → RootStays (set_delete_pending s f flag)
@@ -107,6 +108,7 @@ set_delete_pending_keeps s f flag other i =
       next_file = i.next_file;
       file_numbers = i.file_numbers;
       room = i.room;
+      limit = i.limit;
     }
 
 remove_file_open_files : (s : Server) (f : ℕ) → ((p : ℕ) → s.standing p ≡ true → ((s.opened p).file == f) ≡ false) → OpenFiles s → OpenFiles (remove_file s f)
@@ -153,6 +155,7 @@ remove_file_keeps s f unopened i =
       next_file = i.next_file;
       file_numbers = remove_file_file_numbers s f unopened i.file_numbers;
       room = i.room;
+      limit = i.limit;
     }
 
 without_target-was : (es : List Entry) (y : ℕ) (replaced : Option ℕ) → exists_in (without_target replaced es) y ≡ true
@@ -223,6 +226,7 @@ rename_file_keeps s f replaced to unopened i =
       next_file = i.next_file;
       file_numbers = rename_file_file_numbers s f replaced to unopened i.file_numbers;
       room = i.room;
+      limit = i.limit;
     }
 
 set_ranges_range_owners : (s : Server) (f : ℕ) (ranges : List Range) → ((n : ℕ) (r : Range) → slice_get ranges n ≡ Some r → s.standing r.owner ≡ true × (s.opened r.owner).file ≡ f) → RangeOwners s → RangeOwners (set_ranges s f ranges)
@@ -264,4 +268,5 @@ set_ranges_keeps s f ranges own i =
       next_file = i.next_file;
       file_numbers = i.file_numbers;
       room = i.room;
+      limit = i.limit;
     }

@@ -21,7 +21,7 @@ use Rattle.spec_exchange.specs.Step.{max_expired_guids}
 use Rattle.spec_exchange.specs.Fold.{nothing_yet, full_room, sweep, begin_epoch, may_make, may_restore, may_have_open}
 use Rattle.spec_exchange.specs.Fold.{may_create, restored_row, restore, created_file, is_file, same_target, may_replace}
 use Rattle.spec_exchange.specs.Fold.{may_rename, may_remove, lock_granted, lock_recorded, shut_recorded, with_record}
-use Rattle.spec_exchange.specs.Fold.{fold_from, fold, recovery_records, recovered_from, opening_records}
+use Rattle.spec_exchange.specs.Fold.{fold_from, fold, recovery_records, recovered_from, opening_records, epoch_records, is_left_pending, mark_records, unmark_records}
 use Rattle.law_server.specs.tables.Fits.{Fits, Listed, is_sound, all_sound, keeps_root}
 use Rattle.law_server.proofs.tables.Logic.{either, front_of, back_of, both, not_true, none_of}
 use Rattle.law_server.proofs.tables.Lists.{exists-pushed}
@@ -290,11 +290,25 @@ nothing_fits =
       next_file = omega arith;
       file_numbers = λ y h. absurd (cc);
       room = omega arith;
+      limit = refl;
     }
 
-pub sound_recovery : (s : Server) → all_sound (opening_records s) ≡ true
+pub sound_epoch : (s : Server) → all_sound (epoch_records s) ≡ true
 unfolding all_sound
-sound_recovery s = either (λ rs. all_sound rs ≡ true) (s.version == 1) _ _ (λ _. refl) (λ _. refl)
+sound_epoch s = either (λ rs. all_sound rs ≡ true) (s.version == 1) _ _ (λ _. refl) (λ _. refl)
+
+sound_mark : (s : Server) (f : ℕ) → all_sound (mark_records s f) ≡ true
+unfolding mark_records
+sound_mark s f = either (λ rs. all_sound rs ≡ true) (is_left_pending s f) _ _ (λ _. sound_one _ refl) (λ _. sound_none)
+
+pub sound_unmarked : (s : Server) (es : List Entry) → all_sound (unmark_records s es) ≡ true
+unfolding unmark_records
+sound_unmarked s [] = sound_none
+sound_unmarked s (e ∷ es) = sound_more (mark_records s e.file) _ (sound_mark s e.file) (sound_unmarked s es)
+
+pub sound_recovery : (s : Server) → all_sound (opening_records s) ≡ true
+sound_recovery s = let d = fold_from s (epoch_records s) in
+    sound_more (epoch_records s) (unmark_records d d.entries) (sound_epoch s) (sound_unmarked d d.entries)
 
 -- a server that stands at the fold of its records, under a configuration with no more than the full room
 pub recovered_fits : (s : Server) (rs : List Record) → s.room ≤ full_room → all_sound rs ≡ true → Fits (recovered_from s rs)

@@ -6,6 +6,7 @@ use Rattle.spec_exchange.specs.Texts.{is_path, is_below, same_name}
 use Rattle.spec_exchange.specs.Content.{is_empty}
 use Rattle.spec_exchange.specs.Commands.{Setup, Logoff, TreeConnect, TreeDisconnect, Create, Close, Write, Lock}
 use Rattle.spec_exchange.specs.Commands.{SetInfo, Setting, SetBasic, Rename, SetDelete, SetAllocation, SetEnd}
+use Rattle.spec_exchange.specs.Commands.{SetPosition, SetMode}
 use Rattle.spec_exchange.specs.Commands.{CreateRequest, Durable, Reconnect, SetupRequest, Logon, Element}
 use Rattle.spec_exchange.specs.Commands.{deletes_on_close, form}
 use Rattle.spec_exchange.specs.State.{Server, Message, NewSession, Range, Body, Empty, Count}
@@ -21,7 +22,7 @@ use Rattle.spec_exchange.specs.CheckSetup.{tree_in, is_binding, previous_of}
 use Rattle.spec_exchange.specs.Verdict.{Verdict, Refuse, Give, KeepRefusal, Repeat, Attach, Make, TurnDown, Tell, Show}
 use Rattle.spec_exchange.specs.Verdict.{KeepSlot, PutRanges, Alter, CloseOpen, Challenge, ChallengeBinding, Begin, Join}
 use Rattle.spec_exchange.specs.Verdict.{EndSession, AddTree, DropTree, Change, PutEnd, PutBasic, PutDeletePending}
-use Rattle.spec_exchange.specs.Verdict.{PutPath}
+use Rattle.spec_exchange.specs.Verdict.{PutPath, PutNothing}
 
 -- a request of a live session on its own connection, signed as owed and well formed
 pub record SessionFacts (s : Server) (m : Message) : Type 0 where
@@ -141,6 +142,8 @@ setting_change s o (Rename replace path) = PutPath (target_of (file_of s o) (fin
 setting_change s o (SetDelete flag) = PutDeletePending flag
 setting_change s o (SetAllocation size) = allocation_change s (file_of s o) size
 setting_change s o (SetEnd size) = PutEnd size
+setting_change s o (SetPosition position) = PutNothing
+setting_change s o SetMode = PutNothing
 
 pub record WriteFacts (s : Server) (m : Message) (o : ℕ) (change : Change) (body : Body) : Type 0 where
   pub at : ℕ
@@ -173,13 +176,15 @@ pub record MarkFacts (s : Server) (o : ℕ) (flag : Bool) : Type 0 where
   pub access : has_access s o 0x1_0000 ≡ true
   pub names : delete_names s (file_of s o) flag ≡ None
 
--- what was found of a SET_INFO that is carried out
+-- what was found of a SET_INFO that is carried out on its file; a position and a mode are not
 abbrev pub SettingSays : Server → ℕ → Setting → Type 0
 SettingSays s o (SetBasic basic) = has_access s o 0x100 ≡ true
 SettingSays s o (Rename replace path) = PathFacts s o replace path
 SettingSays s o (SetDelete flag) = MarkFacts s o flag
 SettingSays s o (SetAllocation size) = SizeFacts s o (allocated size (length (s.content (file_of s o))))
 SettingSays s o (SetEnd size) = SizeFacts s o size
+SettingSays s o (SetPosition position) = ⊥
+SettingSays s o SetMode = ⊥
 
 pub record SettingFacts (s : Server) (m : Message) (o : ℕ) (change : Change) (body : Body) : Type 0 where
   pub setting : Setting

@@ -4,7 +4,7 @@ use Rattle.spec_exchange.specs.Table.{put, has}
 use Rattle.spec_exchange.specs.Commands.{deletes_on_close}
 use Rattle.spec_exchange.specs.State.{Server}
 use Rattle.spec_exchange.specs.Files.{root, exists, set_delete_pending, remove_file, is_full_directory}
-use Rattle.spec_exchange.specs.Opens.{drop_open, file_has_open, goes, without_gone, leave_open}
+use Rattle.spec_exchange.specs.Opens.{drop_open, file_has_open, goes, without_gone, is_kept_back, left_file, leave_open}
 use Rattle.spec_exchange.specs.Effects.{leaves, plain_of, leave_all, files_behind}
 use Rattle.law_server.specs.tables.Fits.{Fits, Listed, OpenFiles, FileNumbers, NotRoot}
 use Rattle.law_server.proofs.tables.Logic.{either, front_of, back_of, not_true}
@@ -31,11 +31,16 @@ pub gone_keeps : (s : Server) (f : ℕ) → Fits s → Fits (without_gone s f)
 gone_keeps s f i = either (λ t. Fits t) (goes s f) _ _
     (λ g. remove_file_keeps s f (unopened_of s f (gone_unopened s f g) i.listed) i) (λ _. i)
 
+-- it does, or loses its mark
+pub left_file_keeps : (s : Server) (f : ℕ) → Fits s → Fits (left_file s f)
+left_file_keeps s f i = either (λ t. Fits t) (is_kept_back s f) _ _ (λ _. set_delete_pending_keeps s f false (λ e. absurd (cc)) i)
+    (λ _. gone_keeps s f i)
+
 pub leave_open_keeps : (s : Server) (o : ℕ) → s.standing o ≡ true → Fits s → Fits (leave_open s o)
 leave_open_keeps s o stands i =
-    either (λ t. Fits (without_gone (drop_open t o) (s.opened o).file)) (deletes_on_close (s.opened o).options) _ _
-    (λ d. gone_keeps _ _ (drop_open_keeps _ o stands (set_delete_pending_keeps s (s.opened o).file true (λ _. i.not_root o d) i)))
-    (λ _. gone_keeps _ _ (drop_open_keeps s o stands i))
+    either (λ t. Fits (left_file (drop_open t o) (s.opened o).file)) (deletes_on_close (s.opened o).options) _ _
+    (λ d. left_file_keeps _ _ (drop_open_keeps _ o stands (set_delete_pending_keeps s (s.opened o).file true (λ _. i.not_root o d) i)))
+    (λ _. left_file_keeps _ _ (drop_open_keeps s o stands i))
 
 -- ---- one open after the other, of which the files alone count
 
@@ -79,6 +84,21 @@ removed s t f os e a =
 gone : (s t : Server) (f : ℕ) (os : List ℕ) → AllLeft s t os → AllLeft s (without_gone t f) os
 gone s t f os a = either (λ u. AllLeft s u os) (goes t f) _ _ (λ g. removed s t f os (gone_unopened t f g) a) (λ _. a)
 
+cleared_root : (s : Server) (f : ℕ) → s.delete_pending root ≡ false → put s.delete_pending f false root ≡ false
+cleared_root s f u = grind arith
+
+settled : (s t : Server) (f : ℕ) (os : List ℕ) → AllLeft s t os → AllLeft s (left_file t f) os
+unfolding exists
+settled s t f os a = either (λ u. AllLeft s u os) (is_kept_back t f) _ _ (λ _. record {
+  opened = a.opened;
+  stays = a.stays;
+  next_file = a.next_file;
+  listed = a.listed;
+  open_files = a.open_files;
+  file_numbers = a.file_numbers;
+  not_pending = cleared_root t f a.not_pending;
+}) (λ _. gone s t f os a)
+
 pending_too : (s t : Server) (f : ℕ) (os : List ℕ) → AllLeft (set_delete_pending s f true) t os → AllLeft s t os
 pending_too s t f os a = record {
   opened = a.opened;
@@ -100,11 +120,11 @@ other_pending s f d u = grind arith
 left : (s : Server) (o : ℕ) → Listed s → OpenFiles s → FileNumbers s → NotRoot s → s.delete_pending root ≡ false
     → AllLeft s (leave_open s o) (o ∷ [])
 left s o l f n r u =
-    either (λ t. AllLeft s (without_gone (drop_open t o) (s.opened o).file) (o ∷ [])) (deletes_on_close (s.opened o).options) _ _
-    (λ d. gone s _ (s.opened o).file (o ∷ []) (pending_too s _ (s.opened o).file (o ∷ [])
+    either (λ t. AllLeft s (left_file (drop_open t o) (s.opened o).file) (o ∷ [])) (deletes_on_close (s.opened o).options) _ _
+    (λ d. settled s _ (s.opened o).file (o ∷ []) (pending_too s _ (s.opened o).file (o ∷ [])
     (dropped (set_delete_pending s (s.opened o).file true) o l (pending_files s (s.opened o).file f) n
     (other_pending s (s.opened o).file (r o d) u))))
-    (λ _. gone s _ (s.opened o).file (o ∷ []) (dropped s o l f n u))
+    (λ _. settled s _ (s.opened o).file (o ∷ []) (dropped s o l f n u))
 
 none_left : (s : Server) (os : List ℕ) → Listed s → OpenFiles s → FileNumbers s → s.delete_pending root ≡ false → AllLeft s s os
 none_left s os l f n u = record {

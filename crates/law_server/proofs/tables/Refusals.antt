@@ -6,7 +6,7 @@ use Rattle.spec_exchange.specs.Status.{object_name_not_found, object_name_collis
 use Rattle.spec_exchange.specs.Status.{file_is_a_directory, cannot_delete}
 use Rattle.spec_exchange.specs.Commands.{CreateRequest, asks_directory, asks_file, deletes_on_close, has_bit}
 use Rattle.spec_exchange.specs.State.{Server}
-use Rattle.spec_exchange.specs.Files.{root, has_parent, is_directory, is_read_only}
+use Rattle.spec_exchange.specs.Files.{root, has_parent, has_pending_parent, is_directory, is_read_only}
 use Rattle.spec_exchange.specs.Opens.{granted, writes}
 use Rattle.spec_exchange.specs.CheckCreate.{empties, makes_missing, found_names, missing_names, drops_bit, found_attributes}
 use Rattle.spec_exchange.specs.CheckCreate.{missing_attributes, first_refusal, names_of_found, names}
@@ -57,12 +57,16 @@ all_or : (P : ℕ → Type 0) (a b : Option ℕ) → AllIn P a → AllIn P b →
 all_or P None b g h = h
 all_or P (Some status) b g h = g
 
+all_by : (P : ℕ → Type 0) → NameRefusals P → (s : Server) (r : CreateRequest) (found : Option ℕ) → AllIn P (names_of_found s r found)
+unfolding names_of_found
+all_by P n s r None = all_or P (missing_names r) (missing_attributes r) (all_missing P n r) (all_made P n r)
+all_by P n s r (Some f) = all_or P (found_names s r f) (found_attributes s r f) (all_found P n s r f) (all_kept P n s r f)
+
 pub all_names : (P : ℕ → Type 0) → NameRefusals P → (s : Server) (r : CreateRequest) (found : Option ℕ) → AllIn P (names s r found)
-unfolding names names_of_found
-all_names P n s r None =
-    either (AllIn P) (has_parent s r.path) _ _
-    (λ _. all_or P (missing_names r) (missing_attributes r) (all_missing P n r) (all_made P n r)) (λ _. n.no_path)
-all_names P n s r (Some f) = all_or P (found_names s r f) (found_attributes s r f) (all_found P n s r f) (all_kept P n s r f)
+unfolding names
+all_names P n s r found =
+    either (AllIn P) (not (is_some found || has_parent s r.path)) _ _ (λ _. n.no_path)
+    (λ _. either (AllIn P) (has_pending_parent s r.path) _ _ (λ _. n.pending) (λ _. all_by P n s r found))
 
 pub names_say : (P : ℕ → Type 0) → NameRefusals P → (s : Server) (r : CreateRequest) (found : Option ℕ) (status : ℕ)
     → names s r found ≡ Some status → P status

@@ -65,6 +65,7 @@ attach_keeps s m o stands there i =
       next_file = i.next_file;
       file_numbers = i.file_numbers;
       room = i.room;
+      limit = i.limit;
     }
 
 keep_refusal_no_refused : (s : Server) (session : ℕ) (guid : ℕ) (status : ℕ) → (s.present session ≡ true) → NoRefused s → NoRefused (keep_refusal s session guid status)
@@ -111,6 +112,7 @@ keep_refusal_keeps s session guid status there i =
       next_file = i.next_file;
       file_numbers = i.file_numbers;
       room = i.room;
+      limit = i.limit;
     }
 
 close_guid_no_closed : (s : Server) (session : ℕ) (guid : ℕ) → (s.present session ≡ true) → NoClosed s → NoClosed (record s { closed = put2 s.closed session guid true })
@@ -152,6 +154,7 @@ close_guid_keeps s session guid there i =
       next_file = i.next_file;
       file_numbers = i.file_numbers;
       room = i.room;
+      limit = i.limit;
     }
 
 challenge_begun : (s : Server) (line : ℕ) → (s.session_on line ≡ None) → (s.session_ids_given < max_ids) → Begun s → Begun (record s { session_ids_given = s.session_ids_given + 1; making = put s.making line (Some (NewSession (next_session s))) })
@@ -213,6 +216,7 @@ challenge_keeps s line off left i =
       next_file = i.next_file;
       file_numbers = i.file_numbers;
       room = i.room;
+      limit = i.limit;
     }
 
 bind_making_ids : (s : Server) (line : ℕ) (session : ℕ) → (s.session_on line ≡ None) → MakingIds s → MakingIds (record s { making = put s.making line (Some (Binding session)) })
@@ -264,6 +268,7 @@ bind_keeps s line session off i =
       next_file = i.next_file;
       file_numbers = i.file_numbers;
       room = i.room;
+      limit = i.limit;
     }
 
 add_session_attached : (s : Server) (m : Message) (user : List ℕ) (r : SetupRequest) → (s.present m.session_id ≡ false) → (s.making m.connection ≡ Some (NewSession m.session_id)) → Attached s → Attached (add_session s m user r)
@@ -360,6 +365,7 @@ add_session_keeps s m user r absent new i =
       next_file = i.next_file;
       file_numbers = i.file_numbers;
       room = i.room;
+      limit = i.limit;
     }
 
 join_session_making_ids : (s : Server) (m : Message) (session : ℕ) → (s.present session ≡ true) → MakingIds s → MakingIds (join_session s m session)
@@ -416,6 +422,7 @@ join_session_keeps s m session there i =
       next_file = i.next_file;
       file_numbers = i.file_numbers;
       room = i.room;
+      limit = i.limit;
     }
 
 added_tree : (s : Server) (session : ℕ) (pipes : Bool) (x n : ℕ) (t : Tree) → s.present session ≡ true → TreeIds s
@@ -478,6 +485,7 @@ add_tree_keeps s session pipes there i =
       next_file = i.next_file;
       file_numbers = i.file_numbers;
       room = i.room;
+      limit = i.limit;
     }
 
 no_tree : (id : ℕ) → without_tree id [] ≡ []
@@ -534,6 +542,7 @@ less_tree_keeps s session id i =
       next_file = i.next_file;
       file_numbers = i.file_numbers;
       room = i.room;
+      limit = i.limit;
     }
 
 forget_making_ids : (s : Server) (line : ℕ) → MakingIds s → MakingIds (forget_connection s line)
@@ -590,6 +599,7 @@ forget_keeps s line i =
       next_file = i.next_file;
       file_numbers = i.file_numbers;
       room = i.room;
+      limit = i.limit;
     }
 
 dated_first : (now : ℕ) (stands : Bool) (at : Option ℕ) (row : Open) (deadline : Option ℕ) (d : ℕ)
@@ -637,6 +647,7 @@ deadlines_keeps s now i =
       next_file = i.next_file;
       file_numbers = i.file_numbers;
       room = i.room;
+      limit = i.limit;
     }
 
 epoch_open_ids : (s : Server) (number : ℕ) → (number ≡ s.epoch + 1) → OpenIds s → Given s → OpenIds (record s { epoch = number; open_ids_given = 0; session_ids_given = 0 })
@@ -698,6 +709,7 @@ epoch_keeps s number next i =
       next_file = i.next_file;
       file_numbers = i.file_numbers;
       room = i.room;
+      limit = i.limit;
     }
 
 configured_room : (s : Server) (share : List ℕ) (room : ℕ) (seals : Bool) (address : Address) (journal : ℕ) → (room ≤ full_room) → Room s → Room (record s { share = share; room = room; encrypts = seals; address = address; journal = journal })
@@ -739,12 +751,13 @@ configured_keeps s share room seals address journal small i =
       next_file = i.next_file;
       file_numbers = i.file_numbers;
       room = configured_room s share room seals address journal small i.room;
+      limit = i.limit;
     }
 
 -- what nothing here reads is other
-pub unread_keeps : (s : Server) (sequence : ℕ → ℕ) (slots : ℕ → ℕ → Option Kept) (listed : ℕ → Option (List ℕ)) (content : ℕ → List ℕ) (basic : ℕ → Basic) (connections : List ℕ) (expired_guids : ℕ → ℕ → Bool) (expired_count : ℕ) (version : ℕ) (journal : ℕ) → Fits s → Fits (record s { sequence = sequence; lock_sequences = slots; enumeration_location = listed; content = content; basic = basic; connections = connections; expired_guids = expired_guids; expired_count = expired_count; version = version; journal = journal })
+pub unread_keeps : (s : Server) (sequence : ℕ → ℕ) (slots : ℕ → ℕ → Option Kept) (listed : ℕ → Option (List ℕ)) (offset : ℕ → ℕ) (content : ℕ → List ℕ) (basic : ℕ → Basic) (connections : List ℕ) (expired_guids : ℕ → ℕ → Bool) (expired_count : ℕ) (version : ℕ) (journal : ℕ) → Fits s → Fits (record s { sequence = sequence; lock_sequences = slots; enumeration_location = listed; current_byte_offset = offset; content = content; basic = basic; connections = connections; expired_guids = expired_guids; expired_count = expired_count; version = version; journal = journal })
 unfolding exists
-unread_keeps s sequence slots listed content basic connections expired_guids expired_count version journal i =
+unread_keeps s sequence slots listed offset content basic connections expired_guids expired_count version journal i =
     record {
       attached = i.attached;
       plain_attached = i.plain_attached;
@@ -775,4 +788,5 @@ unread_keeps s sequence slots listed content basic connections expired_guids exp
       next_file = i.next_file;
       file_numbers = i.file_numbers;
       room = i.room;
+      limit = i.limit;
     }

@@ -4,8 +4,7 @@ use Rattle.std.proofs.Common.{refl, arith, Option, Some, None}
 use Rattle.spec_exchange.specs.Commands.{CreateRequest, Durable, Element, deletes_on_close}
 use Rattle.spec_exchange.specs.State.{Server, Message, Origin}
 use Rattle.spec_exchange.specs.Files.{root}
-use Rattle.spec_exchange.specs.Opens.{pending_records, shut_records, gone_records, leave_records, leave_open, drop_open, granted}
-use Rattle.spec_exchange.specs.Opens.{pending_behind, goes}
+use Rattle.spec_exchange.specs.Opens.{pending_records, shut_records, gone_records, leave_records, leave_open, drop_open, granted, pending_behind, goes, left_file_records, is_kept_back}
 use Rattle.spec_exchange.specs.Records.{origin_of}
 use Rattle.spec_exchange.specs.Verdict.{Verdict, Refuse, Give, KeepRefusal, Repeat, Attach, Make, TurnDown, Tell, Show}
 use Rattle.spec_exchange.specs.Verdict.{KeepSlot, PutRanges, Alter, CloseOpen, Challenge, ChallengeBinding, Begin, Join}
@@ -25,6 +24,11 @@ sound_gone : (s : Server) (origin : Origin) (f : ℕ) → all_sound (gone_record
 unfolding gone_records
 sound_gone s origin f = either (λ rs. all_sound rs ≡ true) (goes s f) _ _ (λ _. sound_one _ refl) (λ _. sound_none)
 
+sound_settled : (s : Server) (origin : Origin) (f : ℕ) → all_sound (left_file_records s origin f) ≡ true
+unfolding left_file_records
+sound_settled s origin f = either (λ rs. all_sound rs ≡ true) (is_kept_back s f) _ _ (λ _. sound_one _ refl)
+    (λ _. sound_gone s origin f)
+
 sound_leave : (s : Server) (origin : Origin) (o : ℕ) → all_sound (leave_records s origin o) ≡ true
 unfolding leave_records pending_records shut_records
 sound_leave s origin o =
@@ -32,7 +36,7 @@ sound_leave s origin o =
     && (deletes_on_close (s.opened o).options && not (s.delete_pending (s.opened o).file))) _ _
     (λ _. sound_one _ refl) (λ _. sound_none))
     (sound_more _ _ (either (λ rs. all_sound rs ≡ true) (s.opened o).persistent _ _ (λ _. sound_one _ refl) (λ _. sound_none))
-    (sound_gone (drop_open (pending_behind s o) o) origin (s.opened o).file))
+    (sound_settled (drop_open (pending_behind s o) o) origin (s.opened o).file))
 
 sound_leave_all : (s : Server) (origin : Origin) (os : List ℕ) → all_sound (leave_all_records s origin os) ≡ true
 unfolding leave_all_records
@@ -52,7 +56,7 @@ sound_named s origin (Some session) is_quiet = sound_end s origin session is_qui
 
 pub sound_expiry : (s : Server) (origin : Origin) (o : ℕ) → all_sound (expire_records s origin o) ≡ true
 unfolding expire_records all_sound
-sound_expiry s origin o = sound_gone (drop_open (pending_behind s o) o) origin (s.opened o).file
+sound_expiry s origin o = sound_settled (drop_open (pending_behind s o) o) origin (s.opened o).file
 
 pub sound_take_all : (s : Server) (ks : List ℕ) (now : ℕ) (is_quiet : Bool) → all_sound (take_all_records s ks now is_quiet) ≡ true
 unfolding take_all_records

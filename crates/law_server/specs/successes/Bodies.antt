@@ -24,7 +24,7 @@ IsBodyTold (Write file at bytes channel) b = b ≡ Count (length bytes)
 IsBodyTold (Read file at size minimum channel) b =
     (bytes : List ℕ) × (b ≡ Content bytes) × (length bytes ≤ size) × (length bytes ≤ 1048576)
 IsBodyTold (QueryFile file class room) b =
-    (path : List ℕ) × (info : Info) × (access : ℕ) × (options : ℕ) × (b ≡ FileInfo class path info access options)
+    (path : List ℕ) × (info : Info) × (access : ℕ) × (options : ℕ) × (position : ℕ) × (b ≡ FileInfo class path info access options position)
 IsBodyTold (ListDirectory file class restart single pattern room) b = (entries : List Named) × (b ≡ Listing class entries)
 IsBodyTold _ b = b ≡ Empty
 

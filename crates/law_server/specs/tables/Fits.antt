@@ -6,6 +6,7 @@ use Rattle.spec_exchange.specs.Commands.{deletes_on_close}
 use Rattle.spec_exchange.specs.State.{Server, Range, Tree, NewSession, NewOpen, Record, CreateRecord}
 use Rattle.spec_exchange.specs.Files.{root, exists, exists_in}
 use Rattle.spec_exchange.specs.Opens.{id_of, max_ids}
+use Rattle.spec_exchange.specs.Records.{lower_limit}
 use Rattle.spec_exchange.specs.Fold.{full_room}
 
 -- ---- opens
@@ -138,6 +139,10 @@ FileNumbers s = (f : ℕ) → exists_in s.entries f ≡ true → 0 < f × f < s.
 abbrev pub Room : Server → Type 0
 Room s = s.room ≤ full_room
 
+-- the records of events have the whole of the journal below its lower limit
+abbrev pub Limit : Server → Type 0
+Limit s = s.limit ≡ lower_limit
+
 pub record Fits (s : Server) : Type 0 where
   pub attached : Attached s
   pub plain_attached : PlainAttached s
@@ -168,6 +173,7 @@ pub record Fits (s : Server) : Type 0 where
   pub next_file : NextFile s
   pub file_numbers : FileNumbers s
   pub room : Room s
+  pub limit : Limit s
 
 -- ---- records
 

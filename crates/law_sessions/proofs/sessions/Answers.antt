@@ -474,7 +474,7 @@ by_verdicts s m now records (Make r found action) f = made_open s m now r found 
 by_verdicts s m now records (TurnDown o status) f = quiet_by s m (apply s m now (TurnDown o status)) records (stays_reached s m o) refl f.0
 by_verdicts s m now records (Tell o body) f = quiet_by s m (apply s m now (Tell o body)) records (stays_reached s m o) refl f.0
 by_verdicts s m now records (Show o last body) f = quiet_by s m (apply s m now (Show o last body)) records
-    (stays_so s (reach s m o) _ (stays_reached s m o) (stays_shown (reach s m o) s o last)) refl f.0
+    (stays_so s (reach s m o) _ (stays_reached s m o) (stays_shown (reach s m o) _ _)) refl f.0
 by_verdicts s m now records (KeepSlot o index number status elements) f =
     quiet_by s m (apply s m now (KeepSlot o index number status elements)) records
     (stays_so s (reach s m o) _ (stays_reached s m o) (stays_kept (reach s m o) o index number status)) refl f.0

@@ -7,7 +7,7 @@ use Rattle.spec_exchange.specs.Commands.{CreateRequest, deletes_on_close}
 use Rattle.spec_exchange.specs.State.{Server, Message, Range}
 use Rattle.spec_exchange.specs.Files.{set_delete_pending, remove_file, empty_file}
 use Rattle.spec_exchange.specs.Files.{file_attributes}
-use Rattle.spec_exchange.specs.Opens.{drop_open, leave_open, pending_behind, without_gone, goes}
+use Rattle.spec_exchange.specs.Opens.{drop_open, leave_open, pending_behind, without_gone, goes, is_kept_back, left_file}
 use Rattle.spec_exchange.specs.CheckCreate.{empties}
 use Rattle.spec_exchange.specs.CheckOpen.{is_late, is_slot}
 use Rattle.spec_exchange.specs.Effects.{reach, keep_slot, keep_refusal, set_ranges, attach, attached, keep_closed, change_file, file_made}
@@ -115,11 +115,29 @@ stays_gone s f =
     })
     (λ _. stays_same s)
 
+pub stays_settled : (s : Server) (f : ℕ) → Stays s (left_file s f)
+stays_settled s f =
+    either (λ t. Stays s t) (is_kept_back s f) (set_delete_pending s f false) (without_gone s f)
+    (λ _. record {
+      present = refl;
+      user = refl;
+      trees = refl;
+      next_tree = refl;
+      epoch = refl;
+      open_ids_given = refl;
+      session_ids_given = refl;
+      making = refl;
+      session_on = refl;
+      opened = refl;
+      standing = λ q e. e;
+    })
+    (λ _. stays_gone s f)
+
 pub stays_left : (s : Server) (o : ℕ) → Stays s (leave_open s o)
 stays_left s o =
     let a = pending_behind s o in let b = drop_open a o in
-    stays_so s a (without_gone b (s.opened o).file) (stays_pending s o) (stays_so a b (without_gone b (s.opened o).file)
-    (stays_dropped a o) (stays_gone b (s.opened o).file))
+    stays_so s a (left_file b (s.opened o).file) (stays_pending s o) (stays_so a b (left_file b (s.opened o).file)
+    (stays_dropped a o) (stays_settled b (s.opened o).file))
 
 pub stays_reached : (s : Server) (m : Message) (o : ℕ) → Stays s (reach s m o)
 stays_reached s m o =
@@ -370,10 +388,11 @@ stays_refused s session guid status = record {
   standing = λ q e. e;
 }
 
-pub stays_shown : (s t : Server) (o : ℕ) (last : Option (List ℕ)) → Stays s (record s {
-  enumeration_location = put t.enumeration_location o last;
+pub stays_shown : (s : Server) (listed : ℕ → Option (List ℕ)) (offset : ℕ → ℕ) → Stays s (record s {
+  enumeration_location = listed;
+  current_byte_offset = offset;
 })
-stays_shown s t o last = record {
+stays_shown s listed offset = record {
   present = refl;
   user = refl;
   trees = refl;

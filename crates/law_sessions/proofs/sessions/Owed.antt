@@ -7,9 +7,7 @@ use Rattle.spec_exchange.specs.Commands.{TreeConnect, TreeDisconnect, Create, Cl
 use Rattle.spec_exchange.specs.Commands.{ListDirectory, QueryFile, QueryVolume, SetInfo, deletes_on_close}
 use Rattle.spec_exchange.specs.State.{Server, Message, ServerEvent, Accept, Heard, End, Origin, Answer, DeleteRecord}
 use Rattle.spec_exchange.specs.State.{CloseRecord, RemoveRecord}
-use Rattle.spec_exchange.specs.Opens.{leave_open, leave_records, pending_records, shut_records, gone_records, goes}
-use Rattle.spec_exchange.specs.Opens.{drop_open, pending_behind}
-use Rattle.spec_exchange.specs.Opens.{granted}
+use Rattle.spec_exchange.specs.Opens.{leave_open, leave_records, pending_records, shut_records, gone_records, goes, drop_open, pending_behind, granted, left_file_records, is_kept_back}
 use Rattle.spec_exchange.specs.Check.{check}
 use Rattle.spec_exchange.specs.CheckOpen.{file_of}
 use Rattle.spec_exchange.specs.Status.{success}
@@ -38,6 +36,11 @@ clean_gone : (guid : ℕ) (user : List ℕ) (s : Server) (origin : Origin) (f : 
 unfolding gone_records Clean
 clean_gone guid user s origin f = either (λ rs. Clean guid user rs) (goes s f) (RemoveRecord origin f ∷ []) [] (λ _. (tt, tt)) (λ _. tt)
 
+clean_settled : (guid : ℕ) (user : List ℕ) (s : Server) (origin : Origin) (f : ℕ) → Clean guid user (left_file_records s origin f)
+unfolding left_file_records Clean
+clean_settled guid user s origin f = either (λ rs. Clean guid user rs) (is_kept_back s f) (DeleteRecord origin f false ∷ [])
+    (gone_records s origin f) (λ _. (tt, tt)) (λ _. clean_gone guid user s origin f)
+
 clean_shut : (guid : ℕ) (user : List ℕ) (s : Server) (origin : Origin) (o : ℕ) → Clean guid user (shut_records s origin o)
 unfolding shut_records Clean
 clean_shut guid user s origin o = either (λ rs. Clean guid user rs) (s.opened o).persistent (CloseRecord origin o ∷ [])
@@ -54,11 +57,11 @@ clean_left : (guid : ℕ) (user : List ℕ) (s : Server) (origin : Origin) (o : 
 unfolding leave_records
 clean_left guid user s origin o =
     clean_more guid user (pending_records s origin o) (shut_records s origin o
-    ++ gone_records (drop_open (pending_behind s o) o) origin (s.opened o).file)
+    ++ left_file_records (drop_open (pending_behind s o) o) origin (s.opened o).file)
     (clean_pending guid user s origin o)
-    (clean_more guid user (shut_records s origin o) (gone_records (drop_open (pending_behind s o) o) origin
+    (clean_more guid user (shut_records s origin o) (left_file_records (drop_open (pending_behind s o) o) origin
     (s.opened o).file) (clean_shut guid user s origin o)
-    (clean_gone guid user (drop_open (pending_behind s o) o) origin (s.opened o).file))
+    (clean_settled guid user (drop_open (pending_behind s o) o) origin (s.opened o).file))
 
 clean_all_left : (guid : ℕ) (user : List ℕ) (s : Server) (origin : Origin) (os : List ℕ) → Clean guid user (leave_all_records s origin os)
 unfolding leave_all_records Clean
@@ -81,7 +84,7 @@ clean_named guid user s origin (Some session) is_quiet = clean_ended guid user s
 
 clean_expired : (guid : ℕ) (user : List ℕ) (s : Server) (origin : Origin) (o : ℕ) → Clean guid user (expire_records s origin o)
 unfolding expire_records Clean
-clean_expired guid user s origin o = (tt, clean_gone guid user (drop_open (pending_behind s o) o) origin (s.opened o).file)
+clean_expired guid user s origin o = (tt, clean_settled guid user (drop_open (pending_behind s o) o) origin (s.opened o).file)
 
 -- ---- by verdict
 

@@ -6,7 +6,7 @@ use Rattle.spec_exchange.specs.Table.{put, put2}
 use Rattle.spec_exchange.specs.Status.{success}
 use Rattle.spec_exchange.specs.Content.{written, ended, is_empty}
 use Rattle.spec_exchange.specs.Commands.{Element, all_lock, all_unlock, deletes_on_close}
-use Rattle.spec_exchange.specs.State.{Server, Entry, Open, Record, NewOpen, EpochRecord, CreateRecord, WriteRecord}
+use Rattle.spec_exchange.specs.State.{Server, Entry, Open, Origin, Record, NewOpen, EpochRecord, CreateRecord, WriteRecord}
 use Rattle.spec_exchange.specs.State.{EndRecord, BasicRecord, DeleteRecord, RenameRecord, RemoveRecord, LockRecord}
 use Rattle.spec_exchange.specs.State.{CloseRecord, VersionRecord, ExpireRecord}
 use Rattle.spec_exchange.specs.Files.{root, find, exists, passes_room, make_file, set_content, empty_file}
@@ -19,7 +19,8 @@ use Rattle.spec_exchange.specs.Step.{add_expired_guid, max_expired_guids}
 use Rattle.spec_exchange.specs.Fold.{fold, fold_from, with_record, nothing_yet, begin_epoch, set_version, sweep}
 use Rattle.spec_exchange.specs.Fold.{may_create, may_have_open, restore, restored_row, created_file, is_file}
 use Rattle.spec_exchange.specs.Fold.{may_rename, may_remove, lock_recorded, lock_granted, shut_recorded}
-use Rattle.spec_exchange.specs.Fold.{recovery_records, opening_records}
+use Rattle.spec_exchange.specs.Fold.{recovery_records, opening_records, epoch_records, is_left_pending, mark_records, unmark_records}
+use Rattle.spec_exchange.specs.Records.{origin_at}
 use Rattle.law_server.proofs.tables.Logic.{either}
 use Rattle.law_sessions.proofs.sessions.Columns.{Stays, stays_same, stays_so, stays_pending, stays_dropped, stays_gone}
 use Rattle.law_sessions.proofs.sessions.Columns.{stays_kept, stays_ranged, stays_noted}
@@ -368,13 +369,43 @@ begins_anew guid user epoch d f =
     no_other : (a b : ℕ) → b ≡ a → (a + 1 == b + 1) ≡ false → ⊥
     no_other a b e n = grind arith
 
-anew_at : (guid : ℕ) (user : List ℕ) (d : Server) → Folds guid user d.epoch d → Anew guid user (d.epoch + 1)
-    (fold_from d (opening_records d))
+anew_begun : (guid : ℕ) (user : List ℕ) (d : Server) → Folds guid user d.epoch d → Anew guid user (d.epoch + 1)
+    (fold_from d (epoch_records d))
 unfolding fold_from
-anew_at guid user d f =
+anew_begun guid user d f =
     either (λ rs. Anew guid user (d.epoch + 1) (fold_from d rs)) (d.version == 1) _ _
     (λ _. begins_anew guid user d.epoch (set_version d 2) (fold_stays guid user d.epoch d (set_version d 2) (stays_version d 2) (loose_version d 2) f))
     (λ _. begins_anew guid user d.epoch d f)
+
+-- a mark that is cleared
+cleared_ids : (d : Server) (origin : Origin) (f : ℕ) → (with_record d (DeleteRecord origin f false)).session_ids_given ≡ d.session_ids_given
+cleared_ids d origin f = either (λ (t : Server). t.session_ids_given ≡ d.session_ids_given) (exists d f && not (f == root))
+    (set_delete_pending d f false) d (λ _. refl) (λ _. refl)
+
+anew_cleared : (guid : ℕ) (user : List ℕ) (n : ℕ) (d s : Server) (f : ℕ) → Anew guid user n d
+    → Anew guid user n (fold_from d (mark_records s f))
+unfolding fold_from mark_records
+anew_cleared guid user n d s f a = either (λ rs. Anew guid user n (fold_from d rs)) (is_left_pending s f) _ _
+    (λ _. record {
+      folds = one_record guid user n d (DeleteRecord (origin_at 0) f false) tt a.folds;
+      session_ids_given = cleared_ids d (origin_at 0) f ∙ a.session_ids_given;
+    }) (λ _. a)
+
+anew_unmarked : (guid : ℕ) (user : List ℕ) (n : ℕ) (d s : Server) (es : List Entry) → Anew guid user n d
+    → Anew guid user n (fold_from d (unmark_records s es))
+unfolding unmark_records fold_from
+anew_unmarked guid user n d s [] a = a
+anew_unmarked guid user n d s (e ∷ es) a =
+    let rs = mark_records s e.file in
+    subst (λ t. Anew guid user n t) (sym (fold_more d rs (unmark_records s es)))
+    (anew_unmarked guid user n (fold_from d rs) s es (anew_cleared guid user n d s e.file a))
+
+anew_at : (guid : ℕ) (user : List ℕ) (d : Server) → Folds guid user d.epoch d → Anew guid user (d.epoch + 1)
+    (fold_from d (opening_records d))
+anew_at guid user d f =
+    let b = fold_from d (epoch_records d) in
+    subst (λ t. Anew guid user (d.epoch + 1) t) (sym (fold_more d (epoch_records d) (unmark_records b b.entries)))
+    (anew_unmarked guid user (d.epoch + 1) b b b.entries (anew_begun guid user d f))
 
 anew_from : (guid : ℕ) (user : List ℕ) (epoch : ℕ) (d : Server) → Folds guid user epoch d → Anew guid user (epoch + 1)
     (fold_from d (opening_records d))

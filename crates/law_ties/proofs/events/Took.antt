@@ -1,5 +1,5 @@
 -- A line's reply that is taken, and a dialog that is refused, leave a world tied.
-use Rattle.std.proofs.Common.{◌≡◌, ℕ, ◌+◌, ◌==◌, Bool, true, false, ◌&&◌, if◌then◌else◌, List, [], ◌∷◌, ◌++◌}
+use Rattle.std.proofs.Common.{◌≡◌, ℕ, ◌==◌, Bool, true, false, ◌&&◌, if◌then◌else◌, List, [], ◌∷◌, ◌++◌}
 use Rattle.std.proofs.Common.{refl, sym, ap, ◌∙◌, subst, eqb-true, Option, Some, None}
 use Rattle.spec_exchange.specs.Table.{put, is_filled}
 use Rattle.spec_exchange.specs.Operations.{Op, Refusal, HadStatus}

@@ -1,5 +1,5 @@
 -- A Serve of a line's request leaves a world tied.
-use Rattle.std.proofs.Common.{◌≡◌, ℕ, ◌+◌, ◌-◌, ◌^◌, ◌<◌, ◌≤◌, ◌==◌, Bool, true, false, not, ◌&&◌, if◌then◌else◌, List, [], ◌∷◌}
+use Rattle.std.proofs.Common.{◌≡◌, ℕ, ◌+◌, ◌^◌, ◌<◌, ◌≤◌, ◌==◌, Bool, true, false, not, ◌&&◌, if◌then◌else◌, List, [], ◌∷◌}
 use Rattle.std.proofs.Common.{◌++◌, length, take, refl, sym, ap, ◌∙◌, subst, eqb-true, arith, Option, Some, None, is_some}
 use Rattle.spec_exchange.specs.Table.{put, is_filled}
 use Rattle.spec_exchange.specs.Status.{success}
@@ -18,7 +18,7 @@ use Rattle.spec_world.specs.Settings.{WorldSettings, draw}
 use Rattle.spec_world.specs.Messages.{HeardMessage}
 use Rattle.spec_world.specs.Ends.{signer_on}
 use Rattle.spec_world.specs.Hearing.{is_negotiate, is_setup, window_behind, behind_turn, Checked, checked_as, is_misplaced, is_probe}
-use Rattle.spec_world.specs.Logon.{Stays, progress, token_in, answer_token_by, logons_behind, signer_by, unless_faulty, signer_of}
+use Rattle.spec_world.specs.Logon.{Stays, progress, token_in, answer_token_by, logons_behind, signer_by, unless_faulty}
 use Rattle.spec_world.specs.Answering.{SaidReply, said_body}
 use Rattle.spec_world.specs.Connection.{told_of, said_to, went_by, beginning, answered}
 use Rattle.spec_world.specs.World.{World, Wires, answered_wires, served_on, served_by, step_at, serve_frame}

@@ -1,5 +1,5 @@
 -- What is sealed under a channel's nonce: its length, its first bytes, and its Flags.
-use Rattle.std.proofs.Common.{◌≡◌, ℕ, ◌≤◌, ◌==◌, Bool, true, List, ◌++◌, append_assoc, length, replicate, length-append, refl, sym}
+use Rattle.std.proofs.Common.{◌≡◌, ℕ, ◌≤◌, ◌==◌, Bool, true, List, ◌++◌, append_assoc, length, replicate, length-append, refl}
 use Rattle.std.proofs.Common.{ap, ◌∙◌, arith}
 use Rattle.sha2.proofs.Facts512.{length-sha512}
 use Rattle.spec_wire.specs.messages.Places.{le, number_of, bytes_at}

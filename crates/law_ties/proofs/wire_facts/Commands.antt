@@ -28,7 +28,7 @@ same_bytes (OpWrite create at bytes) (Count count) guid file slot number status 
 same_bytes (OpWrite create at bytes) b guid file slot number status token is = absurd is
 same_bytes (OpRead create at size) (Content bytes) guid file slot number status token is = refl
 same_bytes (OpRead create at size) b guid file slot number status token is = absurd is
-same_bytes (OpStat create) (FileInfo class path info access options) guid file slot number status token is = refl
+same_bytes (OpStat create) (FileInfo class path info access options position) guid file slot number status token is = refl
 same_bytes (OpStat create) b guid file slot number status token is = absurd is
 same_bytes (OpList create) (Listing class entries) guid file slot number status token is = refl
 same_bytes (OpList create) b guid file slot number status token is = absurd is

@@ -2,7 +2,7 @@
 use Rattle.std.specs.Prelude.{◌≡◌, ℕ, ◌==◌, true, false, List, [], ◌∷◌}
 use Rattle.spec_exchange.specs.Status.{success}
 use Rattle.spec_exchange.specs.Client.{Apart, AskedTree}
-use Rattle.spec_exchange.specs.Network.{Take, Sent, Received, Token, ForDialog}
+use Rattle.spec_exchange.specs.Network.{Take, Sent, Received, Token}
 use Rattle.spec_world.specs.Settings.{WorldSettings}
 use Rattle.spec_world.specs.Dialog.{status_due}
 use Rattle.spec_world.specs.World.{World}

@@ -33,6 +33,32 @@ ghost use Rattle.spec_wire.specs.messages.FileClasses.{SpellsFileNetworkOpenInfo
 ghost use Rattle.spec_wire.specs.messages.FileClasses.{file_network_open_information_fault, file_network_open_information_in};
 ghost use Rattle.spec_wire.specs.messages.FileClasses.{file_network_open_information_spelling};
 ghost use Rattle.spec_wire.specs.declared.messages.class.FileNetworkOpenInformation.{FileNetworkOpenInformation};
+ghost use Rattle.spec_wire.specs.messages.FileClasses.{SpellsFileEaInformation, IsWritableFileEaInformation};
+ghost use Rattle.spec_wire.specs.messages.FileClasses.{file_ea_information_fault, file_ea_information_in};
+ghost use Rattle.spec_wire.specs.messages.FileClasses.{file_ea_information_spelling};
+ghost use Rattle.spec_wire.specs.declared.messages.class.FileEaInformation.{FileEaInformation};
+ghost use Rattle.spec_wire.specs.messages.FileClasses.{SpellsFileAccessInformation, IsWritableFileAccessInformation};
+ghost use Rattle.spec_wire.specs.messages.FileClasses.{file_access_information_fault, file_access_information_in};
+ghost use Rattle.spec_wire.specs.messages.FileClasses.{file_access_information_spelling};
+ghost use Rattle.spec_wire.specs.declared.messages.class.FileAccessInformation.{FileAccessInformation};
+ghost use Rattle.spec_wire.specs.messages.FileClasses.{SpellsFilePositionInformation, IsWritableFilePositionInformation};
+ghost use Rattle.spec_wire.specs.messages.FileClasses.{file_position_information_fault, file_position_information_in};
+ghost use Rattle.spec_wire.specs.messages.FileClasses.{file_position_information_spelling};
+ghost use Rattle.spec_wire.specs.declared.messages.class.FilePositionInformation.{FilePositionInformation};
+ghost use Rattle.spec_wire.specs.messages.FileClasses.{SpellsFileModeInformation, IsWritableFileModeInformation};
+ghost use Rattle.spec_wire.specs.messages.FileClasses.{file_mode_information_fault, file_mode_information_in};
+ghost use Rattle.spec_wire.specs.messages.FileClasses.{file_mode_information_spelling};
+ghost use Rattle.spec_wire.specs.declared.messages.class.FileModeInformation.{FileModeInformation};
+ghost use Rattle.spec_wire.specs.messages.FileClasses.{SpellsFileAlignmentInformation, IsWritableFileAlignmentInformation};
+ghost use Rattle.spec_wire.specs.messages.FileClasses.{file_alignment_information_fault, file_alignment_information_in};
+ghost use Rattle.spec_wire.specs.messages.FileClasses.{file_alignment_information_spelling};
+ghost use Rattle.spec_wire.specs.declared.messages.class.FileAlignmentInformation.{FileAlignmentInformation};
+ghost use Rattle.spec_wire.specs.messages.FileClasses.{FileNameInformationValue, SpellsFileNameInformation, IsWritableFileNameInformation};
+ghost use Rattle.spec_wire.specs.messages.FileClasses.{file_name_information_fault, file_name_information_in};
+ghost use Rattle.spec_wire.specs.messages.FileClasses.{file_name_information_spelling};
+ghost use Rattle.spec_wire.specs.messages.FileClasses.{FileStreamInformationValue, SpellsFileStreamInformation, IsWritableFileStreamInformation};
+ghost use Rattle.spec_wire.specs.messages.FileClasses.{file_stream_information_fault, file_stream_information_in};
+ghost use Rattle.spec_wire.specs.messages.FileClasses.{file_stream_information_spelling};
 
 /// The laws of FileBasicInformation.
 pub fn file_basic_information_law()
@@ -133,4 +159,88 @@ pub fn file_network_open_information_law()
         → SpellsFileNetworkOpenInformation m (file_network_open_information_in m) }
     ensures again { (rest : List ℕ) (v : FileNetworkOpenInformation) → IsWritableFileNetworkOpenInformation v
         → SpellsFileNetworkOpenInformation (file_network_open_information_spelling v ++ rest) v }
+{}
+
+/// The laws of FileEaInformation.
+pub fn file_ea_information_law()
+    ensures one { (m : List ℕ) (v w : FileEaInformation) → SpellsFileEaInformation m v
+        → SpellsFileEaInformation m w → v ≡ w }
+    ensures whole { (m : List ℕ) (v : FileEaInformation) → SpellsFileEaInformation m v
+        → file_ea_information_fault m ≡ None }
+    ensures given { (m : List ℕ) → file_ea_information_fault m ≡ None
+        → SpellsFileEaInformation m (file_ea_information_in m) }
+    ensures again { (rest : List ℕ) (v : FileEaInformation) → IsWritableFileEaInformation v
+        → SpellsFileEaInformation (file_ea_information_spelling v ++ rest) v }
+{}
+
+/// The laws of FileAccessInformation.
+pub fn file_access_information_law()
+    ensures one { (m : List ℕ) (v w : FileAccessInformation) → SpellsFileAccessInformation m v
+        → SpellsFileAccessInformation m w → v ≡ w }
+    ensures whole { (m : List ℕ) (v : FileAccessInformation) → SpellsFileAccessInformation m v
+        → file_access_information_fault m ≡ None }
+    ensures given { (m : List ℕ) → file_access_information_fault m ≡ None
+        → SpellsFileAccessInformation m (file_access_information_in m) }
+    ensures again { (rest : List ℕ) (v : FileAccessInformation) → IsWritableFileAccessInformation v
+        → SpellsFileAccessInformation (file_access_information_spelling v ++ rest) v }
+{}
+
+/// The laws of FilePositionInformation.
+pub fn file_position_information_law()
+    ensures one { (m : List ℕ) (v w : FilePositionInformation) → SpellsFilePositionInformation m v
+        → SpellsFilePositionInformation m w → v ≡ w }
+    ensures whole { (m : List ℕ) (v : FilePositionInformation) → SpellsFilePositionInformation m v
+        → file_position_information_fault m ≡ None }
+    ensures given { (m : List ℕ) → file_position_information_fault m ≡ None
+        → SpellsFilePositionInformation m (file_position_information_in m) }
+    ensures again { (rest : List ℕ) (v : FilePositionInformation) → IsWritableFilePositionInformation v
+        → SpellsFilePositionInformation (file_position_information_spelling v ++ rest) v }
+{}
+
+/// The laws of FileModeInformation.
+pub fn file_mode_information_law()
+    ensures one { (m : List ℕ) (v w : FileModeInformation) → SpellsFileModeInformation m v
+        → SpellsFileModeInformation m w → v ≡ w }
+    ensures whole { (m : List ℕ) (v : FileModeInformation) → SpellsFileModeInformation m v
+        → file_mode_information_fault m ≡ None }
+    ensures given { (m : List ℕ) → file_mode_information_fault m ≡ None
+        → SpellsFileModeInformation m (file_mode_information_in m) }
+    ensures again { (rest : List ℕ) (v : FileModeInformation) → IsWritableFileModeInformation v
+        → SpellsFileModeInformation (file_mode_information_spelling v ++ rest) v }
+{}
+
+/// The laws of FileAlignmentInformation.
+pub fn file_alignment_information_law()
+    ensures one { (m : List ℕ) (v w : FileAlignmentInformation) → SpellsFileAlignmentInformation m v
+        → SpellsFileAlignmentInformation m w → v ≡ w }
+    ensures whole { (m : List ℕ) (v : FileAlignmentInformation) → SpellsFileAlignmentInformation m v
+        → file_alignment_information_fault m ≡ None }
+    ensures given { (m : List ℕ) → file_alignment_information_fault m ≡ None
+        → SpellsFileAlignmentInformation m (file_alignment_information_in m) }
+    ensures again { (rest : List ℕ) (v : FileAlignmentInformation) → IsWritableFileAlignmentInformation v
+        → SpellsFileAlignmentInformation (file_alignment_information_spelling v ++ rest) v }
+{}
+
+/// The laws of FileNameInformation.
+pub fn file_name_information_law()
+    ensures one { (m : List ℕ) (v w : FileNameInformationValue) → SpellsFileNameInformation m v
+        → SpellsFileNameInformation m w → v ≡ w }
+    ensures whole { (m : List ℕ) (v : FileNameInformationValue) → SpellsFileNameInformation m v
+        → file_name_information_fault m ≡ None }
+    ensures given { (m : List ℕ) → file_name_information_fault m ≡ None
+        → SpellsFileNameInformation m (file_name_information_in m) }
+    ensures again { (rest : List ℕ) (v : FileNameInformationValue) → IsWritableFileNameInformation v
+        → SpellsFileNameInformation (file_name_information_spelling v ++ rest) v }
+{}
+
+/// The laws of FileStreamInformation.
+pub fn file_stream_information_law()
+    ensures one { (m : List ℕ) (v w : FileStreamInformationValue) → SpellsFileStreamInformation m v
+        → SpellsFileStreamInformation m w → v ≡ w }
+    ensures whole { (m : List ℕ) (v : FileStreamInformationValue) → SpellsFileStreamInformation m v
+        → file_stream_information_fault m ≡ None }
+    ensures given { (m : List ℕ) → file_stream_information_fault m ≡ None
+        → SpellsFileStreamInformation m (file_stream_information_in m) }
+    ensures again { (rest : List ℕ) (v : FileStreamInformationValue) → IsWritableFileStreamInformation v
+        → SpellsFileStreamInformation (file_stream_information_spelling v ++ rest) v }
 {}

@@ -18,6 +18,10 @@ ghost use Rattle.spec_wire.specs.messages.VolumeClasses.{SpellsFileFsFullSizeInf
 ghost use Rattle.spec_wire.specs.messages.VolumeClasses.{file_fs_full_size_information_fault, file_fs_full_size_information_in};
 ghost use Rattle.spec_wire.specs.messages.VolumeClasses.{file_fs_full_size_information_spelling};
 ghost use Rattle.spec_wire.specs.declared.messages.class.FileFsFullSizeInformation.{FileFsFullSizeInformation};
+ghost use Rattle.spec_wire.specs.messages.VolumeClasses.{SpellsFileFsSectorSizeInformation, IsWritableFileFsSectorSizeInformation};
+ghost use Rattle.spec_wire.specs.messages.VolumeClasses.{file_fs_sector_size_information_fault, file_fs_sector_size_information_in};
+ghost use Rattle.spec_wire.specs.messages.VolumeClasses.{file_fs_sector_size_information_spelling};
+ghost use Rattle.spec_wire.specs.declared.messages.class.FileFsSectorSizeInformation.{FileFsSectorSizeInformation};
 
 /// The laws of FileFsVolumeInformation.
 pub fn file_fs_volume_information_law()
@@ -74,4 +78,16 @@ pub fn file_fs_full_size_information_law()
         → SpellsFileFsFullSizeInformation m (file_fs_full_size_information_in m) }
     ensures again { (rest : List ℕ) (v : FileFsFullSizeInformation) → IsWritableFileFsFullSizeInformation v
         → SpellsFileFsFullSizeInformation (file_fs_full_size_information_spelling v ++ rest) v }
+{}
+
+/// The laws of FileFsSectorSizeInformation.
+pub fn file_fs_sector_size_information_law()
+    ensures one { (m : List ℕ) (v w : FileFsSectorSizeInformation) → SpellsFileFsSectorSizeInformation m v
+        → SpellsFileFsSectorSizeInformation m w → v ≡ w }
+    ensures whole { (m : List ℕ) (v : FileFsSectorSizeInformation) → SpellsFileFsSectorSizeInformation m v
+        → file_fs_sector_size_information_fault m ≡ None }
+    ensures given { (m : List ℕ) → file_fs_sector_size_information_fault m ≡ None
+        → SpellsFileFsSectorSizeInformation m (file_fs_sector_size_information_in m) }
+    ensures again { (rest : List ℕ) (v : FileFsSectorSizeInformation) → IsWritableFileFsSectorSizeInformation v
+        → SpellsFileFsSectorSizeInformation (file_fs_sector_size_information_spelling v ++ rest) v }
 {}

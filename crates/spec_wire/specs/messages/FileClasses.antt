@@ -12,6 +12,11 @@ use Rattle.spec_wire.specs.declared.messages.class.FileDispositionInformation.{F
 use Rattle.spec_wire.specs.declared.messages.class.FileAllocationInformation.{FileAllocationInformation}
 use Rattle.spec_wire.specs.declared.messages.class.FileEndOfFileInformation.{FileEndOfFileInformation}
 use Rattle.spec_wire.specs.declared.messages.class.FileNetworkOpenInformation.{FileNetworkOpenInformation}
+use Rattle.spec_wire.specs.declared.messages.class.FileEaInformation.{FileEaInformation}
+use Rattle.spec_wire.specs.declared.messages.class.FileAccessInformation.{FileAccessInformation}
+use Rattle.spec_wire.specs.declared.messages.class.FilePositionInformation.{FilePositionInformation}
+use Rattle.spec_wire.specs.declared.messages.class.FileModeInformation.{FileModeInformation}
+use Rattle.spec_wire.specs.declared.messages.class.FileAlignmentInformation.{FileAlignmentInformation}
 
 -- FileBasicInformation, class 4, asked and set (MS-FSCC 2.4.7): CreationTime, LastAccessTime, LastWriteTime,
 -- ChangeTime, FileAttributes, Reserved.
@@ -96,6 +101,81 @@ IsWritableFileInternalInformation v = AreWritable (file_internal_information_tab
 abbrev pub file_internal_information_spelling : FileInternalInformation → List ℕ
 file_internal_information_spelling v = with_fields [] (file_internal_information_table v)
 
+-- FileEaInformation, class 7 (MS-FSCC 2.4.12): EaSize.
+abbrev pub file_ea_information_table : FileEaInformation → List Field
+file_ea_information_table v = Num 4 v.ea_size ∷ []
+
+-- m is this information; other bytes may follow
+abbrev pub SpellsFileEaInformation : List ℕ → FileEaInformation → Type 0
+SpellsFileEaInformation m v = Stands m 0 (file_ea_information_table v)
+
+-- the information that stands in m
+abbrev pub file_ea_information_in : List ℕ → FileEaInformation
+file_ea_information_in m = record { ea_size = number 4 m 0 }
+
+abbrev pub file_ea_information_fault : List ℕ → Option MessageError
+file_ea_information_fault m =
+    short_fault m 0 (widths (file_ea_information_table (file_ea_information_in m)))
+
+abbrev pub IsWritableFileEaInformation : FileEaInformation → Type 0
+IsWritableFileEaInformation v = AreWritable (file_ea_information_table v)
+
+abbrev pub file_ea_information_spelling : FileEaInformation → List ℕ
+file_ea_information_spelling v = with_fields [] (file_ea_information_table v)
+
+-- FileAccessInformation, class 8 (MS-FSCC 2.4.1): AccessFlags.
+abbrev pub file_access_information_table : FileAccessInformation → List Field
+file_access_information_table v = Num 4 v.access_flags ∷ []
+
+-- m is this information; other bytes may follow
+abbrev pub SpellsFileAccessInformation : List ℕ → FileAccessInformation → Type 0
+SpellsFileAccessInformation m v = Stands m 0 (file_access_information_table v)
+
+-- the information that stands in m
+abbrev pub file_access_information_in : List ℕ → FileAccessInformation
+file_access_information_in m = record { access_flags = number 4 m 0 }
+
+abbrev pub file_access_information_fault : List ℕ → Option MessageError
+file_access_information_fault m =
+    short_fault m 0 (widths (file_access_information_table (file_access_information_in m)))
+
+abbrev pub IsWritableFileAccessInformation : FileAccessInformation → Type 0
+IsWritableFileAccessInformation v = AreWritable (file_access_information_table v)
+
+abbrev pub file_access_information_spelling : FileAccessInformation → List ℕ
+file_access_information_spelling v = with_fields [] (file_access_information_table v)
+
+pub record FileNameInformationValue : Type 0 where
+  pub name : List ℕ
+
+-- FileNameInformation, class 9 (MS-FSCC 2.1.7): length of the name.
+abbrev pub file_name_information_table : FileNameInformationValue → List Field
+file_name_information_table v = Num 4 (length v.name) ∷ []
+
+-- m is this information; other bytes may follow
+pub record SpellsFileNameInformation (m : List ℕ) (v : FileNameInformationValue) : Type 0 where
+  pub fixed : Stands m 0 (file_name_information_table v)
+  pub name : IsPart m 4 (number 4 m 0) 4 v.name
+
+-- the information that stands in m
+abbrev pub file_name_information_in : List ℕ → FileNameInformationValue
+file_name_information_in m = record { name = bytes_at (number 4 m 0) m 4 }
+
+abbrev pub file_name_information_fault : List ℕ → Option MessageError
+file_name_information_fault m =
+    short_fault m 0 (widths (file_name_information_table (file_name_information_in m)))
+    or_else part_fault m 4 (number 4 m 0) 4 Name
+
+-- what is written: the name stands behind the fixed part
+abbrev pub file_name_information_whole : FileNameInformationValue → List Field
+file_name_information_whole v = file_name_information_table v ++ Raw (length v.name) v.name ∷ []
+
+abbrev pub IsWritableFileNameInformation : FileNameInformationValue → Type 0
+IsWritableFileNameInformation v = AreWritable (file_name_information_whole v)
+
+abbrev pub file_name_information_spelling : FileNameInformationValue → List ℕ
+file_name_information_spelling v = with_fields [] (file_name_information_whole v)
+
 pub record FileRenameInformationValue : Type 0 where
   pub replace_if_exists : ℕ
   pub root_directory : ℕ
@@ -157,6 +237,72 @@ IsWritableFileDispositionInformation v = AreWritable (file_disposition_informati
 abbrev pub file_disposition_information_spelling : FileDispositionInformation → List ℕ
 file_disposition_information_spelling v = with_fields [] (file_disposition_information_table v)
 
+-- FilePositionInformation, class 14, asked and set (MS-FSCC 2.4.35): CurrentByteOffset.
+abbrev pub file_position_information_table : FilePositionInformation → List Field
+file_position_information_table v = Num 8 v.current_byte_offset ∷ []
+
+-- m is this information; other bytes may follow
+abbrev pub SpellsFilePositionInformation : List ℕ → FilePositionInformation → Type 0
+SpellsFilePositionInformation m v = Stands m 0 (file_position_information_table v)
+
+-- the information that stands in m
+abbrev pub file_position_information_in : List ℕ → FilePositionInformation
+file_position_information_in m = record { current_byte_offset = number 8 m 0 }
+
+abbrev pub file_position_information_fault : List ℕ → Option MessageError
+file_position_information_fault m =
+    short_fault m 0 (widths (file_position_information_table (file_position_information_in m)))
+
+abbrev pub IsWritableFilePositionInformation : FilePositionInformation → Type 0
+IsWritableFilePositionInformation v = AreWritable (file_position_information_table v)
+
+abbrev pub file_position_information_spelling : FilePositionInformation → List ℕ
+file_position_information_spelling v = with_fields [] (file_position_information_table v)
+
+-- FileModeInformation, class 16, asked and set (MS-FSCC 2.4.26): Mode.
+abbrev pub file_mode_information_table : FileModeInformation → List Field
+file_mode_information_table v = Num 4 v.mode ∷ []
+
+-- m is this information; other bytes may follow
+abbrev pub SpellsFileModeInformation : List ℕ → FileModeInformation → Type 0
+SpellsFileModeInformation m v = Stands m 0 (file_mode_information_table v)
+
+-- the information that stands in m
+abbrev pub file_mode_information_in : List ℕ → FileModeInformation
+file_mode_information_in m = record { mode = number 4 m 0 }
+
+abbrev pub file_mode_information_fault : List ℕ → Option MessageError
+file_mode_information_fault m =
+    short_fault m 0 (widths (file_mode_information_table (file_mode_information_in m)))
+
+abbrev pub IsWritableFileModeInformation : FileModeInformation → Type 0
+IsWritableFileModeInformation v = AreWritable (file_mode_information_table v)
+
+abbrev pub file_mode_information_spelling : FileModeInformation → List ℕ
+file_mode_information_spelling v = with_fields [] (file_mode_information_table v)
+
+-- FileAlignmentInformation, class 17 (MS-FSCC 2.4.3): AlignmentRequirement.
+abbrev pub file_alignment_information_table : FileAlignmentInformation → List Field
+file_alignment_information_table v = Num 4 v.alignment_requirement ∷ []
+
+-- m is this information; other bytes may follow
+abbrev pub SpellsFileAlignmentInformation : List ℕ → FileAlignmentInformation → Type 0
+SpellsFileAlignmentInformation m v = Stands m 0 (file_alignment_information_table v)
+
+-- the information that stands in m
+abbrev pub file_alignment_information_in : List ℕ → FileAlignmentInformation
+file_alignment_information_in m = record { alignment_requirement = number 4 m 0 }
+
+abbrev pub file_alignment_information_fault : List ℕ → Option MessageError
+file_alignment_information_fault m =
+    short_fault m 0 (widths (file_alignment_information_table (file_alignment_information_in m)))
+
+abbrev pub IsWritableFileAlignmentInformation : FileAlignmentInformation → Type 0
+IsWritableFileAlignmentInformation v = AreWritable (file_alignment_information_table v)
+
+abbrev pub file_alignment_information_spelling : FileAlignmentInformation → List ℕ
+file_alignment_information_spelling v = with_fields [] (file_alignment_information_table v)
+
 pub record FileAllInformationValue : Type 0 where
   pub creation_time : ℕ
   pub last_access_time : ℕ
@@ -170,19 +316,20 @@ pub record FileAllInformationValue : Type 0 where
   pub directory : ℕ
   pub index_number : ℕ
   pub access_flags : ℕ
+  pub current_byte_offset : ℕ
   pub mode : ℕ
   pub name : List ℕ
 
 -- FileAllInformation, class 18 (MS-FSCC 2.4.2): CreationTime, LastAccessTime, LastWriteTime, ChangeTime,
 -- FileAttributes, Reserved, AllocationSize, EndOfFile, NumberOfLinks, DeletePending, Directory, Reserved2,
 -- IndexNumber, EaSize, AccessFlags, CurrentByteOffset, Mode, AlignmentRequirement, length of the name. EaSize and
--- CurrentByteOffset and AlignmentRequirement are passed over.
+-- AlignmentRequirement are passed over.
 abbrev pub file_all_information_table : FileAllInformationValue → List Field
 file_all_information_table v =
     Num 8 v.creation_time ∷ Num 8 v.last_access_time ∷ Num 8 v.last_write_time ∷ Num 8 v.change_time
     ∷ Num 4 v.file_attributes ∷ Any 4 ∷ Num 8 v.allocation_size ∷ Num 8 v.end_of_file ∷ Num 4 v.number_of_links
     ∷ Num 1 v.delete_pending ∷ Num 1 v.directory ∷ Any 2 ∷ Num 8 v.index_number ∷ Any 4 ∷ Num 4 v.access_flags
-    ∷ Any 8 ∷ Num 4 v.mode ∷ Any 4 ∷ Num 4 (length v.name) ∷ []
+    ∷ Num 8 v.current_byte_offset ∷ Num 4 v.mode ∷ Any 4 ∷ Num 4 (length v.name) ∷ []
 
 -- m is this information; other bytes may follow
 pub record SpellsFileAllInformation (m : List ℕ) (v : FileAllInformationValue) : Type 0 where
@@ -204,6 +351,7 @@ file_all_information_in m = record {
   directory = number 1 m 61;
   index_number = number 8 m 64;
   access_flags = number 4 m 76;
+  current_byte_offset = number 8 m 80;
   mode = number 4 m 88;
   name = bytes_at (number 4 m 96) m 100;
 }
@@ -266,6 +414,47 @@ IsWritableFileEndOfFileInformation v = AreWritable (file_end_of_file_information
 
 abbrev pub file_end_of_file_information_spelling : FileEndOfFileInformation → List ℕ
 file_end_of_file_information_spelling v = with_fields [] (file_end_of_file_information_table v)
+
+pub record FileStreamInformationValue : Type 0 where
+  pub next_entry_offset : ℕ
+  pub stream_size : ℕ
+  pub stream_allocation_size : ℕ
+  pub name : List ℕ
+
+-- FileStreamInformation, class 22 (MS-FSCC 2.4.43), an entry: NextEntryOffset, length of the name, StreamSize,
+-- StreamAllocationSize.
+abbrev pub file_stream_information_table : FileStreamInformationValue → List Field
+file_stream_information_table v =
+    Num 4 v.next_entry_offset ∷ Num 4 (length v.name) ∷ Num 8 v.stream_size ∷ Num 8 v.stream_allocation_size ∷ []
+
+-- m is this information; other bytes may follow
+pub record SpellsFileStreamInformation (m : List ℕ) (v : FileStreamInformationValue) : Type 0 where
+  pub fixed : Stands m 0 (file_stream_information_table v)
+  pub name : IsPart m 24 (number 4 m 4) 24 v.name
+
+-- the information that stands in m
+abbrev pub file_stream_information_in : List ℕ → FileStreamInformationValue
+file_stream_information_in m = record {
+  next_entry_offset = number 4 m 0;
+  stream_size = number 8 m 8;
+  stream_allocation_size = number 8 m 16;
+  name = bytes_at (number 4 m 4) m 24;
+}
+
+abbrev pub file_stream_information_fault : List ℕ → Option MessageError
+file_stream_information_fault m =
+    short_fault m 0 (widths (file_stream_information_table (file_stream_information_in m)))
+    or_else part_fault m 24 (number 4 m 4) 24 Name
+
+-- what is written: the name stands behind the fixed part
+abbrev pub file_stream_information_whole : FileStreamInformationValue → List Field
+file_stream_information_whole v = file_stream_information_table v ++ Raw (length v.name) v.name ∷ []
+
+abbrev pub IsWritableFileStreamInformation : FileStreamInformationValue → Type 0
+IsWritableFileStreamInformation v = AreWritable (file_stream_information_whole v)
+
+abbrev pub file_stream_information_spelling : FileStreamInformationValue → List ℕ
+file_stream_information_spelling v = with_fields [] (file_stream_information_whole v)
 
 -- FileNetworkOpenInformation, class 34 (MS-FSCC 2.4.29): CreationTime, LastAccessTime, LastWriteTime, ChangeTime,
 -- AllocationSize, EndOfFile, FileAttributes, Reserved.

@@ -8,6 +8,7 @@ use Rattle.spec_wire.specs.declared.messages.error.Part.TheVariants.{Name}
 use Rattle.spec_wire.specs.declared.messages.class.FileFsSizeInformation.{FileFsSizeInformation}
 use Rattle.spec_wire.specs.declared.messages.class.FileFsDeviceInformation.{FileFsDeviceInformation}
 use Rattle.spec_wire.specs.declared.messages.class.FileFsFullSizeInformation.{FileFsFullSizeInformation}
+use Rattle.spec_wire.specs.declared.messages.class.FileFsSectorSizeInformation.{FileFsSectorSizeInformation}
 
 pub record FileFsVolumeInformationValue : Type 0 where
   pub volume_creation_time : ℕ
@@ -172,3 +173,40 @@ IsWritableFileFsFullSizeInformation v = AreWritable (file_fs_full_size_informati
 
 abbrev pub file_fs_full_size_information_spelling : FileFsFullSizeInformation → List ℕ
 file_fs_full_size_information_spelling v = with_fields [] (file_fs_full_size_information_table v)
+
+-- FileFsSectorSizeInformation, class 11 (MS-FSCC 2.5.7): LogicalBytesPerSector,
+-- PhysicalBytesPerSectorForAtomicity, PhysicalBytesPerSectorForPerformance,
+-- FileSystemEffectivePhysicalBytesPerSectorForAtomicity, Flags, ByteOffsetForSectorAlignment,
+-- ByteOffsetForPartitionAlignment.
+abbrev pub file_fs_sector_size_information_table : FileFsSectorSizeInformation → List Field
+file_fs_sector_size_information_table v =
+    Num 4 v.logical_bytes_per_sector ∷ Num 4 v.physical_bytes_per_sector_for_atomicity
+    ∷ Num 4 v.physical_bytes_per_sector_for_performance
+    ∷ Num 4 v.file_system_effective_physical_bytes_per_sector_for_atomicity ∷ Num 4 v.flags
+    ∷ Num 4 v.byte_offset_for_sector_alignment ∷ Num 4 v.byte_offset_for_partition_alignment ∷ []
+
+-- m is this information; other bytes may follow
+abbrev pub SpellsFileFsSectorSizeInformation : List ℕ → FileFsSectorSizeInformation → Type 0
+SpellsFileFsSectorSizeInformation m v = Stands m 0 (file_fs_sector_size_information_table v)
+
+-- the information that stands in m
+abbrev pub file_fs_sector_size_information_in : List ℕ → FileFsSectorSizeInformation
+file_fs_sector_size_information_in m = record {
+  logical_bytes_per_sector = number 4 m 0;
+  physical_bytes_per_sector_for_atomicity = number 4 m 4;
+  physical_bytes_per_sector_for_performance = number 4 m 8;
+  file_system_effective_physical_bytes_per_sector_for_atomicity = number 4 m 12;
+  flags = number 4 m 16;
+  byte_offset_for_sector_alignment = number 4 m 20;
+  byte_offset_for_partition_alignment = number 4 m 24;
+}
+
+abbrev pub file_fs_sector_size_information_fault : List ℕ → Option MessageError
+file_fs_sector_size_information_fault m =
+    short_fault m 0 (widths (file_fs_sector_size_information_table (file_fs_sector_size_information_in m)))
+
+abbrev pub IsWritableFileFsSectorSizeInformation : FileFsSectorSizeInformation → Type 0
+IsWritableFileFsSectorSizeInformation v = AreWritable (file_fs_sector_size_information_table v)
+
+abbrev pub file_fs_sector_size_information_spelling : FileFsSectorSizeInformation → List ℕ
+file_fs_sector_size_information_spelling v = with_fields [] (file_fs_sector_size_information_table v)

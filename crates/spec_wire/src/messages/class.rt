@@ -24,10 +24,40 @@ pub struct FileInternalInformation {
     pub index_number: u64,
 }
 
+/// FileEaInformation, class 7 (MS-FSCC 2.4.12).
+#[derive(Clone, Copy, Debug, PartialEq, Eq)]
+pub struct FileEaInformation {
+    pub ea_size: u32,
+}
+
+/// FileAccessInformation, class 8 (MS-FSCC 2.4.1).
+#[derive(Clone, Copy, Debug, PartialEq, Eq)]
+pub struct FileAccessInformation {
+    pub access_flags: u32,
+}
+
 /// FileDispositionInformation, class 13, set (MS-FSCC 2.4.11).
 #[derive(Clone, Copy, Debug, PartialEq, Eq)]
 pub struct FileDispositionInformation {
     pub delete_pending: u8,
+}
+
+/// FilePositionInformation, class 14, asked and set (MS-FSCC 2.4.35).
+#[derive(Clone, Copy, Debug, PartialEq, Eq)]
+pub struct FilePositionInformation {
+    pub current_byte_offset: u64,
+}
+
+/// FileModeInformation, class 16, asked and set (MS-FSCC 2.4.26).
+#[derive(Clone, Copy, Debug, PartialEq, Eq)]
+pub struct FileModeInformation {
+    pub mode: u32,
+}
+
+/// FileAlignmentInformation, class 17 (MS-FSCC 2.4.3).
+#[derive(Clone, Copy, Debug, PartialEq, Eq)]
+pub struct FileAlignmentInformation {
+    pub alignment_requirement: u32,
 }
 
 /// FileAllocationInformation, class 19, set (MS-FSCC 2.4.4).
@@ -78,6 +108,18 @@ pub struct FileFsFullSizeInformation {
     pub actual_available_allocation_units: u64,
     pub sectors_per_allocation_unit: u32,
     pub bytes_per_sector: u32,
+}
+
+/// FileFsSectorSizeInformation, class 11 (MS-FSCC 2.5.7).
+#[derive(Clone, Copy, Debug, PartialEq, Eq)]
+pub struct FileFsSectorSizeInformation {
+    pub logical_bytes_per_sector: u32,
+    pub physical_bytes_per_sector_for_atomicity: u32,
+    pub physical_bytes_per_sector_for_performance: u32,
+    pub file_system_effective_physical_bytes_per_sector_for_atomicity: u32,
+    pub flags: u32,
+    pub byte_offset_for_sector_alignment: u32,
+    pub byte_offset_for_partition_alignment: u32,
 }
 
 /// An entry of FSCTL_QUERY_NETWORK_INTERFACE_INFO (MS-SMB2 2.2.32.5).

@@ -81,9 +81,9 @@ names_class : (ns : List Named) → AreFittingNames ns → AreListedIn (director
 unfolding directory_class
 names_class ns are = names_short ns are
 
-length_few : (path : List ℕ) (i : Info) (access options : ℕ) → length (file_bytes 5 path i access options) < 2 ^ 32
+length_few : (path : List ℕ) (i : Info) (access options position : ℕ) → length (file_bytes 5 path i access options position) < 2 ^ 32
 unfolding file_bytes total
-length_few path i access options = omega (arith, length_fields (files.file_standard_information_table (standard_of i)) [])
+length_few path i access options position = omega (arith, length_fields (files.file_standard_information_table (standard_of i)) [])
 
 pub returns-clause-answered : goal.returns-clause-answered
 returns-clause-answered c = λ token op guid file slot number r is told. by_op token op guid file slot number r.body is
@@ -101,8 +101,8 @@ returns-clause-answered c = λ token op guid file slot number r is told. by_op t
     by_op token (OpLock create at n exclusive) guid file slot number b is = tt
     by_op token (OpUnlock create at n) guid file slot number b is = tt
     by_op token (OpFlush create) guid file slot number b is = tt
-    by_op token (OpStat create) guid file slot number (FileInfo class path info access options) is = subst (λ (k : ℕ).
-        length (file_bytes k path info access options) < 2 ^ 32) (sym is.0) (length_few path info access options)
+    by_op token (OpStat create) guid file slot number (FileInfo class path info access options position) is = subst (λ (k : ℕ).
+        length (file_bytes k path info access options position) < 2 ^ 32) (sym is.0) (length_few path info access options position)
     by_op token (OpStat create) guid file slot number _ is = absurd is
     by_op token (OpList create) guid file slot number (Listing class entries) is =
         let few = is.2 in

@@ -15,5 +15,5 @@ returns c =
       unfit = unfit_by law;
       front = λ s now o e f.
           unfit_both s (expire_records s (origin_at (connection_of e)) o) (carried_out (expire s o) now (ruling (expire s o) e)).records f;
-      counted = λ s o rs. same_fits s (expire s o) rs (c.carried_law.ensures.expired s o);
+      counted = λ s o rs. same_fits s (expire s o) rs (c.carried_law.ensures.expired s o) (c.carried_law.ensures.limited s o);
     }

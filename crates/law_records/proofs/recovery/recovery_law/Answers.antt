@@ -10,5 +10,6 @@ returns c =
       stands = λ z es. stands_for z (fitting z) es;
       agree = λ z es. recovers z (fitting z) es;
       restart = λ z es. restarted (run es (start z)).server (run es (start z)).records (recovers z (fitting z) es);
-      entries = λ z es. entries_left (run es (start z)).server (run es (start z)).records (fitting z es).listed (recovers z (fitting z) es);
+      entries = λ z es. entries_left (run es (start z)).server (run es (start z)).records (fitting z es).listed (fitting z es).root_stays
+          (recovers z (fitting z) es);
     }

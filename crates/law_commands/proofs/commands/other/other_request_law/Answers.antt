@@ -74,7 +74,7 @@ returns-clause-volume c = λ t h header rest v len fit number kind pays.
     ap (λ (n : ℕ). by_number n t h m) number
     ∙ ap Some (paid_is 16 h.charge size m (query_in m) (query_of v) (query_most m v spells) pays
     (read_as SpellsQueryInfoRequest query_info_request_fault query_info_request_in query_of m v is))
-    ∙ ap (λ (n : ℕ). Some (by_type n ((v.file_info_class == 7) || (v.file_info_class == 15)) v)) kind
+    ∙ ap (λ (n : ℕ). Some (by_type n (v.file_info_class == 15) v)) kind
 
 pub returns-clause-file : goal.returns-clause-file
 unfolding command_of query_in
@@ -87,5 +87,5 @@ returns-clause-file c = λ t h header rest v len fit number kind left_out pays.
     ap (λ (n : ℕ). by_number n t h m) number
     ∙ ap Some (paid_is 16 h.charge size m (query_in m) (query_of v) (query_most m v spells) pays
     (read_as SpellsQueryInfoRequest query_info_request_fault query_info_request_in query_of m v is))
-    ∙ ap (λ (n : ℕ). Some (by_type n ((v.file_info_class == 7) || (v.file_info_class == 15)) v)) kind
+    ∙ ap (λ (n : ℕ). Some (by_type n (v.file_info_class == 15) v)) kind
     ∙ ap (λ (b : Bool). Some (by_type 1 b v)) left_out

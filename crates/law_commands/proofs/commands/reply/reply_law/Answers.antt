@@ -53,11 +53,11 @@ returns c = λ h header rest token op guid file slot number r len ok same is.
         at size) _ (Content bytes) _ (c.transfer_replies.ensures.read header rest token file at size 0 0 bytes len is)
         refl refl
     by_op (OpRead create at size) b header rest token guid file slot number len is = absurd is
-    by_op (OpStat create) (FileInfo class path info access options) header rest token guid file slot number len is =
-        alike (OpStat create) _ (FileInfo class path info access options) _
+    by_op (OpStat create) (FileInfo class path info access options position) header rest token guid file slot number len is =
+        alike (OpStat create) _ (FileInfo class path info access options position) _
         (ap (λ (k : ℕ). body_in (QueryFile file 5 24) (header ++ (success_body token (QueryFile file 5 24) (FileInfo k
-        path info access options) ++ rest))) is.0 ∙ c.stat_reply.ensures header rest token file 24 path info
-        access options len is.1) refl refl
+        path info access options position) ++ rest))) is.0 ∙ c.stat_reply.ensures header rest token file 24 path info
+        access options position len is.1) refl refl
     by_op (OpStat create) b header rest token guid file slot number len is = absurd is
     by_op (OpList create) (Listing class entries) header rest token guid file slot number len is =
         alike (OpList create) _ (Listing class entries) _

@@ -21,7 +21,7 @@ abbrev told_in : QueryInfoResponseValue → Option Body
 told_in v = file_in 5 v.output
 
 abbrev length_of : FileStandardInformation → Option Body
-length_of v = Some (FileInfo 5 [] (of_length v.end_of_file) 0 0)
+length_of v = Some (FileInfo 5 [] (of_length v.end_of_file) 0 0 0)
 
 bit_small : (b : Bool) → bit_if b 1 < 256 ^ 1
 unfolding bit_if
@@ -47,7 +47,7 @@ few i is = omega (arith, length-with_fields (file_standard_information_table (st
 
 pub returns : goal.returns
 unfolding body_in file_bytes file_in
-returns c = λ header rest token file room path info access options len is.
+returns c = λ header rest token file room path info access options position len is.
     let law = c.query_info_response_law.ensures in
     let told = c.file_standard_information_law.ensures in
     let v : QueryInfoResponseValue = record { output = file_standard_information_spelling (standard_of info) } in

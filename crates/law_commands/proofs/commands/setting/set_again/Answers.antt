@@ -9,7 +9,10 @@ use Rattle.spec_wire.specs.declared.messages.class.FileBasicInformation.{FileBas
 use Rattle.spec_wire.specs.declared.messages.class.FileDispositionInformation.{FileDispositionInformation}
 use Rattle.spec_wire.specs.declared.messages.class.FileAllocationInformation.{FileAllocationInformation}
 use Rattle.spec_wire.specs.declared.messages.class.FileEndOfFileInformation.{FileEndOfFileInformation}
-use Rattle.spec_exchange.specs.Commands.{SetInfo, Setting, SetBasic, Rename, SetDelete, SetAllocation, SetEnd, Basic}
+use Rattle.spec_wire.specs.declared.messages.class.FilePositionInformation.{FilePositionInformation}
+use Rattle.spec_wire.specs.declared.messages.class.FileModeInformation.{FileModeInformation}
+use Rattle.spec_exchange.specs.Commands.{SetInfo, Setting, SetBasic, Rename, SetDelete, SetAllocation, SetEnd, SetPosition, SetMode}
+use Rattle.spec_exchange.specs.Commands.{Basic}
 use Rattle.spec_commands.specs.Text.{text_in}
 use Rattle.spec_commands.specs.Tables.{bit_if}
 use Rattle.spec_commands.specs.BodyOf.{body_of, set_value, setting_bytes, class_of, basic_value}
@@ -29,6 +32,8 @@ class_small (Rename replace path) = omega arith
 class_small (SetDelete delete_pending) = omega arith
 class_small (SetAllocation size) = omega arith
 class_small (SetEnd size) = omega arith
+class_small (SetPosition position) = omega arith
+class_small SetMode = omega arith
 
 class_known : (s : Setting) → is_set_class 1 (class_of s) ≡ true
 unfolding is_set_class
@@ -37,6 +42,8 @@ class_known (Rename replace path) = refl
 class_known (SetDelete delete_pending) = refl
 class_known (SetAllocation size) = refl
 class_known (SetEnd size) = refl
+class_known (SetPosition position) = refl
+class_known SetMode = refl
 
 flag_again : (b : Bool) → not (bit_if b 1 == 0) ≡ b
 unfolding bit_if
@@ -137,3 +144,20 @@ returns c = λ paid header rest file setting len small is pays.
         read_as FileClasses.SpellsFileEndOfFileInformation FileClasses.file_end_of_file_information_fault
         FileClasses.file_end_of_file_information_in (λ (v : FileEndOfFileInformation). SetInfo file (SetEnd
         v.end_of_file)) (setting_bytes (SetEnd size)) v row
+    by_class (SetPosition position) file is =
+        let law = c.file_position_information_law.ensures in
+        let v : FilePositionInformation = record { current_byte_offset = position } in
+        let row = alone FileClasses.SpellsFilePositionInformation FileClasses.file_position_information_fault
+        FileClasses.file_position_information_in FileClasses.IsWritableFilePositionInformation
+        FileClasses.file_position_information_spelling law.one law.whole law.given law.again v (is, tt) in
+        read_as FileClasses.SpellsFilePositionInformation FileClasses.file_position_information_fault
+        FileClasses.file_position_information_in (λ (v : FilePositionInformation). SetInfo file (SetPosition
+        v.current_byte_offset)) (setting_bytes (SetPosition position)) v row
+    by_class SetMode file is =
+        let law = c.file_mode_information_law.ensures in
+        let v : FileModeInformation = record { mode = 0 } in
+        let row = alone FileClasses.SpellsFileModeInformation FileClasses.file_mode_information_fault
+        FileClasses.file_mode_information_in FileClasses.IsWritableFileModeInformation
+        FileClasses.file_mode_information_spelling law.one law.whole law.given law.again v (omega arith, tt) in
+        read_as FileClasses.SpellsFileModeInformation FileClasses.file_mode_information_fault
+        FileClasses.file_mode_information_in (λ (v : FileModeInformation). SetInfo file SetMode) (setting_bytes SetMode) v row

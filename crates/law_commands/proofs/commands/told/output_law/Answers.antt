@@ -35,9 +35,9 @@ returns-clause-volume c = λ header rest token file class room told size used le
     (is.0, ap (λ (v : QueryInfoResponseValue). v.output) is.1)
 
 pub returns-clause-file : goal.returns-clause-file
-returns-clause-file c = λ header rest token file class room told path info access options len few.
+returns-clause-file c = λ header rest token file class room told path info access options position len few.
     let law = c.query_info_response_law.ensures in
-    let v : QueryInfoResponseValue = record { output = file_bytes told path info access options } in
+    let v : QueryInfoResponseValue = record { output = file_bytes told path info access options position } in
     let m : List ℕ = header ++ (query_info_response_spelling v ++ rest) in
     let is = found SpellsQueryInfoResponse query_info_response_fault query_info_response_in law.one law.whole law.given
     m v (law.again header rest v len (omega arith, (omega arith, (few, (refl, tt))))) in
