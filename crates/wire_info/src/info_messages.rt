@@ -16,39 +16,108 @@ mod set_info;
 mod set_info_request;
 mod set_info_response;
 
-pub use crate::classes::{
-    DirectoryClass, DirectoryEntry, FileAllInformation, FileAllocationInformation,
-    FileBasicInformation, FileDispositionInformation, FileEndOfFileInformation,
-    FileFsAttributeInformation, FileFsDeviceInformation, FileFsFullSizeInformation,
-    FileFsSizeInformation, FileFsVolumeInformation, FileInternalInformation,
-    FileNetworkOpenInformation, FileRenameInformation, FileStandardInformation, FirstEntry,
-    ListingError, NetworkInterface, directory_entry_size, first_entry, put_directory_entry,
-    read_directory_entry, read_file_all_information, read_file_allocation_information,
-    read_file_basic_information, read_file_disposition_information,
-    read_file_end_of_file_information, read_file_fs_attribute_information,
-    read_file_fs_device_information, read_file_fs_full_size_information,
-    read_file_fs_size_information, read_file_fs_volume_information, read_file_internal_information,
-    read_file_network_open_information, read_file_rename_information,
-    read_file_standard_information, read_listing, read_network_interface,
-    write_file_all_information, write_file_allocation_information, write_file_basic_information,
-    write_file_disposition_information, write_file_end_of_file_information,
-    write_file_fs_attribute_information, write_file_fs_device_information,
-    write_file_fs_full_size_information, write_file_fs_size_information,
-    write_file_fs_volume_information, write_file_internal_information,
-    write_file_network_open_information, write_file_rename_information,
-    write_file_standard_information, write_network_interface,
-};
-pub use ioctl::{IoctlRequest, IoctlResponse};
-pub use ioctl_request::{read_ioctl_request, write_ioctl_request};
-pub use ioctl_response::{read_ioctl_response, write_ioctl_response};
-pub use known::{is_directory_class, is_query_class, is_set_class};
-pub use query_directory::{QueryDirectoryRequest, QueryDirectoryResponse};
-pub use query_directory_request::{read_query_directory_request, write_query_directory_request};
-pub use query_directory_response::{read_query_directory_response, write_query_directory_response};
-pub use query_info::{QueryInfoRequest, QueryInfoResponse};
-pub use query_info_request::{read_query_info_request, write_query_info_request};
-pub use query_info_response::{read_query_info_response, write_query_info_response};
+pub use crate::classes::DirectoryClass;
+pub use crate::classes::DirectoryEntry;
+pub use crate::classes::FileAccessInformation;
+pub use crate::classes::FileAlignmentInformation;
+pub use crate::classes::FileAllInformation;
+pub use crate::classes::FileAllocationInformation;
+pub use crate::classes::FileBasicInformation;
+pub use crate::classes::FileDispositionInformation;
+pub use crate::classes::FileEaInformation;
+pub use crate::classes::FileEndOfFileInformation;
+pub use crate::classes::FileFsAttributeInformation;
+pub use crate::classes::FileFsDeviceInformation;
+pub use crate::classes::FileFsFullSizeInformation;
+pub use crate::classes::FileFsSectorSizeInformation;
+pub use crate::classes::FileFsSizeInformation;
+pub use crate::classes::FileFsVolumeInformation;
+pub use crate::classes::FileInternalInformation;
+pub use crate::classes::FileModeInformation;
+pub use crate::classes::FileNameInformation;
+pub use crate::classes::FileNetworkOpenInformation;
+pub use crate::classes::FilePositionInformation;
+pub use crate::classes::FileRenameInformation;
+pub use crate::classes::FileStandardInformation;
+pub use crate::classes::FileStreamInformation;
+pub use crate::classes::FirstEntry;
+pub use crate::classes::ListingError;
+pub use crate::classes::NetworkInterface;
+pub use crate::classes::directory_entry_size;
+pub use crate::classes::first_entry;
+pub use crate::classes::put_directory_entry;
+pub use crate::classes::read_directory_entry;
+pub use crate::classes::read_file_access_information;
+pub use crate::classes::read_file_alignment_information;
+pub use crate::classes::read_file_all_information;
+pub use crate::classes::read_file_allocation_information;
+pub use crate::classes::read_file_basic_information;
+pub use crate::classes::read_file_disposition_information;
+pub use crate::classes::read_file_ea_information;
+pub use crate::classes::read_file_end_of_file_information;
+pub use crate::classes::read_file_fs_attribute_information;
+pub use crate::classes::read_file_fs_device_information;
+pub use crate::classes::read_file_fs_full_size_information;
+pub use crate::classes::read_file_fs_sector_size_information;
+pub use crate::classes::read_file_fs_size_information;
+pub use crate::classes::read_file_fs_volume_information;
+pub use crate::classes::read_file_internal_information;
+pub use crate::classes::read_file_mode_information;
+pub use crate::classes::read_file_name_information;
+pub use crate::classes::read_file_network_open_information;
+pub use crate::classes::read_file_position_information;
+pub use crate::classes::read_file_rename_information;
+pub use crate::classes::read_file_standard_information;
+pub use crate::classes::read_file_stream_information;
+pub use crate::classes::read_listing;
+pub use crate::classes::read_network_interface;
+pub use crate::classes::write_file_access_information;
+pub use crate::classes::write_file_alignment_information;
+pub use crate::classes::write_file_all_information;
+pub use crate::classes::write_file_allocation_information;
+pub use crate::classes::write_file_basic_information;
+pub use crate::classes::write_file_disposition_information;
+pub use crate::classes::write_file_ea_information;
+pub use crate::classes::write_file_end_of_file_information;
+pub use crate::classes::write_file_fs_attribute_information;
+pub use crate::classes::write_file_fs_device_information;
+pub use crate::classes::write_file_fs_full_size_information;
+pub use crate::classes::write_file_fs_sector_size_information;
+pub use crate::classes::write_file_fs_size_information;
+pub use crate::classes::write_file_fs_volume_information;
+pub use crate::classes::write_file_internal_information;
+pub use crate::classes::write_file_mode_information;
+pub use crate::classes::write_file_name_information;
+pub use crate::classes::write_file_network_open_information;
+pub use crate::classes::write_file_position_information;
+pub use crate::classes::write_file_rename_information;
+pub use crate::classes::write_file_standard_information;
+pub use crate::classes::write_file_stream_information;
+pub use crate::classes::write_network_interface;
+pub use ioctl::IoctlRequest;
+pub use ioctl::IoctlResponse;
+pub use ioctl_request::read_ioctl_request;
+pub use ioctl_request::write_ioctl_request;
+pub use ioctl_response::read_ioctl_response;
+pub use ioctl_response::write_ioctl_response;
+pub use known::is_directory_class;
+pub use known::is_query_class;
+pub use known::is_set_class;
+pub use query_directory::QueryDirectoryRequest;
+pub use query_directory::QueryDirectoryResponse;
+pub use query_directory_request::read_query_directory_request;
+pub use query_directory_request::write_query_directory_request;
+pub use query_directory_response::read_query_directory_response;
+pub use query_directory_response::write_query_directory_response;
+pub use query_info::QueryInfoRequest;
+pub use query_info::QueryInfoResponse;
+pub use query_info_request::read_query_info_request;
+pub use query_info_request::write_query_info_request;
+pub use query_info_response::read_query_info_response;
+pub use query_info_response::write_query_info_response;
 pub use set_info::SetInfoRequest;
-pub use set_info_request::{read_set_info_request, write_set_info_request};
-pub use set_info_response::{read_set_info_response, write_set_info_response};
+pub use set_info_request::read_set_info_request;
+pub use set_info_request::write_set_info_request;
+pub use set_info_response::read_set_info_response;
+pub use set_info_response::write_set_info_response;
 pub use spec_wire::SetInfoResponse;

@@ -6,34 +6,108 @@
 pub mod classes;
 pub mod info_messages;
 
-pub use classes::{
-    DirectoryClass, DirectoryEntry, FileAllInformation, FileAllocationInformation,
-    FileBasicInformation, FileDispositionInformation, FileEndOfFileInformation,
-    FileFsAttributeInformation, FileFsDeviceInformation, FileFsFullSizeInformation,
-    FileFsSizeInformation, FileFsVolumeInformation, FileInternalInformation,
-    FileNetworkOpenInformation, FileRenameInformation, FileStandardInformation, FirstEntry,
-    ListingError, NetworkInterface, directory_entry_size, first_entry, put_directory_entry,
-    read_directory_entry, read_file_all_information, read_file_allocation_information,
-    read_file_basic_information, read_file_disposition_information,
-    read_file_end_of_file_information, read_file_fs_attribute_information,
-    read_file_fs_device_information, read_file_fs_full_size_information,
-    read_file_fs_size_information, read_file_fs_volume_information, read_file_internal_information,
-    read_file_network_open_information, read_file_rename_information,
-    read_file_standard_information, read_listing, read_network_interface,
-    write_file_all_information, write_file_allocation_information, write_file_basic_information,
-    write_file_disposition_information, write_file_end_of_file_information,
-    write_file_fs_attribute_information, write_file_fs_device_information,
-    write_file_fs_full_size_information, write_file_fs_size_information,
-    write_file_fs_volume_information, write_file_internal_information,
-    write_file_network_open_information, write_file_rename_information,
-    write_file_standard_information, write_network_interface,
-};
-pub use info_messages::{
-    IoctlRequest, IoctlResponse, QueryDirectoryRequest, QueryDirectoryResponse, QueryInfoRequest,
-    QueryInfoResponse, SetInfoRequest, SetInfoResponse, is_directory_class, is_query_class,
-    is_set_class, read_ioctl_request, read_ioctl_response, read_query_directory_request,
-    read_query_directory_response, read_query_info_request, read_query_info_response,
-    read_set_info_request, read_set_info_response, write_ioctl_request, write_ioctl_response,
-    write_query_directory_request, write_query_directory_response, write_query_info_request,
-    write_query_info_response, write_set_info_request, write_set_info_response,
-};
+pub use classes::DirectoryClass;
+pub use classes::DirectoryEntry;
+pub use classes::FileAccessInformation;
+pub use classes::FileAlignmentInformation;
+pub use classes::FileAllInformation;
+pub use classes::FileAllocationInformation;
+pub use classes::FileBasicInformation;
+pub use classes::FileDispositionInformation;
+pub use classes::FileEaInformation;
+pub use classes::FileEndOfFileInformation;
+pub use classes::FileFsAttributeInformation;
+pub use classes::FileFsDeviceInformation;
+pub use classes::FileFsFullSizeInformation;
+pub use classes::FileFsSectorSizeInformation;
+pub use classes::FileFsSizeInformation;
+pub use classes::FileFsVolumeInformation;
+pub use classes::FileInternalInformation;
+pub use classes::FileModeInformation;
+pub use classes::FileNameInformation;
+pub use classes::FileNetworkOpenInformation;
+pub use classes::FilePositionInformation;
+pub use classes::FileRenameInformation;
+pub use classes::FileStandardInformation;
+pub use classes::FileStreamInformation;
+pub use classes::FirstEntry;
+pub use classes::ListingError;
+pub use classes::NetworkInterface;
+pub use classes::directory_entry_size;
+pub use classes::first_entry;
+pub use classes::put_directory_entry;
+pub use classes::read_directory_entry;
+pub use classes::read_file_access_information;
+pub use classes::read_file_alignment_information;
+pub use classes::read_file_all_information;
+pub use classes::read_file_allocation_information;
+pub use classes::read_file_basic_information;
+pub use classes::read_file_disposition_information;
+pub use classes::read_file_ea_information;
+pub use classes::read_file_end_of_file_information;
+pub use classes::read_file_fs_attribute_information;
+pub use classes::read_file_fs_device_information;
+pub use classes::read_file_fs_full_size_information;
+pub use classes::read_file_fs_sector_size_information;
+pub use classes::read_file_fs_size_information;
+pub use classes::read_file_fs_volume_information;
+pub use classes::read_file_internal_information;
+pub use classes::read_file_mode_information;
+pub use classes::read_file_name_information;
+pub use classes::read_file_network_open_information;
+pub use classes::read_file_position_information;
+pub use classes::read_file_rename_information;
+pub use classes::read_file_standard_information;
+pub use classes::read_file_stream_information;
+pub use classes::read_listing;
+pub use classes::read_network_interface;
+pub use classes::write_file_access_information;
+pub use classes::write_file_alignment_information;
+pub use classes::write_file_all_information;
+pub use classes::write_file_allocation_information;
+pub use classes::write_file_basic_information;
+pub use classes::write_file_disposition_information;
+pub use classes::write_file_ea_information;
+pub use classes::write_file_end_of_file_information;
+pub use classes::write_file_fs_attribute_information;
+pub use classes::write_file_fs_device_information;
+pub use classes::write_file_fs_full_size_information;
+pub use classes::write_file_fs_sector_size_information;
+pub use classes::write_file_fs_size_information;
+pub use classes::write_file_fs_volume_information;
+pub use classes::write_file_internal_information;
+pub use classes::write_file_mode_information;
+pub use classes::write_file_name_information;
+pub use classes::write_file_network_open_information;
+pub use classes::write_file_position_information;
+pub use classes::write_file_rename_information;
+pub use classes::write_file_standard_information;
+pub use classes::write_file_stream_information;
+pub use classes::write_network_interface;
+pub use info_messages::IoctlRequest;
+pub use info_messages::IoctlResponse;
+pub use info_messages::QueryDirectoryRequest;
+pub use info_messages::QueryDirectoryResponse;
+pub use info_messages::QueryInfoRequest;
+pub use info_messages::QueryInfoResponse;
+pub use info_messages::SetInfoRequest;
+pub use info_messages::SetInfoResponse;
+pub use info_messages::is_directory_class;
+pub use info_messages::is_query_class;
+pub use info_messages::is_set_class;
+pub use info_messages::read_ioctl_request;
+pub use info_messages::read_ioctl_response;
+pub use info_messages::read_query_directory_request;
+pub use info_messages::read_query_directory_response;
+pub use info_messages::read_query_info_request;
+pub use info_messages::read_query_info_response;
+pub use info_messages::read_set_info_request;
+pub use info_messages::read_set_info_response;
+pub use info_messages::write_ioctl_request;
+pub use info_messages::write_ioctl_response;
+pub use info_messages::write_query_directory_request;
+pub use info_messages::write_query_directory_response;
+pub use info_messages::write_query_info_request;
+pub use info_messages::write_query_info_response;
+pub use info_messages::write_set_info_request;
+pub use info_messages::write_set_info_response;

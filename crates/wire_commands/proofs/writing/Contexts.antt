@@ -23,6 +23,7 @@ use Rattle.spec_commands.specs.BodyOf.{dh2q_of, dh2c_of, contexts_of, element_of
 use Rattle.spec_commands.specs.Infos.{interface_bytes, all_of}
 use Rattle.spec_wire.specs.messages.Utf16.{utf16}
 use Rattle.spec_wire.specs.messages.FileClasses.{file_all_information_spelling, file_all_information_whole}
+use Rattle.spec_wire.specs.messages.FileClasses.{file_name_information_spelling, file_name_information_whole}
 
 -- ---- contexts
 
@@ -155,10 +156,15 @@ pub interface_short : (a : Address) → length (interface_bytes a) < 2 ^ 32
 interface_short a = omega (arith, interface_long a)
 
 -- what is told of all of a file is no shorter than its name
-pub all_long : (path : List ℕ) (i : Info) (access options : ℕ)
-    → length (utf16 (92 ∷ path)) ≤ length (file_all_information_spelling (all_of path i access options))
+pub all_long : (path : List ℕ) (i : Info) (access options position : ℕ)
+    → length (utf16 (92 ∷ path)) ≤ length (file_all_information_spelling (all_of path i access options position))
 unfolding total
-all_long path i access options = omega (arith, length_fields (file_all_information_whole (all_of path i access options)) [])
+all_long path i access options position = omega (arith, length_fields (file_all_information_whole (all_of path i access options position)) [])
+
+-- no shorter is its name alone
+pub name_long : (name : List ℕ) → length name ≤ length (file_name_information_spelling (record { name = name }))
+unfolding total
+name_long name = omega (arith, length_fields (file_name_information_whole (record { name = name })) [])
 
 one_element : (e : Element) → length (lock_element_spelling (element_of e)) ≡ 24
 unfolding total

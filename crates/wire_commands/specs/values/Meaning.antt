@@ -13,6 +13,7 @@ use Rattle.wire_commands.specs.declared.values.command.Durable.{Durable}
 use Rattle.wire_commands.specs.declared.values.command.Reconnect.{Reconnect}
 use Rattle.wire_commands.specs.declared.values.command.Setting.{Setting}
 use Rattle.wire_commands.specs.declared.values.command.Setting.TheVariants.{SetBasic, Rename, SetDelete, SetAllocation, SetEnd}
+use Rattle.wire_commands.specs.declared.values.command.Setting.TheVariants.{SetPosition, SetMode}
 use Rattle.wire_commands.specs.declared.values.setup.SetupRequest.{SetupRequest}
 use Rattle.wire_commands.specs.declared.values.setup.SetupForm.{SetupForm}
 use Rattle.wire_commands.specs.declared.values.setup.Shows.{Shows}
@@ -58,6 +59,8 @@ setting_of (Rename replace path) = asks.Rename replace path
 setting_of (SetDelete marked) = asks.SetDelete marked
 setting_of (SetAllocation size) = asks.SetAllocation size
 setting_of (SetEnd size) = asks.SetEnd size
+setting_of (SetPosition position) = asks.SetPosition position
+setting_of SetMode = asks.SetMode
 
 abbrev pub shows_of : Shows → asks.Shows
 shows_of Begins = asks.Begins
@@ -166,7 +169,7 @@ body_of (Content bytes) = says.Content bytes
 body_of (Count count) = says.Count count
 body_of (Interfaces address) = says.Interfaces (address_of address)
 body_of (Listing class entries) = says.Listing class (map named_of entries.items)
-body_of (FileInfo class path info access options) = says.FileInfo class path (info_of info) access options
+body_of (FileInfo class path info access options position) = says.FileInfo class path (info_of info) access options position
 body_of (VolumeInfo class room used) = says.VolumeInfo class room used
 body_of (SetUp sealed channel) = says.SetUp sealed channel
 body_of (Connected kind capabilities access) = says.Connected kind capabilities access

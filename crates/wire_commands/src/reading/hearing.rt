@@ -129,6 +129,7 @@ fn standard_in(alloc: Global, output: &[u8]) -> Option<Body>
             info: of_length(v.end_of_file),
             access: 0,
             options: 0,
+            position: 0,
         }),
         Err(_) => None,
     }

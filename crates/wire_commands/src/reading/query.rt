@@ -57,8 +57,8 @@ fn query_of<'a>(v: &QueryInfoRequest<'_>) -> Command<'a>
     ensures { Meaning.command_of result ≡ CommandOf.query_of (query_info_request v.now) }
 {
     let class = v.file_info_class;
-    // The reader of the request knows classes 7 and 15, so that they are NOT_SUPPORTED and not INVALID_INFO_CLASS.
-    let left_out = class == 7 || class == 15;
+    // The reader of the request knows class 15, so that it is NOT_SUPPORTED and not INVALID_INFO_CLASS.
+    let left_out = class == 15;
     match v.info_type {
         1 => {
             if left_out {

@@ -15,7 +15,8 @@ use std::alloc::{AllocError, Global};
 use wire_info::{
     FileRenameInformation, SetInfoRequest, read_file_allocation_information,
     read_file_basic_information, read_file_disposition_information,
-    read_file_end_of_file_information, read_file_rename_information, read_set_info_request,
+    read_file_end_of_file_information, read_file_mode_information, read_file_position_information,
+    read_file_rename_information, read_set_info_request,
 };
 
 #[tactic(auto, using(crate::proofs::reading::Unless::reads_or_breaks))]
@@ -124,6 +125,35 @@ fn set_end<'a>(file: u64, bytes: &[u8]) -> Command<'a>
     }
 }
 
+#[tactic(auto, using(crate::proofs::reading::Unless::reads_or_breaks))]
+fn set_position<'a>(file: u64, bytes: &[u8]) -> Command<'a>
+    ensures { Meaning.command_of result ≡ CommandOf.setting_of file 14 bytes.now }
+{
+    match read_file_position_information(bytes) {
+        Ok(v) => Command::SetInfo {
+            file,
+            setting: Setting::SetPosition {
+                position: v.current_byte_offset,
+            },
+        },
+        Err(error) => unreadable(error),
+    }
+}
+
+// Whichever bits it names, an open's mode stays.
+#[tactic(auto, using(crate::proofs::reading::Unless::reads_or_breaks))]
+fn set_mode<'a>(file: u64, bytes: &[u8]) -> Command<'a>
+    ensures { Meaning.command_of result ≡ CommandOf.setting_of file 16 bytes.now }
+{
+    match read_file_mode_information(bytes) {
+        Ok(_) => Command::SetInfo {
+            file,
+            setting: Setting::SetMode,
+        },
+        Err(error) => unreadable(error),
+    }
+}
+
 fn setting_of<'a>(
     alloc: Global,
     file: u64,
@@ -138,6 +168,8 @@ fn setting_of<'a>(
         13 => Ok(set_delete(file, bytes)),
         19 => Ok(set_allocation(file, bytes)),
         20 => Ok(set_end(file, bytes)),
+        14 => Ok(set_position(file, bytes)),
+        16 => Ok(set_mode(file, bytes)),
         _ => Ok(Command::Unreadable {
             status: NOT_SUPPORTED,
         }),

@@ -121,4 +121,7 @@ pub enum Setting {
     SetDelete { marked: bool },
     SetAllocation { size: u64 },
     SetEnd { size: u64 },
+    SetPosition { position: u64 },
+    /// Whichever bits it names.
+    SetMode,
 }

@@ -33,13 +33,14 @@ pub enum Body {
         class: u8,
         entries: Vec<Named>,
     },
-    /// `access` and `options` are the open's.
+    /// `access`, `options` and `position` are the open's.
     FileInfo {
         class: u8,
         path: Text,
         info: Info,
         access: u32,
         options: u32,
+        position: u64,
     },
     /// `room` and `used` count bytes.
     VolumeInfo {

@@ -310,8 +310,17 @@ fn file_body(alloc: Global, body: &Body) -> Result<Bytes, WriteError>
             info,
             access,
             options,
+            position,
         } => {
-            let output = file_bytes(alloc, *class, path.as_str(), info, *access, *options)?;
+            let output = file_bytes(
+                alloc,
+                *class,
+                path.as_str(),
+                info,
+                *access,
+                *options,
+                *position,
+            )?;
             output_of_query(alloc, &output)
         }
         _ => Ok(Bytes::new(alloc)),

@@ -9,6 +9,7 @@ ghost use Rattle.spec_wire.specs.messages.FileClasses.{file_basic_information_sp
 ghost use Rattle.spec_wire.specs.messages.FileClasses.{file_disposition_information_spelling};
 ghost use Rattle.spec_wire.specs.messages.FileClasses.{file_allocation_information_spelling};
 ghost use Rattle.spec_wire.specs.messages.FileClasses.{file_end_of_file_information_spelling};
+ghost use Rattle.spec_wire.specs.messages.FileClasses.{file_position_information_spelling, file_mode_information_spelling};
 ghost use Rattle.spec_wire.specs.messages.Utf16.{utf16};
 ghost use Rattle.spec_wire.specs.messages.TreeConnect.{tree_connect_request_spelling};
 ghost use Rattle.spec_wire.specs.messages.Create.{create_request_spelling};
@@ -33,11 +34,12 @@ use std::alloc::{AllocError, Global};
 use wire_bytes::{Bytes, Text, utf16_of};
 use wire_info::{
     FileAllocationInformation, FileBasicInformation, FileDispositionInformation,
-    FileEndOfFileInformation, FileRenameInformation, QueryDirectoryRequest, QueryInfoRequest,
-    SetInfoRequest, write_file_allocation_information, write_file_basic_information,
-    write_file_disposition_information, write_file_end_of_file_information,
-    write_file_rename_information, write_query_directory_request, write_query_info_request,
-    write_set_info_request,
+    FileEndOfFileInformation, FileModeInformation, FilePositionInformation, FileRenameInformation,
+    QueryDirectoryRequest, QueryInfoRequest, SetInfoRequest, write_file_allocation_information,
+    write_file_basic_information, write_file_disposition_information,
+    write_file_end_of_file_information, write_file_mode_information,
+    write_file_position_information, write_file_rename_information, write_query_directory_request,
+    write_query_info_request, write_set_info_request,
 };
 use wire_messages::{
     CloseRequest, FlushRequest, LockElement, LockRequest, ReadRequest, TreeConnectRequest,
@@ -350,6 +352,21 @@ fn end_bytes(alloc: Global, size: u64) -> Result<Bytes, AllocError>
     write_file_end_of_file_information(alloc, &value)
 }
 
+fn set_position_bytes(alloc: Global, position: u64) -> Result<Bytes, AllocError>
+    ensures { IfOk result (λ b. b ≡ file_position_information_spelling (record { current_byte_offset = position })) }
+{
+    let value = FilePositionInformation {
+        current_byte_offset: position,
+    };
+    write_file_position_information(alloc, &value)
+}
+
+fn set_mode_bytes(alloc: Global) -> Result<Bytes, AllocError>
+    ensures { IfOk result (λ b. b ≡ file_mode_information_spelling (record { mode = 0 })) }
+{
+    write_file_mode_information(alloc, &FileModeInformation { mode: 0 })
+}
+
 fn setting_bytes(alloc: Global, setting: &Setting) -> Result<Bytes, WriteError>
     ensures { BodyWrites (FitsSetting (Meaning.setting_of setting.now)) (BodyOf.setting_bytes (Meaning.setting_of setting.now)) result }
 {
@@ -359,6 +376,8 @@ fn setting_bytes(alloc: Global, setting: &Setting) -> Result<Bytes, WriteError>
         Setting::SetDelete { marked } => Ok(delete_bytes(alloc, *marked)?),
         Setting::SetAllocation { size } => Ok(allocation_bytes(alloc, *size)?),
         Setting::SetEnd { size } => Ok(end_bytes(alloc, *size)?),
+        Setting::SetPosition { position } => Ok(set_position_bytes(alloc, *position)?),
+        Setting::SetMode => Ok(set_mode_bytes(alloc)?),
     }
 }
 
@@ -374,6 +393,8 @@ fn class_of(setting: &Setting) -> u8
         Setting::SetDelete { marked: _ } => 13,
         Setting::SetAllocation { size: _ } => 19,
         Setting::SetEnd { size: _ } => 20,
+        Setting::SetPosition { position: _ } => 14,
+        Setting::SetMode => 16,
     }
 }
 

@@ -6,6 +6,7 @@ ghost use Rattle.spec_wire.specs.messages.VolumeClasses.{file_fs_volume_informat
 ghost use Rattle.spec_wire.specs.messages.VolumeClasses.{file_fs_device_information_spelling};
 ghost use Rattle.spec_wire.specs.messages.VolumeClasses.{file_fs_attribute_information_spelling};
 ghost use Rattle.spec_wire.specs.messages.VolumeClasses.{file_fs_full_size_information_spelling};
+ghost use Rattle.spec_wire.specs.messages.VolumeClasses.{file_fs_sector_size_information_spelling};
 ghost use Rattle.wire_commands.specs.values.Meaning;
 
 use crate::values::Address;
@@ -13,10 +14,10 @@ use std::alloc::{AllocError, Global};
 use wire_bytes::{Bytes, utf16_of};
 use wire_info::{
     FileFsAttributeInformation, FileFsDeviceInformation, FileFsFullSizeInformation,
-    FileFsSizeInformation, FileFsVolumeInformation, NetworkInterface,
+    FileFsSectorSizeInformation, FileFsSizeInformation, FileFsVolumeInformation, NetworkInterface,
     write_file_fs_attribute_information, write_file_fs_device_information,
-    write_file_fs_full_size_information, write_file_fs_size_information,
-    write_file_fs_volume_information, write_network_interface,
+    write_file_fs_full_size_information, write_file_fs_sector_size_information,
+    write_file_fs_size_information, write_file_fs_volume_information, write_network_interface,
 };
 
 // The volume's number is 1, and it has no label.
@@ -89,7 +90,23 @@ fn attributes(alloc: Global) -> Result<Bytes, AllocError>
     write_file_fs_attribute_information(alloc, &value)
 }
 
-/// What a QUERY_INFO of the volume answers by its class: 1, 3, 4, 5, and 7 for any other. `room` and `used` count bytes.
+// Sectors of 512 bytes on a disk whose own have 4,096, at which device (1) and partition (2) are aligned.
+fn sectors(alloc: Global) -> Result<Bytes, AllocError>
+    ensures { IfOk result (λ b. b ≡ file_fs_sector_size_information_spelling Infos.sectors) }
+{
+    let value = FileFsSectorSizeInformation {
+        logical_bytes_per_sector: 512,
+        physical_bytes_per_sector_for_atomicity: 4096,
+        physical_bytes_per_sector_for_performance: 4096,
+        file_system_effective_physical_bytes_per_sector_for_atomicity: 4096,
+        flags: 3,
+        byte_offset_for_sector_alignment: 0,
+        byte_offset_for_partition_alignment: 0,
+    };
+    write_file_fs_sector_size_information(alloc, &value)
+}
+
+/// What a QUERY_INFO of the volume answers by its class: 1, 3, 4, 5, 11, and 7 for any other. `room` and `used` count bytes.
 #[tactic(auto, unfolding(spec_commands::specs::Infos::volume_bytes))]
 pub(crate) fn volume_bytes(
     alloc: Global,
@@ -104,6 +121,7 @@ pub(crate) fn volume_bytes(
         3 => sizes(alloc, room, used),
         4 => device(alloc),
         5 => attributes(alloc),
+        11 => sectors(alloc),
         _ => full_sizes(alloc, room, used),
     }
 }

@@ -1,12 +1,18 @@
 -- The classes that borrow a name, as the values that they stand for.
-use Rattle.spec_wire.specs.messages.FileClasses.{FileRenameInformationValue, FileAllInformationValue}
+use Rattle.spec_wire.specs.messages.FileClasses.{FileNameInformationValue, FileRenameInformationValue}
+use Rattle.spec_wire.specs.messages.FileClasses.{FileAllInformationValue, FileStreamInformationValue}
 use Rattle.spec_wire.specs.messages.VolumeClasses.{FileFsVolumeInformationValue, FileFsAttributeInformationValue}
 use Rattle.spec_wire.specs.messages.Directory.{DirectoryEntryValue}
 use Rattle.wire_info.specs.declared.classes.directory_entry.DirectoryEntry.{DirectoryEntry}
+use Rattle.wire_info.specs.declared.classes.named.FileNameInformation.{FileNameInformation}
 use Rattle.wire_info.specs.declared.classes.named.FileRenameInformation.{FileRenameInformation}
 use Rattle.wire_info.specs.declared.classes.named.FileAllInformation.{FileAllInformation}
+use Rattle.wire_info.specs.declared.classes.named.FileStreamInformation.{FileStreamInformation}
 use Rattle.wire_info.specs.declared.classes.named.FileFsVolumeInformation.{FileFsVolumeInformation}
 use Rattle.wire_info.specs.declared.classes.named.FileFsAttributeInformation.{FileFsAttributeInformation}
+
+abbrev pub file_name_information : FileNameInformation → FileNameInformationValue
+file_name_information v = record { name = v.name.now }
 
 abbrev pub file_rename_information : FileRenameInformation → FileRenameInformationValue
 file_rename_information v = record { replace_if_exists = v.replace_if_exists; root_directory = v.root_directory; name = v.name.now }
@@ -25,7 +31,16 @@ file_all_information v = record {
   directory = v.directory;
   index_number = v.index_number;
   access_flags = v.access_flags;
+  current_byte_offset = v.current_byte_offset;
   mode = v.mode;
+  name = v.name.now;
+}
+
+abbrev pub file_stream_information : FileStreamInformation → FileStreamInformationValue
+file_stream_information v = record {
+  next_entry_offset = v.next_entry_offset;
+  stream_size = v.stream_size;
+  stream_allocation_size = v.stream_allocation_size;
   name = v.name.now;
 }
 

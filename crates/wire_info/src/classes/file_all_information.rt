@@ -31,6 +31,7 @@ pub fn read_file_all_information(m: &[u8]) -> Result<FileAllInformation<'_>, Mes
     let directory = u8_at(m, 61);
     let index_number = u64_at(m, 64);
     let access_flags = u32_at(m, 76);
+    let current_byte_offset = u64_at(m, 80);
     let mode = u32_at(m, 88);
     let name_len = u32_at(m, 96);
     let name = part_of(m, 100, name_len as usize, 100, Part::Name)?;
@@ -47,6 +48,7 @@ pub fn read_file_all_information(m: &[u8]) -> Result<FileAllInformation<'_>, Mes
         directory,
         index_number,
         access_flags,
+        current_byte_offset,
         mode,
         name,
     })
@@ -77,7 +79,7 @@ pub fn write_file_all_information(
     fixed.put_u64(v.index_number);
     fixed.put_u32(0);
     fixed.put_u32(v.access_flags);
-    fixed.put_u64(0);
+    fixed.put_u64(v.current_byte_offset);
     fixed.put_u32(v.mode);
     fixed.put_u32(0);
     fixed.put_u32(v.name.len() as u32);

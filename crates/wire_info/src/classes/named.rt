@@ -1,3 +1,9 @@
+/// FileNameInformation, class 9 (MS-FSCC 2.1.7). `name` is UTF-16.
+#[derive(Clone, Copy, Debug, PartialEq, Eq)]
+pub struct FileNameInformation<'a> {
+    pub name: &'a [u8],
+}
+
 /// FileRenameInformation, class 10, set (MS-FSCC 2.4.37.2). `name` is UTF-16.
 #[derive(Clone, Copy, Debug, PartialEq, Eq)]
 pub struct FileRenameInformation<'a> {
@@ -21,7 +27,17 @@ pub struct FileAllInformation<'a> {
     pub directory: u8,
     pub index_number: u64,
     pub access_flags: u32,
+    pub current_byte_offset: u64,
     pub mode: u32,
+    pub name: &'a [u8],
+}
+
+/// FileStreamInformation, class 22 (MS-FSCC 2.4.43), an entry. `name` is UTF-16.
+#[derive(Clone, Copy, Debug, PartialEq, Eq)]
+pub struct FileStreamInformation<'a> {
+    pub next_entry_offset: u32,
+    pub stream_size: u64,
+    pub stream_allocation_size: u64,
     pub name: &'a [u8],
 }
 

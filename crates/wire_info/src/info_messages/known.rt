@@ -23,13 +23,20 @@ fn is_asked_of_files(class: u8) -> bool
         || class == 34
         || class == 7
         || class == 15
+        || class == 8
+        || class == 9
+        || class == 14
+        || class == 16
+        || class == 17
+        || class == 21
+        || class == 22
 }
 
 #[tactic(auto, unfolding(spec_wire::specs::messages::Classes::is_query_class))]
 fn is_asked_of_volumes(class: u8) -> bool
     ensures { result ≡ is_query_class 2 class }
 {
-    class == 1 || class == 3 || class == 4 || class == 5 || class == 7
+    class == 1 || class == 3 || class == 4 || class == 5 || class == 7 || class == 11
 }
 
 /// Whether a class can be asked of a file (type 1) or a volume (type 2). The classes of other types
@@ -49,7 +56,14 @@ pub fn is_query_class(info_type: u8, class: u8) -> bool
 fn is_set_of_files(class: u8) -> bool
     ensures { result ≡ is_set_class 1 class }
 {
-    class == 4 || class == 10 || class == 13 || class == 19 || class == 20 || class == 15
+    class == 4
+        || class == 10
+        || class == 13
+        || class == 19
+        || class == 20
+        || class == 15
+        || class == 14
+        || class == 16
 }
 
 /// Whether a class can be set of a file (type 1); of a volume (type 2) none can. The classes of other
