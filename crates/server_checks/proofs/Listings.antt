@@ -8,7 +8,7 @@ use Rattle.spec_exchange.specs.Listing.{all_named, fitting, last_name, one_or_al
 use Rattle.spec_exchange.specs.State.{Server, Named, Listing}
 use Rattle.spec_exchange.specs.Status.{info_length_mismatch, no_more_files, no_such_file}
 use Rattle.spec_exchange.specs.Table.{is_filled}
-use Rattle.spec_exchange.specs.Verdict.{Show, TurnDown}
+use Rattle.spec_exchange.specs.Verdict.{Behind, Show, TurnDown}
 use Rattle.store_files.specs.file_tree.Listed.{model_named}
 use Rattle.store_files.specs.declared.file_tree.list.Entry.{Entry}
 
@@ -39,11 +39,11 @@ none_fits o class last (n ∷ ns) (k ∷ ks) e f = absurd (cc)
 
 pub some_fit : (o class : ℕ) (last : Option (List ℕ)) (all fit : List Named) (name : List ℕ) → is_filled all ≡ true
     → is_filled fit ≡ true
-    → last_name last fit ≡ Some name → Show o (Some name) (Listing class fit) ≡ listing_of o class last all fit
+    → last_name last fit ≡ Some name → Show o (Behind (Some name)) (Listing class fit) ≡ listing_of o class last all fit
 unfolding is_filled listing_of
 some_fit o class last [] fit name e f h = absurd (cc)
 some_fit o class last (n ∷ ns) [] name e f h = absurd (cc)
-some_fit o class last (n ∷ ns) (k ∷ ks) name e f h = ap (λ (z : Option (List ℕ)). Show o z (Listing class (k ∷ ks))) (sym h)
+some_fit o class last (n ∷ ns) (k ∷ ks) name e f h = ap (λ (z : Option (List ℕ)). Show o (Behind z) (Listing class (k ∷ ks))) (sym h)
 
 -- ---- the last name
 

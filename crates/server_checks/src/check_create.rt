@@ -3,12 +3,11 @@ ghost use Rattle.std.specs.Prelude.{◌≡◌, ◌<◌, ◌&&◌, ◌||◌, not,
 ghost use Rattle.wire_commands.specs.values.Meaning.{create_of, durable_of, message_of, reconnect_of};
 ghost use Rattle.spec_exchange.specs.CheckCreate.{after_names, create_check, durable_check, found_names, guid_check, is_counted_out};
 ghost use Rattle.spec_exchange.specs.CheckCreate.{keeps_guid, last_file, live_check, max_files, max_guids, max_opens};
-ghost use Rattle.spec_exchange.specs.CheckCreate.{missing_attributes, missing_names, names, new_check};
-ghost use Rattle.spec_exchange.specs.CheckCreate.{drops_bit, empties, found_attributes, first_refusal};
+ghost use Rattle.spec_exchange.specs.CheckCreate.{missing_attributes, missing_names, names, new_check, drops_bit, empties, found_attributes, first_refusal, names_of_found};
 ghost use Rattle.spec_exchange.specs.CheckCreate.{reconnect_check, shares};
 ghost use Rattle.spec_exchange.specs.Commands as asks;
 ghost use Rattle.spec_exchange.specs.Commands.{Command, Create, deletes_on_close};
-ghost use Rattle.spec_exchange.specs.Files.{exists, find};
+ghost use Rattle.spec_exchange.specs.Files.{exists, find, has_parent};
 ghost use Rattle.spec_exchange.specs.State.{Server};
 ghost use Rattle.spec_exchange.specs.Opens.{deletes, granted, mapped, max_ids, writes};
 ghost use Rattle.spec_exchange.specs.Status.{duplicate_objectid};
@@ -247,25 +246,41 @@ impl Tables {
         }
     }
 
-    #[tactic(auto, unfolding(spec_exchange::specs::CheckCreate::names, spec_exchange::specs::CheckCreate::names_of_found))]
+    #[tactic(auto, unfolding(spec_exchange::specs::CheckCreate::names))]
     fn names(&self, request: &CreateRequest, found: Option<u64>) -> Option<u32>
         ensures { (s : Server) → TablesShown self.now s → found ≡ find s request.now.path
             → result ≡ names s (create_of request.now) found }
     {
-        match found {
-            Some(file) => self.found_refusal(request, file),
-            None => self.absent_names(request),
+        let path = request.path.as_str();
+        if self.lacks_parent(path, found) {
+            return Some(OBJECT_PATH_NOT_FOUND);
         }
+        // Also of what is there: a directory that is to go takes no further open below it.
+        if self.tree.has_pending_parent(path) {
+            return Some(DELETE_PENDING);
+        }
+        self.names_there(request, found)
     }
 
-    #[tactic(auto, unfolding(spec_exchange::specs::CheckCreate::names, spec_exchange::specs::CheckCreate::names_of_found))]
-    fn absent_names(&self, request: &CreateRequest) -> Option<u32>
-        ensures { (s : Server) → TablesShown self.now s → result ≡ names s (create_of request.now) None }
+    // Nothing is there, nor the directory in which it would stand.
+    fn lacks_parent(&self, path: &str, found: Option<u64>) -> bool
+        ensures { (s : Server) → TablesShown self.now s → result ≡ not (is_some found || has_parent s path.now) }
     {
-        if self.tree.has_parent(request.path.as_str()) {
-            return missing_refusal(request);
+        if found.is_some() {
+            return false;
         }
-        Some(OBJECT_PATH_NOT_FOUND)
+        !self.tree.has_parent(path)
+    }
+
+    #[tactic(auto, unfolding(spec_exchange::specs::CheckCreate::names_of_found))]
+    fn names_there(&self, request: &CreateRequest, found: Option<u64>) -> Option<u32>
+        ensures { (s : Server) → TablesShown self.now s → found ≡ find s request.now.path
+            → result ≡ names_of_found s (create_of request.now) found }
+    {
+        match found {
+            Some(file) => self.found_refusal(request, file),
+            None => missing_refusal(request),
+        }
     }
 
     // What is there: its names and kind, and behind them its attributes.

@@ -17,7 +17,7 @@ ghost use Rattle.store_files.specs.file_tree.Listed.{model_named};
 ghost use Rattle.store_opens.specs.open_table.Locks.{DeniedBy};
 ghost use Rattle.server_checks.specs.Looks.{IsListingLast, IsListingShort, bytes_or_full, new_bytes, read_bytes};
 ghost use Rattle.server_checks.specs.Shown.{TablesShown};
-ghost use Rattle.spec_exchange.specs.Verdict.{Show, Tell};
+ghost use Rattle.spec_exchange.specs.Verdict.{Behind, Show, Tell};
 ghost use Rattle.law_server.specs.tables.Fits.{Fits};
 ghost use Rattle.server_checks.specs.verdicts.Views.{bytes_in, elements_in, verdict_of};
 ghost use Rattle.store_opens.specs.share_modes.Answers.{AllOf};
@@ -27,7 +27,7 @@ use crate::tables::{Tables, info_of};
 use crate::verdicts::status::{
     ACCESS_DENIED, DISK_FULL, END_OF_FILE, FILE_LOCK_CONFLICT, FILE_NOT_AVAILABLE,
     INFO_LENGTH_MISMATCH, INVALID_DEVICE_REQUEST, INVALID_PARAMETER, NO_MORE_FILES, NO_SUCH_FILE,
-    SUCCESS,
+    OBJECT_NAME_NOT_FOUND, SUCCESS,
 };
 use crate::verdicts::{
     Verdict, all_lock, bytes_change, count_of, file_info_size, ioctl_status, is_empty, ranges_of,
@@ -383,8 +383,13 @@ impl Tables {
         if needs_attributes(class) && !self.has_access(id, 0x80) {
             return Ok(turn_down(id, ACCESS_DENIED));
         }
+        // No file has a short name.
+        if class == 21 {
+            return Ok(turn_down(id, OBJECT_NAME_NOT_FOUND));
+        }
         let file = self.file_of(id);
-        if u128::from(room) < file_info_size(class, self.tree.path(file)) {
+        let size = file_info_size(class, self.tree.is_directory(file), self.tree.path(file));
+        if u128::from(room) < size {
             return Ok(turn_down(id, INFO_LENGTH_MISMATCH));
         }
         let body = self.file_told(id, file, class)?;
@@ -394,7 +399,8 @@ impl Tables {
     fn file_told(&self, id: u64, file: u64, class: u8) -> Result<Body, AllocError>
         ensures { (s : Server) → TablesShown self.now s → s.standing id ≡ true → exists s file ≡ true
             → IfOk result (λ b. body_of b
-            ≡ FileInfo class (path_of s file) (info_of s file) (s.opened id).access (s.opened id).options) }
+            ≡ FileInfo class (path_of s file) (info_of s file) (s.opened id).access (s.opened id).options
+            (s.current_byte_offset id)) }
     {
         let path = Text::from_str(self.alloc, self.tree.path(file))?;
         let info = self.info(file);
@@ -405,6 +411,7 @@ impl Tables {
                 info,
                 access: row.access,
                 options: row.options,
+                position: row.position,
             }),
             None => Ok(Body::Empty),
         }
@@ -554,7 +561,7 @@ fn show(alloc: Global, id: u64, class: u8, entries: Vec<Entry>) -> Result<Verdic
 }
 
 fn shown(id: u64, class: u8, last: Text, entries: Vec<Named>) -> Verdict
-    ensures { (c : Command) → verdict_of c result ≡ Show id (Some last) (Listing class (map named_of entries.items)) }
+    ensures { (c : Command) → verdict_of c result ≡ Show id (Behind (Some last)) (Listing class (map named_of entries.items)) }
 {
     Verdict::Show {
         id,

@@ -8,8 +8,8 @@ ghost use Rattle.spec_exchange.specs.Content.{same_bytes};
 ghost use Rattle.spec_exchange.specs.Files.{allocated, exists, find, is_directory, may_set_attributes, may_set_times};
 ghost use Rattle.spec_exchange.specs.Files.{path_of, same_basic};
 ghost use Rattle.spec_exchange.specs.Opens.{file_has_open};
-ghost use Rattle.spec_exchange.specs.State.{Server};
-ghost use Rattle.spec_exchange.specs.Verdict.{PutDeletePending, PutPath};
+ghost use Rattle.spec_exchange.specs.State.{Empty, Server};
+ghost use Rattle.spec_exchange.specs.Verdict.{At, PutDeletePending, PutPath, Show};
 ghost use Rattle.server_checks.specs.Looks.{any_open};
 ghost use Rattle.server_checks.specs.Shown.{TablesShown};
 ghost use Rattle.law_server.specs.tables.Fits.{Fits};
@@ -18,8 +18,9 @@ ghost use Rattle.server_checks.specs.verdicts.Views.{change_of, path_in, path_in
 use crate::attributes::is_read_only;
 use crate::tables::Tables;
 use crate::verdicts::status::{
-    ACCESS_DENIED, CANNOT_DELETE, DIRECTORY_NOT_EMPTY, DISK_FULL, FILE_NOT_AVAILABLE,
-    INVALID_DEVICE_REQUEST, INVALID_PARAMETER, OBJECT_NAME_COLLISION, OBJECT_PATH_NOT_FOUND,
+    ACCESS_DENIED, CANNOT_DELETE, DELETE_PENDING, DIRECTORY_NOT_EMPTY, DISK_FULL,
+    FILE_NOT_AVAILABLE, INVALID_DEVICE_REQUEST, INVALID_PARAMETER, OBJECT_NAME_COLLISION,
+    OBJECT_PATH_NOT_FOUND,
 };
 use crate::verdicts::{
     Change, Verdict, altered, may_set_attributes, may_set_times, refuse, set_basic, target_of,
@@ -63,6 +64,9 @@ impl Tables {
             Setting::SetDelete { marked } => Ok(self.check_delete(m, id, *marked)),
             Setting::SetAllocation { size } => Ok(self.check_allocation(m, id, *size)),
             Setting::SetEnd { size } => Ok(self.check_end(m, id, *size)),
+            Setting::SetPosition { position } => Ok(seek(id, *position)),
+            // An open's mode never changes.
+            Setting::SetMode => Ok(told(id)),
         }
     }
 
@@ -264,6 +268,9 @@ impl Tables {
         if !self.tree.has_parent(path) {
             return Ok(Some(OBJECT_PATH_NOT_FOUND));
         }
+        if self.tree.has_pending_parent(path) {
+            return Ok(Some(DELETE_PENDING));
+        }
         if found.is_some() && !replace {
             return Ok(Some(OBJECT_NAME_COLLISION));
         }
@@ -314,6 +321,12 @@ impl Tables {
         }
         false
     }
+}
+
+fn seek(id: u64, position: u64) -> Verdict
+    ensures { (c : Command) → verdict_of c result ≡ Show id (At position) Empty }
+{
+    Verdict::Seek { id, position }
 }
 
 // What an allocation does to a file of this length.

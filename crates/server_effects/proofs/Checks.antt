@@ -11,6 +11,7 @@ use Rattle.spec_exchange.specs.CheckSetup.{granted_session, is_new, max_channels
 use Rattle.spec_exchange.specs.CheckSetup.{previous_of, second_binding, second_token, session_check, setup_check, tree_check}
 use Rattle.spec_exchange.specs.Commands.{Bad, Begins, Command, CreateRequest, Durable, Logon, Refused, Rename, Setting, SetAllocation}
 use Rattle.spec_exchange.specs.Commands.{SetBasic, SetDelete, SetEnd, Setup, SetupRequest, Shows, TreeConnect, form, is_setup}
+use Rattle.spec_exchange.specs.Commands.{SetPosition, SetMode}
 use Rattle.spec_exchange.specs.Content.{is_empty}
 use Rattle.spec_exchange.specs.Files.{passes_room, root, used}
 use Rattle.spec_exchange.specs.Opens.{max_ids}
@@ -235,6 +236,8 @@ sets s m o (SetAllocation size) e h =
     either (λ (x : Change). ToChange s m o x) (nat_lt size (length (s.content (file_of s o)))) (PutEnd size) PutNothing
     (λ l. ((h.file, shrunk s (file_of s o) size l), tt)) (λ _. (tt, tt))
 sets s m o (SetEnd size) e h = ((h.file, h.room), tt)
+sets s m o (SetPosition position) e h = (tt, tt)
+sets s m o SetMode e h = (tt, tt)
 
 altered : (s : Server) (m : Message) (o : ℕ) (change : Change) (body : Body) → AlterFacts s m o change body → ToChange s m o change
 altered s m o change body f = by f.asked

@@ -5,7 +5,7 @@ use Rattle.std.proofs.lemmas.List.{take_more}
 use Rattle.spec_exchange.specs.Commands.{deletes_on_close}
 use Rattle.spec_exchange.specs.Effects.{close_all, keep_all_closed, keep_closed, leave_all, opens_of_tree}
 use Rattle.spec_exchange.specs.Files.{set_delete_pending}
-use Rattle.spec_exchange.specs.Opens.{drop_open, is_of_session, leave_open, without_gone}
+use Rattle.spec_exchange.specs.Opens.{drop_open, is_of_session, leave_open, left_file}
 use Rattle.spec_exchange.specs.State.{Open, Server}
 use Rattle.spec_exchange.specs.Table.{has, is_at}
 use Rattle.law_server.proofs.tables.Closing.{all_left_beside, left_present, of_tree}
@@ -29,9 +29,9 @@ leave_kept : (s : Server) (x : ℕ) (g : Option ℕ) (o : ℕ) → leave_open (k
 leave_kept s x None o = refl
 leave_kept s x (Some h) o = by (deletes_on_close (s.opened o).options)
   where
-    by : (b : Bool) → without_gone (drop_open (if b then set_delete_pending (keep_closed s x (Some h)) (s.opened o).file true
+    by : (b : Bool) → left_file (drop_open (if b then set_delete_pending (keep_closed s x (Some h)) (s.opened o).file true
         else keep_closed s x (Some h)) o) (s.opened o).file
-        ≡ keep_closed (without_gone (drop_open (if b then set_delete_pending s (s.opened o).file true else s) o) (s.opened o).file) x (Some h)
+        ≡ keep_closed (left_file (drop_open (if b then set_delete_pending s (s.opened o).file true else s) o) (s.opened o).file) x (Some h)
     by true = gone_after (drop_open (set_delete_pending s (s.opened o).file true) o) x (Some h) (s.opened o).file
     by false = gone_after (drop_open s o) x (Some h) (s.opened o).file
 

@@ -3,7 +3,7 @@ use Rattle.std.proofs.Common.{◌≡◌, ℕ, ◌==◌, Bool, true, false, not, 
 use Rattle.spec_exchange.specs.Commands.{deletes_on_close}
 use Rattle.spec_exchange.specs.Effects.{keep_closed}
 use Rattle.spec_exchange.specs.Files.{exists, is_directory, is_full_directory, path_of, remove_file, root, set_delete_pending}
-use Rattle.spec_exchange.specs.Opens.{drop_open, file_has_open, goes, pending_behind, without_gone}
+use Rattle.spec_exchange.specs.Opens.{drop_open, file_has_open, goes, is_kept_back, left_file, pending_behind, without_gone}
 use Rattle.spec_exchange.specs.State.{Server}
 use Rattle.spec_exchange.specs.Table.{put2}
 use Rattle.store_files.specs.file_tree.Refusals.{StoreRefuses, remove_refusal}
@@ -65,25 +65,41 @@ pub never_refused : (s : Server) (f : ℕ) (e : StoreError) → goes s f ≡ tru
 never_refused s f Memory g r = r
 never_refused s f (Status status) g r = let k = not_refused s f g in absurd (cc)
 
-pub going_tables : (t : Tables) (s : Server) (f : ℕ) → goes s f ≡ true → TablesShown t (remove_file s f)
-    → TablesShown t (without_gone s f)
-going_tables t s f g h = subst (λ (b : Bool). TablesShown t (if b then remove_file s f else s)) (sym g) h
+-- in the words of what becomes of it
+by_both : (t : Tables) (s : Server) (f : ℕ) (k g : Bool) → is_kept_back s f ≡ k → goes s f ≡ g
+    → TablesShown t (if k then set_delete_pending s f false else (if g then remove_file s f else s)) → TablesShown t (left_file s f)
+by_both t s f k g a b h =
+    subst (λ (x : Bool). TablesShown t (if x then set_delete_pending s f false else without_gone s f)) (sym a)
+    (subst (λ (y : Bool). TablesShown t (if k then set_delete_pending s f false else (if y then remove_file s f else s))) (sym b) h)
 
-pub staying_tables : (t : Tables) (s : Server) (f : ℕ) → goes s f ≡ false → TablesShown t s → TablesShown t (without_gone s f)
-staying_tables t s f g h = subst (λ (b : Bool). TablesShown t (if b then remove_file s f else s)) (sym g) h
+pub kept_tables : (t : Tables) (w : Tree) (s : Server) (f : ℕ) → is_kept_back s f ≡ true → TablesShown t s
+    → ShowsFiles w (set_delete_pending s f false) → TablesShown (record t { tree = w }) (left_file s f)
+kept_tables t w s f k h x = by_both (record t { tree = w }) s f true (goes s f) k refl
+    (file_pieces t w (set_delete_pending s f false) h.opens x h.sessions h.share_is
+    h.room_is h.encrypts_is h.address_is h.version_is h.journal_is)
+
+pub gone_tables : (t : Tables) (s : Server) (f : ℕ) → is_kept_back s f ≡ false → goes s f ≡ true → TablesShown t (remove_file s f)
+    → TablesShown t (left_file s f)
+gone_tables t s f k g h = by_both t s f false true k g h
+
+pub left_tables : (t : Tables) (s : Server) (f : ℕ) → is_kept_back s f ≡ false → goes s f ≡ false → TablesShown t s
+    → TablesShown t (left_file s f)
+left_tables t s f k g h = by_both t s f false false k g h
 
 -- ---- both
 
-kept_file : (v : Server) (x g f : ℕ) (b : Bool)
-    → (if b then remove_file (record v { closed = put2 v.closed x g true }) f else record v { closed = put2 v.closed x g true })
-    ≡ keep_closed (if b then remove_file v f else v) x (Some g)
-kept_file v x g f true = refl
-kept_file v x g f false = refl
+kept_file : (v : Server) (x g f : ℕ) (k b : Bool)
+    → (if k then set_delete_pending (record v { closed = put2 v.closed x g true }) f false else
+    (if b then remove_file (record v { closed = put2 v.closed x g true }) f else record v { closed = put2 v.closed x g true }))
+    ≡ keep_closed (if k then set_delete_pending v f false else (if b then remove_file v f else v)) x (Some g)
+kept_file v x g f true b = refl
+kept_file v x g f false true = refl
+kept_file v x g f false false = refl
 
-pub gone_after : (v : Server) (x : ℕ) (g : Option ℕ) (f : ℕ) → without_gone (keep_closed v x g) f ≡ keep_closed (without_gone v f) x g
-unfolding goes exists file_has_open is_full_directory is_directory path_of
+pub gone_after : (v : Server) (x : ℕ) (g : Option ℕ) (f : ℕ) → left_file (keep_closed v x g) f ≡ keep_closed (left_file v f) x g
+unfolding goes is_kept_back exists file_has_open is_full_directory is_directory path_of
 gone_after v x None f = refl
-gone_after v x (Some g) f = kept_file v x g f (goes v f)
+gone_after v x (Some g) f = kept_file v x g f (is_kept_back v f) (goes v f)
 
 exists_shut : (u : Server) (o x : ℕ) (g : Option ℕ) (f : ℕ) → exists u f ≡ true → exists (keep_closed (drop_open u o) x g) f ≡ true
 unfolding exists
@@ -96,11 +112,11 @@ exists_marked s f q e = e
 
 pub closing : (t2 t3 : Tables) (u : Server) (o x f z : ℕ) (g : Option ℕ) → z ≡ f → exists u f ≡ true
     → TablesShown t2 (keep_closed (drop_open u o) x g)
-    → ((v : Server) → TablesShown t2 v → exists v z ≡ true → TablesShown t3 (without_gone v z))
-    → TablesShown t3 (keep_closed (without_gone (drop_open u o) f) x g)
+    → ((v : Server) → TablesShown t2 v → exists v z ≡ true → TablesShown t3 (left_file v z))
+    → TablesShown t3 (keep_closed (left_file (drop_open u o) f) x g)
 closing t2 t3 u o x f z g e ex h drop =
     let there : exists (keep_closed (drop_open u o) x g) f ≡ true = exists_shut u o x g f ex in
     subst (λ (v : Server). TablesShown t3 v) (gone_after (drop_open u o) x g f)
-    (subst (λ (q : ℕ). TablesShown t3 (without_gone (keep_closed (drop_open u o) x g) q)) e
+    (subst (λ (q : ℕ). TablesShown t3 (left_file (keep_closed (drop_open u o) x g) q)) e
     (drop (keep_closed (drop_open u o) x g) h
     (subst (λ (q : ℕ). exists (keep_closed (drop_open u o) x g) q ≡ true) (sym e) there)))

@@ -2,6 +2,7 @@ mod Begun
 mod Changed
 mod Checks
 mod Closes
+mod Parted
 mod ClosedOpens
 mod Made
 mod Steps

@@ -3,6 +3,7 @@ pub mod expiry
 pub mod Able
 pub mod Carried
 pub mod Closed
+pub mod Fates
 pub mod Asked
 pub mod Making
 pub mod Ready

@@ -7,6 +7,6 @@ mod records;
 mod step;
 
 pub use connections::all_end_records;
-pub use expired::{expire_records, goes_with};
+pub use expired::{expire_records, fate_with};
 pub use leaving::Leaving;
 pub use records::{end_in, leave_each, leave_in};

@@ -10,6 +10,7 @@ mod closing;
 mod creates;
 mod event_effects;
 mod expiry;
+mod fates;
 mod laws;
 mod leaving_opens;
 mod locks;
@@ -26,20 +27,21 @@ mod verdict_effects;
 
 pub use answering::{Answer, acting, answer_with, quiet, reply};
 pub use changing::{ChangeReady, alter, bytes_of};
-pub use closing::{close_one, close_open, drop_gone, mark_behind};
+pub use closing::{close_one, close_open, mark_behind, part};
 pub use creates::{Asks, attach, create_reply, keep_refusal, repeat};
 pub use event_effects::carry_event;
 pub use expiry::{Expired, due, give_up, put_back, take_expired};
+pub use fates::Fate;
 pub use laws::able_law;
 pub use leaving_opens::{
-    Leaving, all_end_records, end_in, expire_records, goes_with, leave_each, leave_in,
+    Leaving, all_end_records, end_in, expire_records, fate_with, leave_each, leave_in,
 };
 pub use locks::{keep_slot, put_ranges};
 pub use logons::{begin, challenge, challenge_binding, join};
 pub use lost_connections::{take_all_out, take_out};
 pub use making::{FileReady, make};
 pub use prepared_event::Prepared;
-pub use reached::{reach, show, tell, turn_down};
+pub use reached::{reach, seek, show, tell, turn_down};
 pub use recovered_deadlines::dated_effects_law;
 pub use reserved::{Ready, SetupReady};
 pub use session_ends::{end_if_named, end_session, leave_all, leave_one, leave_open};

@@ -2,9 +2,9 @@
 ghost use Rattle.std.specs.Prelude.{◌≡◌, ℕ, true};
 ghost use Rattle.wire_commands.specs.values.Meaning.{body_of, message_of};
 ghost use Rattle.spec_exchange.specs.Effects.{reach};
-ghost use Rattle.spec_exchange.specs.State.{Server};
-ghost use Rattle.spec_exchange.specs.Verdict.{Show, Tell, TurnDown};
-ghost use Rattle.store_opens.specs.open_table.Changes.{located_at};
+ghost use Rattle.spec_exchange.specs.State.{Empty, Server};
+ghost use Rattle.spec_exchange.specs.Verdict.{At, Behind, Show, Tell, TurnDown};
+ghost use Rattle.store_opens.specs.open_table.Changes.{located_at, offset_at};
 ghost use Rattle.server_checks.specs.session_table.Logons.{LogonsStay};
 ghost use Rattle.server_checks.specs.Shown.{TablesShown};
 ghost use Rattle.server_effects.specs.Carried.{EffectCarries, IsEffectBare};
@@ -47,7 +47,7 @@ pub fn tell(t: &mut Tables, m: &Message<'_>, id: u64, body: Body) -> Answer
 
 /// A listing that goes on behind this name.
 pub fn show(t: &mut Tables, m: &Message<'_>, id: u64, last: Option<Text>, body: Body) -> Answer
-    ensures shows { (now : ℕ) → EffectCarries t.old t.new result (message_of m.now) now (Show id last (body_of body)) }
+    ensures shows { (now : ℕ) → EffectCarries t.old t.new result (message_of m.now) now (Show id (Behind last) (body_of body)) }
     ensures bare { IsEffectBare result }
     ensures config { t.new.config ≡ t.old.config }
     ensures logons { LogonsStay t.old.sessions t.new.sessions }
@@ -55,6 +55,25 @@ pub fn show(t: &mut Tables, m: &Message<'_>, id: u64, last: Option<Text>, body: 
     reach(t, m, id);
     locate(t, id, last);
     quiet(t.alloc, m, SUCCESS, body)
+}
+
+/// The open's position is this one.
+pub fn seek(t: &mut Tables, m: &Message<'_>, id: u64, position: u64) -> Answer
+    ensures shows { (now : ℕ) → EffectCarries t.old t.new result (message_of m.now) now (Show id (At position) Empty) }
+    ensures bare { IsEffectBare result }
+    ensures config { t.new.config ≡ t.old.config }
+    ensures logons { LogonsStay t.old.sessions t.new.sessions }
+{
+    reach(t, m, id);
+    place(t, id, position);
+    quiet(t.alloc, m, SUCCESS, Body::Empty)
+}
+
+fn place(t: &mut Tables, id: u64, position: u64)
+    ensures shows { (s : Server) → TablesShown t.old s → s.standing id ≡ true → TablesShown t.new (offset_at s id position) }
+    ensures kept { t.new ≡ record t.old { opens = t.new.opens } }
+{
+    t.opens.set_position(id, position);
 }
 
 fn locate(t: &mut Tables, id: u64, last: Option<Text>)

@@ -68,7 +68,7 @@ fn plan_by(t: &Tables, asked: &Asked<'_>, ruling: Ruling, now: u64) -> Result<Pl
 
 // The ruling with its body where that fits, else the one without records.
 fn fitting(t: &Tables, asked: &Asked<'_>, ruling: Ruling, body: Bytes) -> Plan
-    ensures plan { (s : model.Server) (now : ℕ) → TablesShown t.now s
+    ensures plan { (s : model.Server) (now : ℕ) → Fits s → TablesShown t.now s
         → ruling_of (event_of asked.now) ruling ≡ steps.ruling s (event_of asked.now)
         → IsBodyOf body (carried_out s now (ruling_of (event_of asked.now) ruling)).records
         → PlanFor result s now (event_of asked.now) }

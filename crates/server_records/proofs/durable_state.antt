@@ -2,6 +2,7 @@ pub mod Choice
 pub mod Keys
 pub mod Shown
 pub mod Swept
+pub mod Marks
 pub mod OfFile
 pub mod Making
 pub mod Leaving

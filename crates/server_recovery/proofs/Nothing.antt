@@ -42,4 +42,5 @@ nothing_fits =
       next_file = omega arith;
       file_numbers = λ y h. absurd (cc);
       room = omega arith;
+      limit = refl;
     }

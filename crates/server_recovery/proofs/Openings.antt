@@ -1,6 +1,6 @@
 -- The records that a recovery writes down.
 use Rattle.std.proofs.Common.{◌≡◌, ℕ, ◌+◌, ◌==◌, Bool, true, false, if◌then◌else◌, List, [], ◌∷◌, ◌++◌, refl, sym, ap, ◌∙◌}
-use Rattle.spec_exchange.specs.Fold.{opening_records}
+use Rattle.spec_exchange.specs.Fold.{epoch_records}
 use Rattle.spec_exchange.specs.State as model
 use Rattle.spec_exchange.specs.State.{Server, VersionRecord, EpochRecord}
 use Rattle.journal.specs.record_bytes.Meaning.{records_of}
@@ -17,7 +17,7 @@ written true count = refl
 written false count = refl
 
 pub opening_is : (s : Server) (version epoch : ℕ) (front rs : List Record) → s.version ≡ version → s.epoch ≡ epoch
-    → front ≡ versions_of version → rs ≡ front ++ Epoch (epoch + 1) ∷ [] → records_of rs ≡ opening_records s
+    → front ≡ versions_of version → rs ≡ front ++ Epoch (epoch + 1) ∷ [] → records_of rs ≡ epoch_records s
 opening_is s version epoch front rs v e f r =
     ap (λ (xs : List Record). records_of xs) (r ∙ ap (λ (xs : List Record). xs ++ Epoch (epoch + 1) ∷ [])
     (f ∙ ap (λ (k : ℕ). versions_of k) (sym v)))

@@ -21,7 +21,7 @@ pub use crash::crash_law;
 pub use journaled_tables::ServerState;
 pub use laws::more_law;
 pub use next_body::behind_law;
-pub use opening::opening_records;
+pub use opening::epoch_records;
 pub use reading::fold_bodies;
 pub use recording::write;
 pub use restart_tables::{begin, restart};

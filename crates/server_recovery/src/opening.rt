@@ -1,6 +1,6 @@
-//! What a recovery writes down.
-ghost use Rattle.std.specs.Prelude.{◌≡◌, IfOk};
-ghost use Rattle.spec_exchange.specs.Fold.{opening_records};
+//! What a recovery writes down first.
+ghost use Rattle.std.specs.Prelude.{◌≡◌, ◌≤◌, IfOk, drop, length};
+ghost use Rattle.spec_exchange.specs.Fold.{epoch_records};
 ghost use Rattle.spec_exchange.specs.State.{Server};
 ghost use Rattle.journal.specs.record_bytes.Meaning.{records_of};
 ghost use Rattle.server_recovery.specs.Opening.{versions_of};
@@ -11,9 +11,9 @@ use std::alloc::{AllocError, Global};
 
 /// The next epoch, in a journal of version 1 behind the record of version 2. Behind 2^32 - 1 epochs, which no journal holds,
 /// the answer is that memory ran out.
-pub fn opening_records(state: &Durable) -> Result<Records, AllocError>
+pub fn epoch_records(state: &Durable) -> Result<Records, AllocError>
     ensures { IfOk result (λ rs. (s : Server) → s.version ≡ state.now.version → s.epoch ≡ state.now.epoch
-        → records_of rs ≡ opening_records s) }
+        → records_of rs ≡ epoch_records s) }
 {
     let epoch = state.epoch;
     if epoch == u32::MAX {
@@ -35,4 +35,11 @@ fn versions(alloc: Global, version: u32) -> Result<Records, AllocError>
     }
     records.push(Record::Version { number: 2 })?;
     Ok(records)
+}
+
+/// The records behind the first of them; none, where there aren't as many.
+pub(crate) fn behind(all: &[Record], count: usize) -> &[Record]
+    ensures { count ≤ length all.now → result.now ≡ drop count all.now }
+{
+    &all[count.min(all.len())..]
 }

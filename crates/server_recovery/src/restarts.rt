@@ -18,7 +18,8 @@ use journal::{broken_means_nothing, one_meaning, records_law};
 /// Bytes whose bodies spell records that make no open which deletes the root on close are a journal, which no restart refuses as
 /// none (`taken`), and stand for no other records (`same`). A server of whose state the records are told by their fold stands,
 /// behind a restart, where it stood (`stands`): its persistent opens with all that is theirs, in a new epoch of ids, without a
-/// session; and each file at its path, but for delete pending ones that no such open has (`entries`).
+/// session; and each file at its path, but for delete pending ones that no such open has: those go, and a directory that can't go
+/// is delete pending no longer (`entries`).
 pub fn restart_law()
     ensures taken { (bytes : List ℕ) (bodies : List (List ℕ)) (records : List model.Record) (at : ℕ) → StandsFor bytes bodies
         → BodiesSpell bodies records → all_sound records ≡ true → (BreaksAt bytes at → ⊥) × (IsNoBody bytes at → ⊥) }

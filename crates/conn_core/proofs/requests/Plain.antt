@@ -24,7 +24,8 @@ use Rattle.spec_wire.specs.messages.FileClasses.{FileRenameInformationValue, fil
 use Rattle.spec_wire.specs.messages.FileClasses.{file_rename_information_fault, file_disposition_information_in}
 use Rattle.spec_wire.specs.messages.FileClasses.{file_disposition_information_fault, file_allocation_information_in}
 use Rattle.spec_wire.specs.messages.FileClasses.{file_allocation_information_fault, file_end_of_file_information_in}
-use Rattle.spec_wire.specs.messages.FileClasses.{file_end_of_file_information_fault}
+use Rattle.spec_wire.specs.messages.FileClasses.{file_end_of_file_information_fault, file_position_information_in}
+use Rattle.spec_wire.specs.messages.FileClasses.{file_position_information_fault, file_mode_information_fault}
 use Rattle.spec_exchange.specs.Status.{invalid_parameter, not_supported, object_name_invalid}
 use Rattle.spec_exchange.specs.Commands as asks
 use Rattle.spec_exchange.specs.Commands.{has_bit}
@@ -216,7 +217,7 @@ unfolding requests.query_in
 query m =
     let v = query_info_request_in m in
     unless_plain (query_info_request_fault m) (requests.query_of v)
-    (query_plain (v.info_type == 1) ((v.file_info_class == 7) || (v.file_info_class == 15)) (v.info_type == 2)
+    (query_plain (v.info_type == 1) (v.file_info_class == 15) (v.info_type == 2)
     ((v.info_type == 3) || (v.info_type == 4)) (asks.QueryFile (file_of v.file_id) v.file_info_class v.output_buffer_length)
     (asks.QueryVolume (file_of v.file_id) v.file_info_class v.output_buffer_length) tt tt)
 
@@ -252,6 +253,12 @@ settings file class b = (
       unless (file_end_of_file_information_fault b)
           (asks.SetInfo file (asks.SetEnd (file_end_of_file_information_in b).end_of_file)),
     )
+    ∷ (
+      class == 14,
+      unless (file_position_information_fault b)
+          (asks.SetInfo file (asks.SetPosition (file_position_information_in b).current_byte_offset)),
+    )
+    ∷ (class == 16, unless (file_mode_information_fault b) (asks.SetInfo file asks.SetMode))
     ∷ []
 
 settings_plain : (file class : ℕ) (b : List ℕ) → AllPlain (settings file class b)
@@ -267,7 +274,10 @@ settings_plain file class b =
     (asks.SetInfo file (asks.SetAllocation (file_allocation_information_in b).allocation_size)) tt in
     let end_of = unless_plain (file_end_of_file_information_fault b)
     (asks.SetInfo file (asks.SetEnd (file_end_of_file_information_in b).end_of_file)) tt in
-    (basic, (rename, (delete, (allocation, (end_of, tt)))))
+    let position = unless_plain (file_position_information_fault b)
+    (asks.SetInfo file (asks.SetPosition (file_position_information_in b).current_byte_offset)) tt in
+    let mode = unless_plain (file_mode_information_fault b) (asks.SetInfo file asks.SetMode) tt in
+    (basic, (rename, (delete, (allocation, (end_of, (position, (mode, tt)))))))
 
 setting : (file class : ℕ) (b : List ℕ) → IsServerPlain (requests.setting_of file class b)
 setting file class b = plain_picked (settings file class b) (asks.Unreadable not_supported) (settings_plain file class b) tt

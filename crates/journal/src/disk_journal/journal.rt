@@ -20,7 +20,8 @@ use thiserror::Error;
 use wire_bytes::{Bytes, FixedOut};
 
 // Entries that begin no epoch leave this much of the journal free.
-// So a server whose journal is full can still start: each start adds an epoch.
+// So a server whose journal is full can still start: each start adds an epoch, and the marks of directories that it clears,
+// at most 2 MB of which stand behind the limit of all else.
 const EPOCH_ROOM: u64 = 134_217_728;
 
 const LIMIT: u64 = 1_073_741_824;

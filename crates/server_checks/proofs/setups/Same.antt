@@ -1,8 +1,8 @@
 -- Two requests of a SESSION_SETUP whose checks come to verdicts that are carried out alike have the same step.
-use Rattle.std.proofs.Common.{◌≡◌, ℕ, true, if◌then◌else◌, List, ◌++◌, refl, ap, ◌∙◌, Option, Some, None, nat_le}
+use Rattle.std.proofs.Common.{◌≡◌, ℕ, true, false, if◌then◌else◌, List, ◌++◌, refl, ap, ◌∙◌, Option, Some, None, nat_le}
 use Rattle.spec_exchange.specs.Commands.{Setup, SetupRequest}
 use Rattle.spec_exchange.specs.State.{Server, Message, Heard, Answer, Record}
-use Rattle.spec_exchange.specs.Opens.{drop_open, leave_open, without_gone, goes}
+use Rattle.spec_exchange.specs.Opens.{drop_open, leave_open, left_file, without_gone, goes, is_kept_back}
 use Rattle.spec_exchange.specs.Commands.{deletes_on_close}
 use Rattle.spec_exchange.specs.Files.{set_delete_pending}
 use Rattle.spec_exchange.specs.Records.{fits, origin_at}
@@ -19,12 +19,16 @@ use Rattle.law_server.proofs.tables.Closing.{left_present}
 gone_making : (s : Server) (f : ℕ) → (without_gone s f).making ≡ s.making
 gone_making s f = either (λ (t : Server). t.making ≡ s.making) (goes s f) _ _ (λ _. refl) (λ _. refl)
 
+settled_making : (s : Server) (f : ℕ) → (left_file s f).making ≡ s.making
+settled_making s f = either (λ (t : Server). t.making ≡ s.making) (is_kept_back s f) (set_delete_pending s f false) (without_gone s f)
+    (λ _. refl) (λ _. gone_making s f)
+
 left_making : (s : Server) (o : ℕ) → (leave_open s o).making ≡ s.making
 left_making s o =
-    either (λ (t : Server). (without_gone (drop_open t o) (s.opened o).file).making ≡ s.making)
+    either (λ (t : Server). (left_file (drop_open t o) (s.opened o).file).making ≡ s.making)
     (deletes_on_close (s.opened o).options) _ _
-    (λ _. gone_making (drop_open (set_delete_pending s (s.opened o).file true) o) (s.opened o).file)
-    (λ _. gone_making (drop_open s o) (s.opened o).file)
+    (λ _. settled_making (drop_open (set_delete_pending s (s.opened o).file true) o) (s.opened o).file)
+    (λ _. settled_making (drop_open s o) (s.opened o).file)
 
 expired_present : (s : Server) (o : ℕ) → (expire s o).present ≡ s.present
 expired_present s o = by (s.opened o).create_guid

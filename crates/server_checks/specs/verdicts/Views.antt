@@ -3,6 +3,7 @@ use Rattle.std.specs.Prelude.{ℕ, false, List, [], map, None}
 use Rattle.spec_exchange.specs.Commands as asks
 use Rattle.spec_exchange.specs.Verdict as verdicts
 use Rattle.spec_exchange.specs.Commands.{Element}
+use Rattle.spec_exchange.specs.State.{Empty}
 use Rattle.store_opens.specs.share_modes.Locking.{range_of}
 use Rattle.wire_commands.specs.values.Meaning.{body_of}
 use Rattle.server_checks.specs.declared.verdicts.verdict.Change.{Change}
@@ -70,7 +71,8 @@ verdict_of c (codes.Attach id) = verdicts.Attach id (create_in c)
 verdict_of c (codes.Make found action) = verdicts.Make (create_in c) found action
 verdict_of c (codes.TurnDown id status) = verdicts.TurnDown id status
 verdict_of c (codes.Tell id body) = verdicts.Tell id (body_of body)
-verdict_of c (codes.Show id last body) = verdicts.Show id last (body_of body)
+verdict_of c (codes.Show id last body) = verdicts.Show id (verdicts.Behind last) (body_of body)
+verdict_of c (codes.Seek id position) = verdicts.Show id (verdicts.At position) Empty
 verdict_of c (codes.KeepSlot id index number status) = verdicts.KeepSlot id index number status (elements_in c)
 verdict_of c (codes.PutRanges id index number ranges) = verdicts.PutRanges id index number (map range_of ranges.items) (elements_in c)
 verdict_of c (codes.Alter id change body) = verdicts.Alter id (change_of c change) (body_of body)

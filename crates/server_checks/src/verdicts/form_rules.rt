@@ -1,8 +1,7 @@
 //! The form rules of a request (MS-SMB2 3.3.5): the status of the first that it breaks.
 ghost use Rattle.std.specs.Prelude.{◌≡◌, ◌&&◌, None, Some, if◌then◌else◌};
 ghost use Rattle.wire_commands.specs.values.Meaning.{command_of, create_of, setting_of};
-ghost use Rattle.spec_exchange.specs.Commands.{asks_directory, all_lock, all_unlock, create_form, form, has_bit, is_short_pattern, list_form, lock_form, locks, made_form};
-ghost use Rattle.spec_exchange.specs.Commands.{room_form, setting_form, transfer_form};
+ghost use Rattle.spec_exchange.specs.Commands.{asks_directory, all_lock, all_unlock, create_form, form, has_bit, is_short_pattern, list_form, lock_form, locks, made_form, room_form, setting_form, transfer_form, SetPosition};
 
 use crate::verdicts::bits::has_bit;
 use crate::verdicts::status::{INVALID_PARAMETER, OBJECT_NAME_INVALID};
@@ -56,8 +55,19 @@ fn setting_form(setting: &Setting) -> Option<u32>
 {
     match setting {
         Setting::Rename { path, .. } => path_form(path.as_str()),
+        Setting::SetPosition { position } => position_form(*position),
         _ => None,
     }
+}
+
+// A position is a number of 64 bits with a sign, and none is below 0.
+fn position_form(position: u64) -> Option<u32>
+    ensures { result ≡ setting_form (SetPosition position) }
+{
+    if position < 0x8000_0000_0000_0000 {
+        return None;
+    }
+    Some(INVALID_PARAMETER)
 }
 
 // What asks to attach asks for nothing else, and no more of it is looked at (3.3.5.9.12).

@@ -71,15 +71,19 @@ pub fn ioctl_status(code: u32, room: u32) -> u32
 }
 
 /// How many bytes the class of a file's information takes (MS-FSCC 2.4).
-#[tactic(auto, unfolding(spec_exchange::specs::Listing::file_info_size))]
-pub fn file_info_size(class: u8, path: &str) -> u128
-    ensures { result ≡ file_info_size class path.now }
+#[tactic(auto, unfolding(spec_exchange::specs::Listing::file_info_size, spec_exchange::specs::Listing::is_short_class, spec_exchange::specs::Listing::streams_size))]
+pub fn file_info_size(class: u8, directory: bool, path: &str) -> u128
+    ensures { result ≡ file_info_size class directory path.now }
 {
     match class {
         4 => 40,
         5 => 24,
         6 => 8,
         34 => 56,
+        7 | 8 | 16 | 17 => 4,
+        14 => 8,
+        22 => { if directory { 0 } else { 38 } }
+        9 => 4 + 2 * (u128::from(units(path.as_bytes())) + 1),
         _ => 100 + 2 * (u128::from(units(path.as_bytes())) + 1),
     }
 }
@@ -94,6 +98,7 @@ pub fn volume_info_size(class: u8) -> u32
         3 => 24,
         4 => 8,
         5 => 20,
+        11 => 28,
         _ => 32,
     }
 }

@@ -73,6 +73,11 @@ pub enum Verdict {
         last: Option<Text>,
         body: Body,
     },
+    /// The open's position is this one.
+    Seek {
+        id: u64,
+        position: u64,
+    },
     KeepSlot {
         id: u64,
         index: u32,

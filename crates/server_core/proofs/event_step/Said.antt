@@ -3,7 +3,7 @@ use Rattle.std.proofs.Common.{◌≡◌, ℕ, nat_le, Bool, true, false, if◌th
 use Rattle.std.proofs.Common.{subst, refl, sym, ap, ◌∙◌}
 use Rattle.spec_exchange.specs.Commands.{deletes_on_close}
 use Rattle.spec_exchange.specs.Files.{remove_file, set_delete_pending}
-use Rattle.spec_exchange.specs.Opens.{drop_open, goes, pending_behind, without_gone}
+use Rattle.spec_exchange.specs.Opens.{drop_open, goes, is_kept_back, left_file, pending_behind}
 use Rattle.spec_exchange.specs.State as model
 use Rattle.spec_exchange.specs.Step.{add_expired_guid, due, expire}
 use Rattle.spec_exchange.specs.Step.{max_expired_guids, step, with_deadlines}
@@ -24,20 +24,25 @@ use Rattle.spec_world.specs.Ends.{Logons}
 
 -- one column of a state behind an expiry, which none of its steps writes
 kept_by : {X : Type 0} (f : model.Server → X) (s : model.Server) (o : ℕ)
-    → ((u : model.Server) (n : ℕ) → f (set_delete_pending u n true) ≡ f u) → ((u : model.Server) → f (drop_open u o) ≡ f u)
+    → ((u : model.Server) (n : ℕ) (b : Bool) → f (set_delete_pending u n b) ≡ f u) → ((u : model.Server) → f (drop_open u o) ≡ f u)
     → ((u : model.Server) (n : ℕ) → f (remove_file u n) ≡ f u)
     → ((u : model.Server) (c : ℕ) (g : Option ℕ) → f (add_expired_guid u c g) ≡ f u) → f (expire s o) ≡ f s
 kept_by f s o marks drops removes keeps =
     let w = pending_behind s o in let v = drop_open w o in let n = (s.opened o).file in
-    keeps (without_gone v n) (s.opened o).client_guid (s.opened o).create_guid
-    ∙ (gone (goes v n) v n ∙ (drops w ∙ marked (deletes_on_close (s.opened o).options)))
+    keeps (left_file v n) (s.opened o).client_guid (s.opened o).create_guid
+    ∙ (settled (is_kept_back v n) (goes v n) v n ∙ (drops w ∙ marked (deletes_on_close (s.opened o).options)))
   where
     gone : (b : Bool) (v : model.Server) (n : ℕ) → f (if b then remove_file v n else v) ≡ f v
     gone true v n = removes v n
     gone false v n = refl
 
+    settled : (q b : Bool) (v : model.Server) (n : ℕ)
+        → f (if q then set_delete_pending v n false else (if b then remove_file v n else v)) ≡ f v
+    settled true b v n = marks v n false
+    settled false b v n = gone b v n
+
     marked : (b : Bool) → f (if b then set_delete_pending s (s.opened o).file true else s) ≡ f s
-    marked true = marks s (s.opened o).file
+    marked true = marks s (s.opened o).file true
     marked false = refl
 
 guid_present : (u : model.Server) (c : ℕ) (g : Option ℕ) → (add_expired_guid u c g).present ≡ u.present
@@ -49,10 +54,10 @@ guid_making u c None = refl
 guid_making u c (Some g) = refl
 
 pub same_present : (s : model.Server) (o : ℕ) → (expire s o).present ≡ s.present
-same_present s o = kept_by (λ (u : model.Server). u.present) s o (λ u n. refl) (λ u. refl) (λ u n. refl) guid_present
+same_present s o = kept_by (λ (u : model.Server). u.present) s o (λ u n b. refl) (λ u. refl) (λ u n. refl) guid_present
 
 pub same_making : (s : model.Server) (o : ℕ) → (expire s o).making ≡ s.making
-same_making s o = kept_by (λ (u : model.Server). u.making) s o (λ u n. refl) (λ u. refl) (λ u n. refl) guid_making
+same_making s o = kept_by (λ (u : model.Server). u.making) s o (λ u n b. refl) (λ u. refl) (λ u n. refl) guid_making
 
 pub heard_expired : (users : Users) (L : Logons) (s : model.Server) (o : ℕ) (e : ServerEvent)
     → heard_event users L (expire s o) e ≡ heard_event users L s e

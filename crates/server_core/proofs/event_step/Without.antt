@@ -4,7 +4,7 @@ use Rattle.wire_commands.specs.values.Meaning.{address_of}
 use Rattle.spec_exchange.specs.Commands.{deletes_on_close}
 use Rattle.spec_exchange.specs.Files.{remove_file, set_delete_pending}
 use Rattle.spec_exchange.specs.Fold.{full_room}
-use Rattle.spec_exchange.specs.Opens.{drop_open, goes, pending_behind, without_gone}
+use Rattle.spec_exchange.specs.Opens.{drop_open, goes, is_kept_back, left_file, pending_behind}
 use Rattle.spec_exchange.specs.State as model
 use Rattle.spec_exchange.specs.Step.{add_expired_guid, expire}
 use Rattle.store_files.specs.file_tree.Shown.{ShowsFiles}
@@ -37,20 +37,26 @@ use Rattle.spec_crypto.specs.tokens.Tokens.{Users}
 use Rattle.spec_world.specs.Ends.{Logons}
 
 -- what each step of an expiry keeps holds behind it
-kept_of : (P : model.Server → Type 0) (s : model.Server) (o : ℕ) → ((u : model.Server) (n : ℕ) → P u → P (set_delete_pending u n true))
+kept_of : (P : model.Server → Type 0) (s : model.Server) (o : ℕ)
+    → ((u : model.Server) (n : ℕ) (b : Bool) → P u → P (set_delete_pending u n b))
     → ((u : model.Server) → P u → P (drop_open u o)) → ((u : model.Server) (n : ℕ) → P u → P (remove_file u n))
     → ((u : model.Server) (c : ℕ) (g : Option ℕ) → P u → P (add_expired_guid u c g)) → P s → P (expire s o)
 kept_of P s o marks drops removes keeps h =
     let w = pending_behind s o in let v = drop_open w o in let n = (s.opened o).file in
-    keeps (without_gone v n) (s.opened o).client_guid (s.opened o).create_guid
-    (gone (goes v n) v n (drops w (marked (deletes_on_close (s.opened o).options))))
+    keeps (left_file v n) (s.opened o).client_guid (s.opened o).create_guid
+    (settled (is_kept_back v n) (goes v n) v n (drops w (marked (deletes_on_close (s.opened o).options))))
   where
     gone : (b : Bool) (v : model.Server) (n : ℕ) → P v → P (if b then remove_file v n else v)
     gone true v n k = removes v n k
     gone false v n k = k
 
+    settled : (q b : Bool) (v : model.Server) (n : ℕ) → P v
+        → P (if q then set_delete_pending v n false else (if b then remove_file v n else v))
+    settled true b v n k = marks v n false k
+    settled false b v n k = gone b v n k
+
     marked : (b : Bool) → P (if b then set_delete_pending s (s.opened o).file true else s)
-    marked true = marks s (s.opened o).file h
+    marked true = marks s (s.opened o).file true h
     marked false = h
 
 -- what the tables show but for opens and files
@@ -74,8 +80,8 @@ rest t s h = record {
   journal_is = h.journal_is;
 }
 
-marked_rest : (t : Tables) (u : model.Server) (n : ℕ) → Rest t u → Rest t (set_delete_pending u n true)
-marked_rest t u n h = record {
+marked_rest : (t : Tables) (u : model.Server) (n : ℕ) (b : Bool) → Rest t u → Rest t (set_delete_pending u n b)
+marked_rest t u n b h = record {
   sessions = h.sessions;
   share_is = h.share_is;
   room_is = h.room_is;

@@ -3,7 +3,7 @@ use Rattle.std.proofs.Common.{◌≡◌, ℕ, Bool, true, false, if◌then◌els
 use Rattle.spec_exchange.specs.Commands.{deletes_on_close}
 use Rattle.spec_exchange.specs.Files.{remove_file, set_delete_pending}
 use Rattle.spec_exchange.specs.Fold.{full_room}
-use Rattle.spec_exchange.specs.Opens.{drop_open, goes, leave_open, pending_behind}
+use Rattle.spec_exchange.specs.Opens.{drop_open, goes, is_kept_back, leave_open, pending_behind}
 use Rattle.spec_exchange.specs.State.{Server}
 use Rattle.spec_exchange.specs.Step.{add_expired_guid, expire}
 use Rattle.wire_commands.specs.values.Meaning.{address_of}
@@ -26,7 +26,8 @@ rest_back : (t : Tables) (s : Server) (o : ℕ) → RestShown t (expire s o) →
 rest_back t s o h =
     let w = pending_behind s o in
     let v = drop_open w o in
-    marked (deletes_on_close (s.opened o).options) (gone (goes v (s.opened o).file) v (guids (s.opened o).create_guid h))
+    let f = (s.opened o).file in
+    marked (deletes_on_close (s.opened o).options) (settled (is_kept_back v f) (goes v f) v (guids (s.opened o).create_guid h))
   where
     guids : (g : Option ℕ) → RestShown t (add_expired_guid (leave_open s o) (s.opened o).client_guid g) → RestShown t (leave_open s o)
     guids None k = k
@@ -35,6 +36,11 @@ rest_back t s o h =
     gone : (b : Bool) (v : Server) → RestShown t (if b then remove_file v (s.opened o).file else v) → RestShown t v
     gone true v k = k
     gone false v k = k
+
+    settled : (q b : Bool) (v : Server) → RestShown t (if q then set_delete_pending v (s.opened o).file false
+        else (if b then remove_file v (s.opened o).file else v)) → RestShown t v
+    settled true b v k = k
+    settled false b v k = gone b v k
 
     marked : (b : Bool) → RestShown t (if b then set_delete_pending s (s.opened o).file true else s) → RestShown t s
     marked true k = k

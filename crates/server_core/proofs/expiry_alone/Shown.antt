@@ -1,7 +1,7 @@
 -- The tables behind an expiry that stands alone.
 use Rattle.std.proofs.Common.{◌≡◌, ℕ, Bool, true, false, if◌then◌else◌, Option, Some, None, arith, refl, sym, subst, ◌∙◌}
-use Rattle.spec_exchange.specs.Files.{remove_file}
-use Rattle.spec_exchange.specs.Opens.{drop_open, goes, leave_open, pending_behind}
+use Rattle.spec_exchange.specs.Files.{remove_file, set_delete_pending}
+use Rattle.spec_exchange.specs.Opens.{drop_open, goes, is_kept_back, leave_open, pending_behind}
 use Rattle.spec_exchange.specs.State.{Server}
 use Rattle.spec_exchange.specs.Step.{add_expired_guid, expire, with_deadlines}
 use Rattle.spec_exchange.specs.Table.{put}
@@ -17,8 +17,8 @@ put_here f k v = grind arith
 -- an open that expired has no deadline
 pub no_deadline : (s : Server) (o : ℕ) → (expire s o).deadline o ≡ None
 no_deadline s o =
-    let w = pending_behind s o in let v = drop_open w o in
-    guids (s.opened o).create_guid ∙ (gone (goes v (s.opened o).file) v ∙ put_here w.deadline o None)
+    let w = pending_behind s o in let v = drop_open w o in let f = (s.opened o).file in
+    guids (s.opened o).create_guid ∙ (settled (is_kept_back v f) (goes v f) v ∙ put_here w.deadline o None)
   where
     guids : (g : Option ℕ) → (add_expired_guid (leave_open s o) (s.opened o).client_guid g).deadline o ≡ (leave_open s o).deadline o
     guids None = refl
@@ -27,6 +27,11 @@ no_deadline s o =
     gone : (b : Bool) (v : Server) → (if b then remove_file v (s.opened o).file else v).deadline o ≡ v.deadline o
     gone true v = refl
     gone false v = refl
+
+    settled : (q b : Bool) (v : Server) → (if q then set_delete_pending v (s.opened o).file false
+        else (if b then remove_file v (s.opened o).file else v)).deadline o ≡ v.deadline o
+    settled true b v = refl
+    settled false b v = gone b v
 
 -- The tables with another table of opens and another count, which show the state behind the expiry with the first deadlines.
 pub lone_shown : (t : Tables) (u : Opens) (s : Server) (now o n used : ℕ) → TablesShown t (expire s o)

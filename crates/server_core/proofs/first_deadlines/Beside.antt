@@ -271,6 +271,8 @@ by_ready old new r users L s d e m logon now q (readies.Tell id body) making sai
     bare old new r users L e now q (λ h k. a.told) a.logons a.beside
 by_ready old new r users L s d e m logon now q (readies.Show id last body) making said part eight a i w =
     bare old new r users L e now q (λ h k. a.told) a.logons a.beside
+by_ready old new r users L s d e m logon now q (readies.Seek id position) making said part eight a i w =
+    bare old new r users L e now q (λ h k. a.told) a.logons a.beside
 by_ready old new r users L s d e m logon now q (readies.KeepSlot id index number status) making said part eight a i w =
     bare old new r users L e now q (λ h k. a.told) a.logons a.beside
 by_ready old new r users L s d e m logon now q (readies.PutRanges id index number ranges) making said part eight a i w =

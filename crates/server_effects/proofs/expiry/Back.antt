@@ -13,7 +13,9 @@ use Rattle.store_files.specs.declared.file_tree.gone.Gone.{Gone}
 use Rattle.store_files.specs.declared.file_tree.tree.Tree.{Tree}
 use Rattle.spec_exchange.specs.Step.{expire}
 use Rattle.law_server.specs.tables.Fits.{Fits}
-use Rattle.server_effects.specs.expiry.Expired.{GoneWith, goes_behind}
+use Rattle.spec_exchange.specs.Opens.{drop_open, pending_behind}
+use Rattle.server_effects.specs.expiry.Expired.{GoneWith, goes_behind, kept_behind}
+use Rattle.server_effects.proofs.Parted.{kept_apart}
 use Rattle.server_effects.proofs.expiry.Goes.{not_root}
 use Rattle.server_effects.proofs.expiry.Behind.{files_before}
 
@@ -78,23 +80,32 @@ gone_unmarked t s f true below h =
     let above : (0 == f) ≡ false = grind arith in unmarked_at t (remove_file s f) f true (gone_path f s.entries) above h
 
 -- it is there yet: the mark is as it was
-pub mark_back : (t : Tree) (s : Server) (f : ℕ) (d was : Bool) → was ≡ s.delete_pending f
-    → ShowsFiles t (set_delete_pending (if d then set_delete_pending s f true else s) f was) → ShowsFiles t s
-mark_back t s f d was e h = subst (λ (marks : ℕ → Bool). ShowsFiles t (re_marked s marks)) (same d) (by d h)
+abbrev marks : Server → ℕ → Bool → ℕ → Bool
+marks s f d = if d then put s.delete_pending f true else s.delete_pending
+
+pub mark_back : (t : Tree) (s : Server) (f : ℕ) (d k was : Bool) → was ≡ s.delete_pending f
+    → ShowsFiles t (set_delete_pending (if k then set_delete_pending (if d then set_delete_pending s f true else s) f false
+    else (if d then set_delete_pending s f true else s)) f was) → ShowsFiles t s
+mark_back t s f d k was e h = subst (λ (marks : ℕ → Bool). ShowsFiles t (re_marked s marks)) (same d k) (by d k h)
   where
-    by : (d : Bool) → ShowsFiles t (set_delete_pending (if d then set_delete_pending s f true else s) f was)
-        → ShowsFiles t (re_marked s (put (if d then put s.delete_pending f true else s.delete_pending) f was))
-    by true k = k
-    by false k = k
+    by : (d k : Bool) → ShowsFiles t (set_delete_pending (if k then set_delete_pending (if d then set_delete_pending s f true else s) f false
+        else (if d then set_delete_pending s f true else s)) f was)
+        → ShowsFiles t (re_marked s (put (if k then put (marks s f d) f false else marks s f d) f was))
+    by true true x = x
+    by true false x = x
+    by false true x = x
+    by false false x = x
 
-    at : (d : Bool) (q : ℕ) (b : Bool) → (q == f) ≡ b
-        → (if b then was else ((if d then put s.delete_pending f true else s.delete_pending) q)) ≡ s.delete_pending q
-    at d q true i = e ∙ ap (λ (z : ℕ). s.delete_pending z) (sym (eqb-true q f i))
-    at true q false i = ap (λ (b : Bool). if b then true else s.delete_pending q) i
-    at false q false i = refl
+    at : (d k : Bool) (q : ℕ) (b : Bool) → (q == f) ≡ b
+        → (if b then was else ((if k then put (marks s f d) f false else marks s f d) q)) ≡ s.delete_pending q
+    at d k q true i = e ∙ ap (λ (z : ℕ). s.delete_pending z) (sym (eqb-true q f i))
+    at true true q false i = ap (λ (b : Bool). if b then false else (if b then true else s.delete_pending q)) i
+    at true false q false i = ap (λ (b : Bool). if b then true else s.delete_pending q) i
+    at false true q false i = ap (λ (b : Bool). if b then false else s.delete_pending q) i
+    at false false q false i = refl
 
-    same : (d : Bool) → put (if d then put s.delete_pending f true else s.delete_pending) f was ≡ s.delete_pending
-    same d = λ t q. at d q (q == f) refl t
+    same : (d k : Bool) → put (if k then put (marks s f d) f false else marks s f d) f was ≡ s.delete_pending
+    same d k = λ t q. at d k q (q == f) refl t
 
 -- ---- the file of an open that was taken out
 
@@ -108,16 +119,19 @@ pub back_gone : (old new : Tree) (s : Server) (o : ℕ) (gone : Gone) (r : Bool)
     → GoneWith (goes_behind s o) (Some gone) s (s.opened o).file → ShowsFiles old (expire s o)
     → ((s : Server) → r ≡ true → ShowsFiles old (remove_file s gone.file) → GoneOf (Some gone) s gone.file → ShowsFiles new s)
     → r ≡ true → ShowsFiles new s
-back_gone old new s o gone r i st g h back done = by (goes_behind s o) refl g (files_before old s o h)
+back_gone old new s o gone r i st g h back done = by (kept_behind s o) (goes_behind s o) refl refl g (files_before old s o h)
   where
     f : ℕ
     f = (s.opened o).file
 
-    by : (b : Bool) → goes_behind s o ≡ b → GoneWith b (Some gone) s f
-        → ShowsFiles old (if deletes_on_close (s.opened o).options then set_delete_pending (if b then remove_file s f else s) f true
-        else (if b then remove_file s f else s)) → ShowsFiles new s
-    by false e k t = absurd (cc)
-    by true e k t =
+    by : (kept b : Bool) → kept_behind s o ≡ kept → goes_behind s o ≡ b → GoneWith b (Some gone) s f
+        → ShowsFiles old (if kept then set_delete_pending (if deletes_on_close (s.opened o).options
+        then set_delete_pending (if b then remove_file s f else s) f true else (if b then remove_file s f else s)) f false
+        else (if deletes_on_close (s.opened o).options then set_delete_pending (if b then remove_file s f else s) f true
+        else (if b then remove_file s f else s))) → ShowsFiles new s
+    by kept false a e k t = absurd (cc)
+    by true true a e k t = absurd (let n = kept_apart (drop_open (pending_behind s o) o) f a in cc)
+    by false true a e k t =
         back s done (subst (λ (z : ℕ). ShowsFiles old (remove_file s z)) (sym k.file_is)
         (gone_unmarked old s f (deletes_on_close (s.opened o).options) (not_root s o i st e) t))
         (subst (λ (z : ℕ). GoneOf (Some gone) s z) (sym k.file_is) k)
@@ -132,10 +146,13 @@ back_there old new s o file was e g w h mark = by (goes_behind s o) g (files_bef
     f = (s.opened o).file
 
     by : (b : Bool) → GoneWith b None s f
-        → ShowsFiles old (if deletes_on_close (s.opened o).options then set_delete_pending (if b then remove_file s f else s) f true
-        else (if b then remove_file s f else s)) → ShowsFiles new s
+        → ShowsFiles old (if kept_behind s o then set_delete_pending (if deletes_on_close (s.opened o).options
+        then set_delete_pending (if b then remove_file s f else s) f true else (if b then remove_file s f else s)) f false
+        else (if deletes_on_close (s.opened o).options then set_delete_pending (if b then remove_file s f else s) f true
+        else (if b then remove_file s f else s))) → ShowsFiles new s
     by true k t = absurd k
     by false k t =
-        mark_back new s f (deletes_on_close (s.opened o).options) was w
-        (subst (λ (z : ℕ). ShowsFiles new (set_delete_pending (if deletes_on_close (s.opened o).options then set_delete_pending s f true
-        else s) z was)) e (mark (if deletes_on_close (s.opened o).options then set_delete_pending s f true else s) t))
+        let left = if kept_behind s o then set_delete_pending (if deletes_on_close (s.opened o).options then set_delete_pending s f true
+        else s) f false else (if deletes_on_close (s.opened o).options then set_delete_pending s f true else s) in
+        mark_back new s f (deletes_on_close (s.opened o).options) (kept_behind s o) was w
+        (subst (λ (z : ℕ). ShowsFiles new (set_delete_pending left z was)) e (mark left t))

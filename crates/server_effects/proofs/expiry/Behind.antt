@@ -4,7 +4,7 @@ use Rattle.spec_exchange.specs.State as model
 use Rattle.spec_exchange.specs.Commands.{deletes_on_close}
 use Rattle.spec_exchange.specs.State.{Server}
 use Rattle.spec_exchange.specs.Files.{exists, exists_in, info_of, is_full_directory, remove_file, set_delete_pending}
-use Rattle.spec_exchange.specs.Opens.{drop_open, goes, pending_behind}
+use Rattle.spec_exchange.specs.Opens.{drop_open, goes, is_kept_back, pending_behind}
 use Rattle.spec_exchange.specs.Step.{add_expired_guid, expire}
 use Rattle.law_server.specs.tables.Fits.{Fits}
 use Rattle.law_server.proofs.tables.Logic.{either}
@@ -19,7 +19,10 @@ use Rattle.store_files.specs.file_tree.Shown.{ShowsFiles, model_info}
 use Rattle.store_files.specs.declared.file_tree.gone.Gone.{Gone}
 use Rattle.store_files.specs.declared.file_tree.row.Info.{Info}
 use Rattle.store_files.specs.declared.file_tree.tree.Tree.{Tree}
-use Rattle.server_effects.specs.expiry.Expired.{GoneWith, behind_gone, goes_behind}
+use Rattle.server_effects.specs.declared.fates.Fate.{Fate}
+use Rattle.server_effects.specs.Fates.{removed_by, unmarked_by}
+use Rattle.server_effects.specs.expiry.Expired.{GoneWith, behind_gone, fate_behind, goes_behind, kept_behind}
+use Rattle.server_effects.proofs.Parted.{goes_is, unmarked_is, kept_apart}
 use Rattle.server_effects.proofs.expiry.Goes.{there, not_full}
 
 -- of either state, where the table shows both alike
@@ -32,8 +35,11 @@ from_either P false x y f g h = g h
 pub opens_behind : (t : Opens) (s : Server) (o : ℕ)
     → ShowsOpens t (add_expired_guid (drop_open s o) (s.opened o).client_guid (s.opened o).create_guid) → ShowsOpens t (expire s o)
 opens_behind t s o h =
-    either (λ (w : Server). ShowsOpens t (add_expired_guid w c (s.opened o).create_guid)) (goes (drop_open (pending_behind s o) o) f) _ _
-    (λ _. gone (drop_open (pending_behind s o) o) (s.opened o).create_guid marked) (λ _. marked)
+    either (λ (w : Server). ShowsOpens t (add_expired_guid w c (s.opened o).create_guid))
+    (is_kept_back (drop_open (pending_behind s o) o) f) _ _
+    (λ _. cleared (drop_open (pending_behind s o) o) (s.opened o).create_guid marked)
+    (λ _. either (λ (w : Server). ShowsOpens t (add_expired_guid w c (s.opened o).create_guid)) (goes (drop_open (pending_behind s o) o) f) _ _
+    (λ _. gone (drop_open (pending_behind s o) o) (s.opened o).create_guid marked) (λ _. marked))
   where
     c : ℕ
     c = (s.opened o).client_guid
@@ -44,6 +50,11 @@ opens_behind t s o h =
     gone : (w : Server) (g : Option ℕ) → ShowsOpens t (add_expired_guid w c g) → ShowsOpens t (add_expired_guid (remove_file w f) c g)
     gone w None k = k
     gone w (Some g) k = k
+
+    cleared : (w : Server) (g : Option ℕ) → ShowsOpens t (add_expired_guid w c g)
+        → ShowsOpens t (add_expired_guid (set_delete_pending w f false) c g)
+    cleared w None k = k
+    cleared w (Some g) k = k
 
     marks : (g : Option ℕ) → ShowsOpens t (add_expired_guid (drop_open s o) c g)
         → ShowsOpens t (add_expired_guid (drop_open (set_delete_pending s f true) o) c g)
@@ -59,8 +70,11 @@ pub opens_before : (t : Opens) (s : Server) (o : ℕ) → ShowsOpens t (expire s
     → ShowsOpens t (add_expired_guid (drop_open s o) (s.opened o).client_guid (s.opened o).create_guid)
 opens_before t s o h =
     from_either (λ (w : Server). ShowsOpens t (add_expired_guid w c (s.opened o).create_guid))
+    (is_kept_back (drop_open (pending_behind s o) o) f) _ _
+    (λ k. marked (cleared (drop_open (pending_behind s o) o) (s.opened o).create_guid k))
+    (λ j. from_either (λ (w : Server). ShowsOpens t (add_expired_guid w c (s.opened o).create_guid))
     (goes (drop_open (pending_behind s o) o) f) _ _
-    (λ k. marked (gone (drop_open (pending_behind s o) o) (s.opened o).create_guid k)) (λ k. marked k) h
+    (λ k. marked (gone (drop_open (pending_behind s o) o) (s.opened o).create_guid k)) (λ k. marked k) j) h
   where
     c : ℕ
     c = (s.opened o).client_guid
@@ -71,6 +85,11 @@ opens_before t s o h =
     gone : (w : Server) (g : Option ℕ) → ShowsOpens t (add_expired_guid (remove_file w f) c g) → ShowsOpens t (add_expired_guid w c g)
     gone w None k = k
     gone w (Some g) k = k
+
+    cleared : (w : Server) (g : Option ℕ) → ShowsOpens t (add_expired_guid (set_delete_pending w f false) c g)
+        → ShowsOpens t (add_expired_guid w c g)
+    cleared w None k = k
+    cleared w (Some g) k = k
 
     marks : (g : Option ℕ) → ShowsOpens t (add_expired_guid (drop_open (set_delete_pending s f true) o) c g)
         → ShowsOpens t (add_expired_guid (drop_open s o) c g)
@@ -89,41 +108,71 @@ opens_before t s o h =
 abbrev pub marked_behind : Server → Server → ℕ → Server
 marked_behind s w o = if deletes_on_close (s.opened o).options then set_delete_pending w (s.opened o).file true else w
 
-files_at : (t : Tree) (s : Server) (o : ℕ) (b d : Bool) (g : Option ℕ)
-    → ShowsFiles t (if d then set_delete_pending (if b then remove_file s (s.opened o).file else s) (s.opened o).file true
-    else (if b then remove_file s (s.opened o).file else s))
-    → ShowsFiles t (add_expired_guid
-    (if b then remove_file (drop_open (if d then set_delete_pending s (s.opened o).file true else s) o) (s.opened o).file
-    else drop_open (if d then set_delete_pending s (s.opened o).file true else s) o) (s.opened o).client_guid g)
-files_at t s o true true None h = h
-files_at t s o true true (Some g) h = h
-files_at t s o true false None h = h
-files_at t s o true false (Some g) h = h
-files_at t s o false true None h = h
-files_at t s o false true (Some g) h = h
-files_at t s o false false None h = h
-files_at t s o false false (Some g) h = h
+-- and no longer, where it can't go
+abbrev pub unmarked_behind : Server → Server → ℕ → Server
+unmarked_behind s w o = if kept_behind s o then set_delete_pending (marked_behind s w o) (s.opened o).file false else marked_behind s w o
 
-pub files_behind : (t : Tree) (s : Server) (o : ℕ) → ShowsFiles t (marked_behind s (behind_gone s o) o) → ShowsFiles t (expire s o)
-files_behind t s o h = files_at t s o (goes_behind s o) (deletes_on_close (s.opened o).options) (s.opened o).create_guid h
+-- what is told of its file by tests of their own: kept back, gone, deleted on close
+abbrev told_of : Server → ℕ → Bool → Bool → Bool → Server
+told_of s f k b d =
+    let w = if d then set_delete_pending (if b then remove_file s f else s) f true else (if b then remove_file s f else s) in
+    if k then set_delete_pending w f false else w
 
-files_from : (t : Tree) (s : Server) (o : ℕ) (b d : Bool) (g : Option ℕ)
-    → ShowsFiles t (add_expired_guid
-    (if b then remove_file (drop_open (if d then set_delete_pending s (s.opened o).file true else s) o) (s.opened o).file
-    else drop_open (if d then set_delete_pending s (s.opened o).file true else s) o) (s.opened o).client_guid g)
-    → ShowsFiles t (if d then set_delete_pending (if b then remove_file s (s.opened o).file else s) (s.opened o).file true
-    else (if b then remove_file s (s.opened o).file else s))
-files_from t s o true true None h = h
-files_from t s o true true (Some g) h = h
-files_from t s o true false None h = h
-files_from t s o true false (Some g) h = h
-files_from t s o false true None h = h
-files_from t s o false true (Some g) h = h
-files_from t s o false false None h = h
-files_from t s o false false (Some g) h = h
+abbrev left_of : Server → ℕ → Bool → Bool → Bool → Server
+left_of s o k b d =
+    let f = (s.opened o).file in let w = drop_open (if d then set_delete_pending s f true else s) o in
+    if k then set_delete_pending w f false else (if b then remove_file w f else w)
 
-pub files_before : (t : Tree) (s : Server) (o : ℕ) → ShowsFiles t (expire s o) → ShowsFiles t (marked_behind s (behind_gone s o) o)
-files_before t s o h = files_from t s o (goes_behind s o) (deletes_on_close (s.opened o).options) (s.opened o).create_guid h
+files_at : (t : Tree) (s : Server) (o : ℕ) (k b d : Bool) (g : Option ℕ) → (k ≡ true → b ≡ false)
+    → ShowsFiles t (told_of s (s.opened o).file k b d) → ShowsFiles t (add_expired_guid (left_of s o k b d) (s.opened o).client_guid g)
+files_at t s o true true d g a h = absurd (let e : true ≡ false = a refl in cc)
+files_at t s o true false true None a h = h
+files_at t s o true false true (Some g) a h = h
+files_at t s o true false false None a h = h
+files_at t s o true false false (Some g) a h = h
+files_at t s o false true true None a h = h
+files_at t s o false true true (Some g) a h = h
+files_at t s o false true false None a h = h
+files_at t s o false true false (Some g) a h = h
+files_at t s o false false true None a h = h
+files_at t s o false false true (Some g) a h = h
+files_at t s o false false false None a h = h
+files_at t s o false false false (Some g) a h = h
+
+kept_stays : (s : Server) (o : ℕ) → kept_behind s o ≡ true → goes_behind s o ≡ false
+kept_stays s o h = kept_apart (drop_open (pending_behind s o) o) (s.opened o).file h
+
+pub files_behind : (t : Tree) (s : Server) (o : ℕ) → ShowsFiles t (unmarked_behind s (behind_gone s o) o) → ShowsFiles t (expire s o)
+files_behind t s o h = files_at t s o (kept_behind s o) (goes_behind s o) (deletes_on_close (s.opened o).options) (s.opened o).create_guid
+    (kept_stays s o) h
+
+files_from : (t : Tree) (s : Server) (o : ℕ) (k b d : Bool) (g : Option ℕ) → (k ≡ true → b ≡ false)
+    → ShowsFiles t (add_expired_guid (left_of s o k b d) (s.opened o).client_guid g) → ShowsFiles t (told_of s (s.opened o).file k b d)
+files_from t s o true true d g a h = absurd (let e : true ≡ false = a refl in cc)
+files_from t s o true false true None a h = h
+files_from t s o true false true (Some g) a h = h
+files_from t s o true false false None a h = h
+files_from t s o true false false (Some g) a h = h
+files_from t s o false true true None a h = h
+files_from t s o false true true (Some g) a h = h
+files_from t s o false true false None a h = h
+files_from t s o false true false (Some g) a h = h
+files_from t s o false false true None a h = h
+files_from t s o false false true (Some g) a h = h
+files_from t s o false false false None a h = h
+files_from t s o false false false (Some g) a h = h
+
+pub files_before : (t : Tree) (s : Server) (o : ℕ) → ShowsFiles t (expire s o) → ShowsFiles t (unmarked_behind s (behind_gone s o) o)
+files_before t s o h = files_from t s o (kept_behind s o) (goes_behind s o) (deletes_on_close (s.opened o).options) (s.opened o).create_guid
+    (kept_stays s o) h
+
+-- ---- what becomes of its file
+
+pub goes_so : (s : Server) (o : ℕ) (fate : Fate) (b : Bool) → b ≡ removed_by fate → fate ≡ fate_behind s o → b ≡ goes_behind s o
+goes_so s o fate b w e = w ∙ (ap removed_by e ∙ goes_is (kept_behind s o) (goes_behind s o) (kept_stays s o))
+
+pub unmarked_so : (s : Server) (o : ℕ) (fate : Fate) (b : Bool) → b ≡ unmarked_by fate → fate ≡ fate_behind s o → b ≡ kept_behind s o
+unmarked_so s o fate b w e = w ∙ (ap unmarked_by e ∙ unmarked_is (kept_behind s o) (goes_behind s o))
 
 -- ---- what was taken out
 
@@ -163,14 +212,21 @@ pub opens_taken : (t : Opens) (s : Server) (o : ℕ) (row : Row) → s.opened o 
 opens_taken t s o row e h =
     opens_behind t s o (subst (λ (r : model.Open). ShowsOpens t (add_expired_guid (drop_open s o) r.client_guid r.create_guid)) (sym e) h)
 
-pub files_marked : (t : Tree) (s : Server) (o : ℕ) (row : Row) (deletes : Bool) → s.opened o ≡ open_of row
-    → deletes ≡ deletes_on_close row.options
-    → ShowsFiles t (if deletes then set_delete_pending (behind_gone s o) row.file true else behind_gone s o)
+-- what is told of its mark
+abbrev at : Bool → Bool → Server → ℕ → Server
+at k d w f = if k then set_delete_pending (if d then set_delete_pending w f true else w) f false
+    else (if d then set_delete_pending w f true else w)
+
+pub files_marked : (t : Tree) (s : Server) (o : ℕ) (row : Row) (deletes unmarked : Bool) → s.opened o ≡ open_of row
+    → deletes ≡ deletes_on_close row.options → unmarked ≡ kept_behind s o
+    → ShowsFiles t (if unmarked then set_delete_pending (if deletes then set_delete_pending (behind_gone s o) row.file true
+    else behind_gone s o) row.file false else (if deletes then set_delete_pending (behind_gone s o) row.file true else behind_gone s o))
     → ShowsFiles t (expire s o)
-files_marked t s o row deletes e d h =
-    files_behind t s o (subst (λ (r : model.Open). ShowsFiles t (if deletes_on_close r.options
-    then set_delete_pending (behind_gone s o) r.file true else behind_gone s o)) (sym e)
-    (subst (λ (b : Bool). ShowsFiles t (if b then set_delete_pending (behind_gone s o) row.file true else behind_gone s o)) d h))
+files_marked t s o row deletes unmarked e d u h =
+    let w = behind_gone s o in
+    files_behind t s o (subst (λ (r : model.Open). ShowsFiles t (at (kept_behind s o) (deletes_on_close r.options) w r.file)) (sym e)
+    (subst (λ (b : Bool). ShowsFiles t (at (kept_behind s o) b w row.file)) d
+    (subst (λ (b : Bool). ShowsFiles t (at b deletes w row.file)) u h)))
 
 -- a file that is there yet didn't go
 stays : (b : Bool) (g : Option Gone) (s : Server) (f : ℕ) → GoneWith b g s f → g ≡ None → b ≡ false

@@ -1,7 +1,7 @@
 -- What opens that left make of one file.
 use Rattle.std.proofs.Common.{◌≡◌, ◌≤◌, ◌<◌, ℕ, ◌+◌, ◌==◌, nat_le, Bool, true, false, not, ◌&&◌, ◌||◌, if◌then◌else◌, List}
 use Rattle.std.proofs.Common.{◌∷◌, [], ◌++◌, length, drop, get_or, map, refl, sym, ap, subst, ◌∙◌, Option, Some, None}
-use Rattle.std.proofs.Common.{arith, eqb-true, nat_eq, Result, Ok, Err, OnOk, IfOk}
+use Rattle.std.proofs.Common.{arith, nat_eq, Result, Ok, Err, OnOk, IfOk}
 use Rattle.std.proofs.lemmas.Bool.Decides.{nat_tests}
 use Rattle.std.specs.Map.{lookup}
 use Rattle.std.specs.List.{list_any}
@@ -10,7 +10,7 @@ use Rattle.spec_exchange.specs.State as model
 use Rattle.spec_exchange.specs.Table.{is_at}
 use Rattle.spec_exchange.specs.Files.{root, exists, exists_in, info_of, is_full_directory}
 use Rattle.spec_exchange.specs.State.{ExpireRecord}
-use Rattle.spec_exchange.specs.Opens.{opens_of, drop_open, goes, gone_records, pending_behind}
+use Rattle.spec_exchange.specs.Opens.{opens_of, drop_open, goes, is_kept_back, gone_records, left_file_records, pending_behind}
 use Rattle.spec_exchange.specs.Step.{expire_records}
 use Rattle.law_server.specs.tables.Fits.{Fits}
 use Rattle.journal.specs.record_bytes.Meaning.{record_of, records_of}
@@ -18,9 +18,12 @@ use Rattle.journal.specs.declared.record_bytes.value.Record.{Record}
 use Rattle.store_files.specs.file_tree.Shown.{FileApart, model_info, path_at}
 use Rattle.store_files.specs.declared.file_tree.row.Info.{Info}
 use Rattle.law_records.specs.leaving_opens.Out.{channel_left}
-use Rattle.law_records.specs.leaving_opens.Since.{OpensNumbered, AreOpensBelow, all_gone, went_records}
+use Rattle.law_records.specs.leaving_opens.Since.{OpensNumbered, AreOpensBelow, all_gone, parted_records}
 use Rattle.law_records.proofs.leaving_opens.Full.{emptied, gone_or_full}
 use Rattle.law_records.proofs.leaving_opens.Left.{begun, file_there}
+use Rattle.server_effects.specs.declared.fates.Fate.{Fate}
+use Rattle.server_effects.specs.Fates.{fate_of, removed_by, unmarked_by}
+use Rattle.server_effects.proofs.Parted.{goes_is, unmarked_is, kept_apart}
 use Rattle.server_effects.specs.declared.leaving_opens.leaving.Left.{Left}
 use Rattle.server_effects.specs.declared.leaving_opens.leaving.Leaving.{Leaving}
 use Rattle.server_effects.specs.leaving_opens.Left.{left_of, opens_left, marked_by, went_with, HasLeft}
@@ -41,15 +44,25 @@ pub more_records : (old new : List Record) (r : Record) → new ≡ old ++ r ∷
 more_records old new r e = ap (λ (v : List Record). map record_of v) e ∙ map-append record_of old (r ∷ [])
 
 -- the records of an open that expires
-pub expired_told : (s : model.Server) (origin : model.Origin) (o f : ℕ) (with : Bool) (r0 r1 r2 : List model.Record) → r0 ≡ []
-    → r1 ≡ r0 ++ ExpireRecord origin o ∷ [] → r2 ≡ r1 ++ went_records with origin f
-    → with ≡ goes (drop_open (pending_behind s o) o) (s.opened o).file → f ≡ (s.opened o).file → r2 ≡ expire_records s origin o
-unfolding expire_records gone_records
-expired_told s origin o f with r0 r1 r2 none one more g e =
-    more ∙ ap (λ (v : List model.Record). v ++ went_records with origin f) one
-    ∙ ap (λ (v : List model.Record). (v ++ ExpireRecord origin o ∷ []) ++ went_records with origin f) none
-    ∙ ap (λ (b : Bool). ExpireRecord origin o ∷ went_records b origin f) g
-    ∙ ap (λ (z : ℕ). ExpireRecord origin o ∷ went_records (goes (drop_open (pending_behind s o) o) (s.opened o).file) origin z) e
+parted_told : (s : model.Server) (origin : model.Origin) (f : ℕ) (fate : Fate) → fate ≡ fate_of (is_kept_back s f) (goes s f)
+    → parted_records (unmarked_by fate) (removed_by fate) origin f ≡ left_file_records s origin f
+unfolding left_file_records gone_records
+parted_told s origin f fate e =
+    ap (λ (x : Fate). parted_records (unmarked_by x) (removed_by x) origin f) e
+    ∙ (ap (λ (b : Bool). parted_records b (removed_by (fate_of (is_kept_back s f) (goes s f))) origin f) (unmarked_is (is_kept_back s f) (goes s f))
+    ∙ ap (λ (b : Bool). parted_records (is_kept_back s f) b origin f) (goes_is (is_kept_back s f) (goes s f) (kept_apart s f)))
+
+pub expired_told : (s : model.Server) (origin : model.Origin) (o f : ℕ) (fate : Fate) (r0 r1 r2 : List model.Record) → r0 ≡ []
+    → r1 ≡ r0 ++ ExpireRecord origin o ∷ [] → r2 ≡ r1 ++ parted_records (unmarked_by fate) (removed_by fate) origin f
+    → fate ≡ fate_of (is_kept_back (drop_open (pending_behind s o) o) (s.opened o).file)
+    (goes (drop_open (pending_behind s o) o) (s.opened o).file) → f ≡ (s.opened o).file → r2 ≡ expire_records s origin o
+unfolding expire_records
+expired_told s origin o f fate r0 r1 r2 none one more g e =
+    more ∙ ap (λ (v : List model.Record). v ++ parted_records (unmarked_by fate) (removed_by fate) origin f) one
+    ∙ ap (λ (v : List model.Record). (v ++ ExpireRecord origin o ∷ []) ++ parted_records (unmarked_by fate) (removed_by fate) origin f) none
+    ∙ ap (λ (z : ℕ). ExpireRecord origin o ∷ parted_records (unmarked_by fate) (removed_by fate) origin z) e
+    ∙ ap (λ (v : List model.Record). ExpireRecord origin o ∷ v)
+    (parted_told (drop_open (pending_behind s o) o) origin (s.opened o).file fate g)
 
 -- ---- before any open leaves
 
@@ -103,31 +116,11 @@ pub all_gone_end : (went : ℕ → Bool) (fs : List ℕ) (i : ℕ) → length fs
 unfolding all_gone
 all_gone_end went fs i h = sym (at_drop_all (λ (v : List ℕ). all_gone went v) fs i h)
 
--- ---- whether a file goes
+-- ---- what becomes of a file
 
-pub off_first : (p x : Bool) → p ≡ false → false ≡ (p && x)
-off_first p x e = ap (λ (b : Bool). b && x) (sym e)
-
-pub root_stays : (p : Bool) (f : ℕ) (y : Bool) → f ≡ 0 → false ≡ (p && (not (f == root) && y))
-root_stays false f y e = refl
-root_stays true f y e = ap (λ (z : ℕ). not (z == root) && y) (sym e)
-
-pub not_root : (f : ℕ) → (f ≡ 0 → ⊥) → (f == root) ≡ false
-not_root f h = by (f == 0) refl
-  where
-    by : (b : Bool) → (f == 0) ≡ b → b ≡ false
-    by true e = absurd (h (eqb-true f 0 e))
-    by false e = refl
-
-pub not_last : (p r n d : Bool) → n ≡ false → false ≡ (p && (not r && (n && d)))
-not_last false r n d e = refl
-not_last true true n d e = refl
-not_last true false n d e = ap (λ (b : Bool). b && d) (sym e)
-
-pub goes_by : (p r n d e : Bool) → p ≡ true → r ≡ false → n ≡ true → e ≡ d → e ≡ (p && (not r && (n && d)))
-goes_by p r n d e hp hr hn hd =
-    hd ∙ ap (λ (b : Bool). b && d) (sym hn) ∙ ap (λ (b : Bool). not b && (n && d)) (sym hr)
-    ∙ ap (λ (b : Bool). b && (not r && (n && d))) (sym hp)
+pub full_there : (d : Bool) → not d ≡ false → d ≡ true
+full_there true e = refl
+full_there false e = absurd (cc)
 
 pub many : (count n : ℕ) → count ≡ n → 1 < count → nat_le n (0 + 1) ≡ false
 many count n e l = grind (arith, nat_tests)

@@ -71,6 +71,7 @@ room_for t u x k (readies.Make file row) d h = (
 room_for t u x k (readies.TurnDown id status) d h = h
 room_for t u x k (readies.Tell id body) d h = h
 room_for t u x k (readies.Show id last body) d h = h
+room_for t u x k (readies.Seek id position) d h = h
 room_for t u x k (readies.KeepSlot id index number status) d h = h
 room_for t u x k (readies.PutRanges id index number ranges) d h = h
 room_for t u x k (readies.Alter id change body acted) d h = h

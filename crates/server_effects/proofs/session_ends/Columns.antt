@@ -3,7 +3,7 @@ use Rattle.std.proofs.Common.{◌≡◌, ℕ, Bool, true, false, List, [], ◌�
 use Rattle.spec_exchange.specs.Commands.{deletes_on_close}
 use Rattle.spec_exchange.specs.Effects.{files_behind, leave_all, plain_of}
 use Rattle.spec_exchange.specs.Files.{remove_file, set_delete_pending}
-use Rattle.spec_exchange.specs.Opens.{drop_open, goes, leave_open, pending_behind, without_gone}
+use Rattle.spec_exchange.specs.Opens.{drop_open, goes, is_kept_back, leave_open, left_file, pending_behind, without_gone}
 use Rattle.spec_exchange.specs.State.{Server}
 use Rattle.spec_exchange.specs.Table.{put}
 use Rattle.law_server.proofs.tables.Logic.{either}
@@ -16,13 +16,17 @@ seen s = record s { entries = []; delete_pending = λ f. false }
 gone_seen : (s : Server) (f : ℕ) → seen (without_gone s f) ≡ seen s
 gone_seen s f = either (λ v. seen v ≡ seen s) (goes s f) (remove_file s f) s (λ _. refl) (λ _. refl)
 
+settled_seen : (s : Server) (f : ℕ) → seen (left_file s f) ≡ seen s
+settled_seen s f = either (λ v. seen v ≡ seen s) (is_kept_back s f) (set_delete_pending s f false) (without_gone s f)
+    (λ _. refl) (λ _. gone_seen s f)
+
 marked_seen : (s : Server) (o : ℕ) → seen (drop_open (pending_behind s o) o) ≡ seen (drop_open s o)
 marked_seen s o = either (λ v. seen (drop_open v o) ≡ seen (drop_open s o)) (deletes_on_close (s.opened o).options)
     (set_delete_pending s (s.opened o).file true) s (λ _. refl) (λ _. refl)
 
 pub left_seen : (s : Server) (o : ℕ) (q : Bool) → seen (left_behind s o q) ≡ seen (drop_open s o)
 left_seen s o true = refl
-left_seen s o false = gone_seen (drop_open (pending_behind s o) o) (s.opened o).file ∙ marked_seen s o
+left_seen s o false = settled_seen (drop_open (pending_behind s o) o) (s.opened o).file ∙ marked_seen s o
 
 -- the opens alone leave
 abbrev pub dropped : Server → List ℕ → Server

@@ -60,18 +60,18 @@ row_ended : (u : Opens) (s : Server) (x now p : ℕ) → Fits s
     → OpenRowShown (get nat_eq u.rows p) ((dropped s (plain_of s x)).standing p) (s.opened p)
     (cleared x ((dropped s (plain_of s x)).session_of_open p)) (s.sequence p)
     (dated x now (s.opened p) ((dropped s (plain_of s x)).session_of_open p) ((dropped s (plain_of s x)).deadline p))
-    (s.enumeration_location p) (s.lock_sequences p)
+    (s.enumeration_location p, s.current_byte_offset p) (s.lock_sequences p)
     → OpenRowShown (get nat_eq u.rows p) (s.standing p && not (leaves s x p)) (s.opened p) (cleared x (s.session_of_open p)) (s.sequence p)
-    (dated x now (s.opened p) (s.session_of_open p) (s.deadline p)) (s.enumeration_location p) (s.lock_sequences p)
+    (dated x now (s.opened p) (s.session_of_open p) (s.deadline p)) (s.enumeration_location p, s.current_byte_offset p) (s.lock_sequences p)
 row_ended u s x now p f h =
     subst (λ (d : Option ℕ). OpenRowShown (get nat_eq u.rows p) (s.standing p && not (leaves s x p)) (s.opened p)
-    (cleared x (s.session_of_open p)) (s.sequence p) d (s.enumeration_location p) (s.lock_sequences p)) (deadline_left s x now p)
+    (cleared x (s.session_of_open p)) (s.sequence p) d (s.enumeration_location p, s.current_byte_offset p) (s.lock_sequences p)) (deadline_left s x now p)
     (subst (λ (z : Option ℕ). OpenRowShown (get nat_eq u.rows p) (s.standing p && not (leaves s x p)) (s.opened p) z (s.sequence p)
     (dated x now (s.opened p) ((dropped s (plain_of s x)).session_of_open p) ((dropped s (plain_of s x)).deadline p))
-    (s.enumeration_location p) (s.lock_sequences p)) (session_left s x p)
+    (s.enumeration_location p, s.current_byte_offset p) (s.lock_sequences p)) (session_left s x p)
     (subst (λ (b : Bool). OpenRowShown (get nat_eq u.rows p) b (s.opened p) (cleared x ((dropped s (plain_of s x)).session_of_open p))
     (s.sequence p) (dated x now (s.opened p) ((dropped s (plain_of s x)).session_of_open p) ((dropped s (plain_of s x)).deadline p))
-    (s.enumeration_location p) (s.lock_sequences p)) (standing_left s x p f) h))
+    (s.enumeration_location p, s.current_byte_offset p) (s.lock_sequences p)) (standing_left s x p f) h))
 
 file_ended : (u : Opens) (s : Server) (x f : ℕ) → Fits s
     → HeldShown (get nat_eq u.files f) (sharing_in s.opened (dropped s (plain_of s x)).opens f) ((dropped s (plain_of s x)).ranges f)

@@ -1,7 +1,7 @@
 -- Tables of which one or two are others.
 use Rattle.std.proofs.Common.{◌≡◌, ℕ, Bool, true, false, if◌then◌else◌, sym, ap, subst, ◌∙◌}
 use Rattle.spec_exchange.specs.Files.{exists, set_delete_pending}
-use Rattle.spec_exchange.specs.Opens.{drop_open, leave_open, without_gone}
+use Rattle.spec_exchange.specs.Opens.{drop_open, leave_open, left_file}
 use Rattle.spec_exchange.specs.State.{Server}
 use Rattle.store_files.specs.declared.file_tree.tree.Tree.{Tree}
 use Rattle.store_opens.specs.open_table.Shown.{ShowsOpens}
@@ -62,10 +62,10 @@ unfolding exists
 exists_marked s f q e = e
 
 pub parting : (t2 t3 : Tables) (u : Server) (o f z : ℕ) → z ≡ f → exists u f ≡ true → TablesShown t2 (drop_open u o)
-    → ((v : Server) → TablesShown t2 v → exists v z ≡ true → TablesShown t3 (without_gone v z))
-    → TablesShown t3 (without_gone (drop_open u o) f)
+    → ((v : Server) → TablesShown t2 v → exists v z ≡ true → TablesShown t3 (left_file v z))
+    → TablesShown t3 (left_file (drop_open u o) f)
 parting t2 t3 u o f z e ex h drop =
-    subst (λ (q : ℕ). TablesShown t3 (without_gone (drop_open u o) q)) e
+    subst (λ (q : ℕ). TablesShown t3 (left_file (drop_open u o) q)) e
     (drop (drop_open u o) h (subst (λ (q : ℕ). exists (drop_open u o) q ≡ true) (sym e) (exists_dropped u o f ex)))
 
 pub quietly : (t : Tables) (s : Server) (o : ℕ) (q : Bool) → q ≡ true → TablesShown t (drop_open s o) → TablesShown t (left_behind s o q)

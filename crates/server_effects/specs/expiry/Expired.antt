@@ -1,7 +1,7 @@
 -- An open that was taken out in front of an event, with its file where that goes, as the state has it (MS-SMB2 3.3.6.2).
 use Rattle.std.specs.Prelude.{◌≡◌, ℕ, Bool, true, false, if◌then◌else◌, Option, Some, None, ⊤}
 use Rattle.spec_exchange.specs.State as model
-use Rattle.spec_exchange.specs.Opens.{goes, drop_open, pending_behind}
+use Rattle.spec_exchange.specs.Opens.{goes, is_kept_back, drop_open, pending_behind}
 use Rattle.spec_exchange.specs.Files.{remove_file}
 use Rattle.store_opens.specs.open_table.Changes.{is_expired_in}
 use Rattle.store_opens.specs.open_table.Shown.{HasOpensRoom, ShowsOpens}
@@ -12,6 +12,8 @@ use Rattle.store_files.specs.file_tree.Shown.{ShowsFiles}
 use Rattle.store_files.specs.declared.file_tree.gone.Gone.{Gone}
 use Rattle.store_files.specs.declared.file_tree.tree.Tree.{Tree}
 use Rattle.server_effects.specs.declared.expiry.expiry.Expired.{Expired}
+use Rattle.server_effects.specs.declared.fates.Fate.{Fate}
+use Rattle.server_effects.specs.Fates.{fate_of}
 
 abbrev pub ShowsBoth : Opens → Tree → model.Server → Type 0
 ShowsBoth t f s = ShowsOpens t s × ShowsFiles f s
@@ -19,6 +21,13 @@ ShowsBoth t f s = ShowsOpens t s × ShowsFiles f s
 -- its file goes with it
 abbrev pub goes_behind : model.Server → ℕ → Bool
 goes_behind s o = goes (drop_open (pending_behind s o) o) (s.opened o).file
+
+-- or it can't go, and loses its mark
+abbrev pub kept_behind : model.Server → ℕ → Bool
+kept_behind s o = is_kept_back (drop_open (pending_behind s o) o) (s.opened o).file
+
+abbrev pub fate_behind : model.Server → ℕ → Fate
+fate_behind s o = fate_of (kept_behind s o) (goes_behind s o)
 
 -- its file where that went with it, and else none
 abbrev pub GoneWith : Bool → Option Gone → model.Server → ℕ → Type 0

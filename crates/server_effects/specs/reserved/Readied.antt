@@ -1,6 +1,7 @@
 -- The verdict that what was made ready stands for, with what it leaves to its request.
 use Rattle.std.specs.Prelude.{ℕ, ◌-◌, Option, Some, None, length, map}
 use Rattle.spec_exchange.specs.Commands as asks
+use Rattle.spec_exchange.specs.State.{Empty}
 use Rattle.spec_exchange.specs.Verdict as verdicts
 use Rattle.wire_commands.specs.values.Meaning.{body_of}
 use Rattle.store_opens.specs.share_modes.Locking.{range_of}
@@ -44,7 +45,8 @@ readied c (readies.Attach id) = verdicts.Attach id (create_in c)
 readied c (readies.Make file row) = verdicts.Make (create_in c) (found_of file) row.action
 readied c (readies.TurnDown id status) = verdicts.TurnDown id status
 readied c (readies.Tell id body) = verdicts.Tell id (body_of body)
-readied c (readies.Show id last body) = verdicts.Show id last (body_of body)
+readied c (readies.Show id last body) = verdicts.Show id (verdicts.Behind last) (body_of body)
+readied c (readies.Seek id position) = verdicts.Show id (verdicts.At position) Empty
 readied c (readies.KeepSlot id index number status) = verdicts.KeepSlot id index number status (elements_in c)
 readied c (readies.PutRanges id index number ranges) = verdicts.PutRanges id index number (map range_of ranges.items) (elements_in c)
 readied c (readies.Alter id change body acts) = verdicts.Alter id (reserved_changed c change) (body_of body)

@@ -7,10 +7,11 @@ ghost use Rattle.store_files.specs.file_tree.Shown.{ShowsFiles};
 ghost use Rattle.store_opens.specs.open_table.Changes.{is_expired_in};
 ghost use Rattle.store_opens.specs.open_table.Shown.{HasExpiredRoom, HasOpensRoom, ShowsOpens};
 ghost use Rattle.store_opens.specs.open_table.Taken.{IsTaken, IsUndated, TakenFor};
-ghost use Rattle.server_effects.specs.expiry.Expired.{ExpiredFor, GoneWith, HasRoomBack, IsExpired, ShowsBoth, behind_gone, goes_behind};
+ghost use Rattle.server_effects.specs.expiry.Expired.{ExpiredFor, GoneWith, HasRoomBack, IsExpired, ShowsBoth, behind_gone, fate_behind, goes_behind};
 ghost use Rattle.law_server.specs.tables.Fits.{Fits};
 
-use crate::leaving_opens::goes_with;
+use crate::fates::Fate;
+use crate::leaving_opens::fate_with;
 use server_checks::deletes_on_close;
 use std::alloc::AllocError;
 use store_files::{Gone, Tree};
@@ -50,8 +51,8 @@ fn has_all_guids(opens: &Opens) -> bool
     opens.expired_count() >= MAX_EXPIRED_GUIDS
 }
 
-/// Takes out an open that expires: it leaves, with its file where that goes, and its guids count as expired. Where there is no
-/// memory the state is as before.
+/// Takes out an open that expires: it leaves, with its file where that goes, or without the mark of one that can't, and its guids
+/// count as expired. Where there is no memory the state is as before.
 pub fn take_expired(
     opens: &mut Opens,
     tree: &mut Tree,
@@ -63,9 +64,9 @@ pub fn take_expired(
         (λ _. ShowsBoth opens.new tree.new s) }
     ensures room { IfOk result (λ x. HasRoomBack opens.new x) }
 {
-    let goes = goes_with(opens, tree, id);
+    let fate = fate_with(opens, tree, id);
     match opens.reserve_expired() {
-        Ok(_) => take_open(opens, tree, id, goes),
+        Ok(_) => take_open(opens, tree, id, fate),
         Err(error) => Err(error),
     }
 }
@@ -75,17 +76,17 @@ fn take_open(
     opens: &mut Opens,
     tree: &mut Tree,
     id: u64,
-    goes: bool,
+    fate: Fate,
 ) -> Result<Option<Expired>, AllocError>
     requires { HasExpiredRoom opens.old }
     ensures shows { (s : Server) → Fits s → ShowsBoth opens.old tree.old s → s.standing id ≡ true → s.session_of_open id ≡ None
-        → goes ≡ goes_behind s id → nat_lt s.expired_count max_expired_guids ≡ true
+        → fate ≡ fate_behind s id → nat_lt s.expired_count max_expired_guids ≡ true
         → MatchResult result (λ x. ExpiredFor opens.new x s id × ShowsBoth opens.new tree.new (expire s id))
         (λ _. ShowsBoth opens.new tree.new s) }
     ensures back { IfOk result (λ x. HasRoomBack opens.new x) }
 {
     match opens.take(id) {
-        Ok(taken) => take_some(opens, tree, taken, goes),
+        Ok(taken) => take_some(opens, tree, taken, fate),
         Err(error) => Err(error),
     }
 }
@@ -95,19 +96,19 @@ fn take_some(
     opens: &mut Opens,
     tree: &mut Tree,
     taken: Option<Taken>,
-    goes: bool,
+    fate: Fate,
 ) -> Result<Option<Expired>, AllocError>
     requires room { HasOpensRoom opens.old }
     requires guids { HasExpiredRoom opens.old }
     ensures shows { (s : Server) (o : ℕ) → Fits s → s.standing o ≡ true → s.session_of_open o ≡ None → TakenFor taken s o
-        → ShowsOpens opens.old (drop_open s o) → ShowsFiles tree.old s → IsUndated opens.old s o → goes ≡ goes_behind s o
+        → ShowsOpens opens.old (drop_open s o) → ShowsFiles tree.old s → IsUndated opens.old s o → fate ≡ fate_behind s o
         → nat_lt s.expired_count max_expired_guids ≡ true
         → MatchResult result (λ x. ExpiredFor opens.new x s o × ShowsBoth opens.new tree.new (expire s o))
         (λ _. ShowsBoth opens.new tree.new s) }
     ensures back { IfOk result (λ x. HasRoomBack opens.new x) }
 {
     match taken {
-        Some(taken) => take_file(opens, tree, taken, goes),
+        Some(taken) => take_file(opens, tree, taken, fate),
         None => Ok(None),
     }
 }
@@ -117,19 +118,19 @@ fn take_file(
     opens: &mut Opens,
     tree: &mut Tree,
     taken: Taken,
-    goes: bool,
+    fate: Fate,
 ) -> Result<Option<Expired>, AllocError>
     requires room { HasOpensRoom opens.old }
     requires guids { HasExpiredRoom opens.old }
     ensures shows { (s : Server) (o : ℕ) → Fits s → s.standing o ≡ true → s.session_of_open o ≡ None → IsTaken taken s o
-        → ShowsOpens opens.old (drop_open s o) → ShowsFiles tree.old s → IsUndated opens.old s o → goes ≡ goes_behind s o
+        → ShowsOpens opens.old (drop_open s o) → ShowsFiles tree.old s → IsUndated opens.old s o → fate ≡ fate_behind s o
         → nat_lt s.expired_count max_expired_guids ≡ true
         → MatchResult result (λ x. ExpiredFor opens.new x s o × ShowsBoth opens.new tree.new (expire s o))
         (λ _. ShowsBoth opens.new tree.new s) }
     ensures back { IfOk result (λ x. HasRoomBack opens.new x) }
 {
-    match gone_with(tree, taken.row.file, goes) {
-        Ok(gone) => Ok(Some(expire_taken(opens, tree, taken, gone))),
+    match gone_with(tree, taken.row.file, fate.goes()) {
+        Ok(gone) => Ok(Some(expire_taken(opens, tree, taken, gone, fate))),
         Err(error) => {
             opens.put_back(taken);
             Err(error)
@@ -149,12 +150,19 @@ fn gone_with(tree: &mut Tree, file: u64, goes: bool) -> Result<Option<Gone>, All
     Ok(None)
 }
 
-// Behind an open that was taken out, with its file where that goes: the file is delete pending by it, and its guids are kept.
-fn expire_taken(opens: &mut Opens, tree: &mut Tree, taken: Taken, gone: Option<Gone>) -> Expired
+// Behind an open that was taken out, with its file where that goes: the file is delete pending by it, or no longer, and its guids
+// are kept.
+fn expire_taken(
+    opens: &mut Opens,
+    tree: &mut Tree,
+    taken: Taken,
+    gone: Option<Gone>,
+    fate: Fate,
+) -> Expired
     requires { HasExpiredRoom opens.old }
     ensures shows { (s : Server) (o : ℕ) → Fits s → s.standing o ≡ true → IsTaken taken s o → ShowsOpens opens.old (drop_open s o)
         → ShowsFiles tree.old (behind_gone s o) → GoneWith (goes_behind s o) gone s (s.opened o).file → IsUndated opens.old s o
-        → HasOpensRoom opens.old → nat_lt s.expired_count max_expired_guids ≡ true
+        → fate ≡ fate_behind s o → HasOpensRoom opens.old → nat_lt s.expired_count max_expired_guids ≡ true
         → IsExpired opens.new result s o × ShowsBoth opens.new tree.new (expire s o) }
     ensures room { HasOpensRoom opens.old → HasOpensRoom opens.new }
 {
@@ -163,7 +171,9 @@ fn expire_taken(opens: &mut Opens, tree: &mut Tree, taken: Taken, gone: Option<G
     let guid = taken.row.guid;
     let was_kept = is_kept(opens, client, guid);
     let was_pending = tree.info(file).marked;
+    // In this order: a directory that can't go loses the mark that its open left too.
     mark_if(tree, file, deletes_on_close(taken.row.options));
+    unmark_if(tree, file, fate.is_unmarked());
     opens.expire_guid(client, guid);
     Expired {
         taken,
@@ -188,6 +198,14 @@ fn mark_if(tree: &mut Tree, file: u64, deletes: bool)
 {
     if deletes {
         tree.mark(file, true);
+    }
+}
+
+fn unmark_if(tree: &mut Tree, file: u64, unmarked: bool)
+    ensures { (s : Server) → ShowsFiles tree.old s → ShowsFiles tree.new (if unmarked then set_delete_pending s file false else s) }
+{
+    if unmarked {
+        tree.mark(file, false);
     }
 }
 

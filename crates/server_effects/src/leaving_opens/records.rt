@@ -4,12 +4,14 @@ ghost use Rattle.spec_exchange.specs.Opens.{leave_open, leave_records};
 ghost use Rattle.spec_exchange.specs.State.{Server};
 ghost use Rattle.store_files.specs.file_tree.Shown.{ShowsFiles};
 ghost use Rattle.journal.specs.record_bytes.Meaning.{record_of, records_of};
-ghost use Rattle.law_records.specs.leaving_opens.Since.{AllStand, left_records, marked_records, went_records};
+ghost use Rattle.law_records.specs.leaving_opens.Since.{AllStand, left_records, marked_records, parted_records};
 ghost use Rattle.store_opens.specs.open_table.Rows.{open_of};
 ghost use Rattle.store_opens.specs.open_table.Shown.{ShowsOpens};
 ghost use Rattle.law_server.specs.tables.Fits.{Fits, is_ascending};
+ghost use Rattle.server_effects.specs.Fates.{removed_by, unmarked_by};
 ghost use Rattle.server_effects.specs.leaving_opens.Left.{HasLeft};
 
+use crate::fates::Fate;
 use crate::leaving_opens::leaving::Leaving;
 use crate::leaving_opens::step::step_of;
 use journal::{Origin, Record, Records};
@@ -89,8 +91,8 @@ fn leave_row(
     let step = step_of(opens, tree, leaving, row)?;
     // The open's record before its file's, since a fold removes no file that has an open.
     push_left(records, origin, id, row, step.marks)?;
-    push_gone(records, origin, row.file, step.goes)?;
-    leaving.put(row.file, step.left, step.goes)
+    push_parted(records, origin, row.file, step.fate)?;
+    leaving.put(row.file, step.left, step.fate.goes())
 }
 
 // That an open left, where it is persistent; else that its file is delete pending by it, where it marks it.
@@ -133,19 +135,28 @@ fn push_marked(
     )
 }
 
-// That a file went, where it goes.
-pub(crate) fn push_gone(
+// What became of a file: that it went, or that it is delete pending no longer.
+pub(crate) fn push_parted(
     records: &mut Records,
     origin: Origin,
     file: u64,
-    goes: bool,
+    fate: Fate,
 ) -> Result<(), AllocError>
-    ensures { OnOk result (records_of records.new ≡ records_of records.old ++ went_records goes origin file) }
+    ensures { OnOk result (records_of records.new
+        ≡ records_of records.old ++ parted_records (unmarked_by fate) (removed_by fate) origin file) }
 {
-    if !goes {
-        return Ok(());
+    match fate {
+        Fate::Stays => Ok(()),
+        Fate::Unmarked => push_record(
+            records,
+            Record::SetDelete {
+                origin,
+                file,
+                marked: false,
+            },
+        ),
+        Fate::Goes => push_record(records, Record::Remove { origin, file }),
     }
-    push_record(records, Record::Remove { origin, file })
 }
 
 pub(crate) fn push_record(records: &mut Records, one: Record) -> Result<(), AllocError>

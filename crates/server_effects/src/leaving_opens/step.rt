@@ -7,20 +7,22 @@ ghost use Rattle.store_files.specs.file_tree.Shown.{ShowsFiles};
 ghost use Rattle.law_records.specs.leaving_opens.Since.{was_pending};
 ghost use Rattle.store_opens.specs.open_table.Rows.{open_of};
 ghost use Rattle.store_opens.specs.open_table.Shown.{ShowsOpens};
-ghost use Rattle.server_effects.specs.leaving_opens.Left.{HasLeft, IsStep, goes_now, marked_by, opens_left};
+ghost use Rattle.server_effects.specs.leaving_opens.Left.{HasLeft, IsStep, goes_now, kept_now, marked_by, opens_left};
+ghost use Rattle.server_effects.specs.Fates.{fate_of};
 
+use crate::fates::Fate;
 use crate::leaving_opens::leaving::{Leaving, Left};
 use server_checks::deletes_on_close;
 use std::alloc::AllocError;
 use store_files::Tree;
 use store_opens::{Opens, Row};
 
-// What is left of the file behind it, whether it is the one that makes the file delete pending, and whether the file goes.
+// What is left of the file behind it, whether it is the one that makes the file delete pending, and what becomes of the file.
 #[derive(Copy, Clone)]
 pub(crate) struct Step {
     pub left: Left,
     pub marks: bool,
-    pub goes: bool,
+    pub fate: Fate,
 }
 
 pub(crate) fn step_of(
@@ -37,12 +39,12 @@ pub(crate) fn step_of(
     let before = is_pending(tree, leaving, row.file);
     let deletes = deletes_on_close(row.options);
     let pending = before | deletes;
-    let goes = goes(opens, tree, leaving, row.file, pending)?;
+    let fate = fate(opens, tree, leaving, row.file, pending)?;
     let opens = one_more(opens, leaving, row.file);
     Ok(Step {
         left: Left { opens, pending },
         marks: deletes & !before,
-        goes,
+        fate,
     })
 }
 
@@ -67,26 +69,32 @@ fn is_pending(tree: &Tree, leaving: &Leaving, file: u64) -> bool
     tree.info(file).marked || leaving.of(file).pending
 }
 
-fn goes(
+fn fate(
     opens: &Opens,
     tree: &Tree,
     leaving: &Leaving,
     file: u64,
     pending: bool,
-) -> Result<bool, AllocError>
+) -> Result<Fate, AllocError>
     ensures { IfOk result (λ b. (s u : Server) → ShowsOpens opens.now s → ShowsFiles tree.now s → HasLeft leaving.now s u
-        → exists u file ≡ true → exists s file ≡ true → b ≡ goes_now leaving.now s u file pending) }
+        → exists u file ≡ true → exists s file ≡ true
+        → b ≡ fate_of (kept_now leaving.now s u file pending) (goes_now leaving.now s u file pending)) }
 {
     if !pending {
-        return Ok(false);
+        return Ok(Fate::Stays);
     }
     if file == 0 {
-        return Ok(false);
+        return Ok(Fate::Stays);
     }
     if !is_last_open(opens, leaving, file) {
-        return Ok(false);
+        return Ok(Fate::Stays);
     }
-    is_empty(tree, leaving, file)
+    let empty = is_empty(tree, leaving, file)?;
+    if empty {
+        Ok(Fate::Goes)
+    } else {
+        Ok(Fate::Unmarked)
+    }
 }
 
 // The open is the file's last.

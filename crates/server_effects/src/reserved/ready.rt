@@ -81,6 +81,10 @@ pub enum Ready {
         last: Option<Text>,
         body: Body,
     },
+    Seek {
+        id: u64,
+        position: u64,
+    },
     KeepSlot {
         id: u64,
         index: u32,

@@ -7,10 +7,10 @@ ghost use Rattle.server_checks.specs.Shown.{TablesShown};
 ghost use Rattle.server_effects.specs.session_ends.Ended.{all_left, first_left, left_behind};
 ghost use Rattle.law_server.specs.tables.Fits.{Fits};
 
-use crate::{drop_gone, mark_behind};
+use crate::{mark_behind, part};
 use server_checks::Tables;
 
-/// An open leaves, and its file with it where it goes.
+/// An open leaves, and its file with it where it goes; a directory that can't go loses its mark.
 pub fn leave_open(t: &mut Tables, id: u64)
     ensures shows { (s : Server) → Fits s → TablesShown t.old s → s.standing id ≡ true → TablesShown t.new (says.leave_open s id) }
     ensures kept { t.new ≡ record t.old { opens = t.new.opens; tree = t.new.tree } }
@@ -18,7 +18,7 @@ pub fn leave_open(t: &mut Tables, id: u64)
     let file = t.opens.file_of(id);
     mark_behind(t, id);
     leave(t, id);
-    drop_gone(t, file);
+    part(t, file);
 }
 
 fn leave(t: &mut Tables, id: u64)

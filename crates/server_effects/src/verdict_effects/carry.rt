@@ -14,7 +14,7 @@ use crate::reserved::Ready;
 use crate::verdict_effects::sessions::{end_by_message, set_up};
 use crate::{
     Answer, add_tree, alter, attach, close_open, drop_tree, keep_refusal, keep_slot, make,
-    put_ranges, quiet, repeat, show, tell, turn_down,
+    put_ranges, quiet, repeat, seek, show, tell, turn_down,
 };
 use server_checks::Tables;
 use server_checks::status::SUCCESS;
@@ -40,6 +40,7 @@ pub fn carry_out(t: &mut Tables, m: &Message<'_>, ready: Ready, now: u64) -> Ans
         Ready::TurnDown { id, status } => turn_down(t, m, id, status),
         Ready::Tell { id, body } => tell(t, m, id, body),
         Ready::Show { id, last, body } => show(t, m, id, last, body),
+        Ready::Seek { id, position } => seek(t, m, id, position),
         Ready::KeepSlot {
             id,
             index,

@@ -53,6 +53,7 @@ row_for s m r found action row parts user n e x y q = record {
     user_is = refl;
     no_deadline = n.no_deadline;
     no_location = n.no_location;
+    no_position = n.no_position;
     no_slots = n.no_slots;
   };
 }

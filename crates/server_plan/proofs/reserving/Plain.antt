@@ -30,6 +30,7 @@ plain_stands t s m now (readies.Make file row) p h = absurd p
 plain_stands t s m now (readies.TurnDown id status) p h = record { others = others t s h; files = h.files; stands = tt }
 plain_stands t s m now (readies.Tell id body) p h = record { others = others t s h; files = h.files; stands = tt }
 plain_stands t s m now (readies.Show id last body) p h = record { others = others t s h; files = h.files; stands = tt }
+plain_stands t s m now (readies.Seek id position) p h = record { others = others t s h; files = h.files; stands = tt }
 plain_stands t s m now (readies.KeepSlot id index number status) p h = record { others = others t s h; files = h.files; stands = tt }
 plain_stands t s m now (readies.PutRanges id index number ranges) p h = record { others = others t s h; files = h.files; stands = tt }
 plain_stands t s m now (readies.Alter id change body acts) p h = absurd p
@@ -49,6 +50,7 @@ plain_room t x k (readies.Make file row) p = absurd p
 plain_room t x k (readies.TurnDown id status) p = tt
 plain_room t x k (readies.Tell id body) p = tt
 plain_room t x k (readies.Show id last body) p = tt
+plain_room t x k (readies.Seek id position) p = tt
 plain_room t x k (readies.KeepSlot id index number status) p = tt
 plain_room t x k (readies.PutRanges id index number ranges) p = tt
 plain_room t x k (readies.Alter id change body acts) p = absurd p
@@ -68,6 +70,7 @@ plain_alone (readies.Make file row) p = absurd p
 plain_alone (readies.TurnDown id status) p = tt
 plain_alone (readies.Tell id body) p = tt
 plain_alone (readies.Show id last body) p = tt
+plain_alone (readies.Seek id position) p = tt
 plain_alone (readies.KeepSlot id index number status) p = tt
 plain_alone (readies.PutRanges id index number ranges) p = tt
 plain_alone (readies.Alter id change body acts) p = absurd p
@@ -98,21 +101,23 @@ pub rest_wants : (c : Command) (v : Verdict)
     → ((id status : ℕ) → v ≡ codes.TurnDown id status → ⊥)
     → ((id : ℕ) (body : Body) → v ≡ codes.Tell id body → ⊥)
     → ((id : ℕ) (last : Option (List ℕ)) (body : Body) → v ≡ codes.Show id last body → ⊥)
+    → ((id position : ℕ) → v ≡ codes.Seek id position → ⊥)
     → ((id index number status : ℕ) → v ≡ codes.KeepSlot id index number status → ⊥)
     → ((id index number : ℕ) (ranges : Vec Range Global) → v ≡ codes.PutRanges id index number ranges → ⊥)
     → ((id : ℕ) (body : Body) → v ≡ codes.CloseOpen id body → ⊥)
     → ((session : ℕ) (quiet : Bool) → v ≡ codes.EndSession session quiet → ⊥)
     → wants_memory (verdict_of c v) ≡ true
-rest_wants c (codes.Refuse status) h1 h2 h3 h4 h5 h6 h7 h8 h9 = absurd (h1 status refl)
-rest_wants c (codes.Give body) h1 h2 h3 h4 h5 h6 h7 h8 h9 = absurd (h2 body refl)
-rest_wants c (codes.TurnDown id status) h1 h2 h3 h4 h5 h6 h7 h8 h9 = absurd (h3 id status refl)
-rest_wants c (codes.Tell id body) h1 h2 h3 h4 h5 h6 h7 h8 h9 = absurd (h4 id body refl)
-rest_wants c (codes.Show id last body) h1 h2 h3 h4 h5 h6 h7 h8 h9 = absurd (h5 id last body refl)
-rest_wants c (codes.KeepSlot id index number status) h1 h2 h3 h4 h5 h6 h7 h8 h9 = absurd (h6 id index number status refl)
-rest_wants c (codes.PutRanges id index number ranges) h1 h2 h3 h4 h5 h6 h7 h8 h9 = absurd (h7 id index number ranges refl)
-rest_wants c (codes.CloseOpen id body) h1 h2 h3 h4 h5 h6 h7 h8 h9 = absurd (h8 id body refl)
-rest_wants c (codes.EndSession session quiet) h1 h2 h3 h4 h5 h6 h7 h8 h9 = absurd (h9 session quiet refl)
-rest_wants c _ h1 h2 h3 h4 h5 h6 h7 h8 h9 = refl
+rest_wants c (codes.Refuse status) h1 h2 h3 h4 h5 h6 h7 h8 h9 h10 = absurd (h1 status refl)
+rest_wants c (codes.Give body) h1 h2 h3 h4 h5 h6 h7 h8 h9 h10 = absurd (h2 body refl)
+rest_wants c (codes.TurnDown id status) h1 h2 h3 h4 h5 h6 h7 h8 h9 h10 = absurd (h3 id status refl)
+rest_wants c (codes.Tell id body) h1 h2 h3 h4 h5 h6 h7 h8 h9 h10 = absurd (h4 id body refl)
+rest_wants c (codes.Show id last body) h1 h2 h3 h4 h5 h6 h7 h8 h9 h10 = absurd (h5 id last body refl)
+rest_wants c (codes.Seek id position) h1 h2 h3 h4 h5 h6 h7 h8 h9 h10 = absurd (h6 id position refl)
+rest_wants c (codes.KeepSlot id index number status) h1 h2 h3 h4 h5 h6 h7 h8 h9 h10 = absurd (h7 id index number status refl)
+rest_wants c (codes.PutRanges id index number ranges) h1 h2 h3 h4 h5 h6 h7 h8 h9 h10 = absurd (h8 id index number ranges refl)
+rest_wants c (codes.CloseOpen id body) h1 h2 h3 h4 h5 h6 h7 h8 h9 h10 = absurd (h9 id body refl)
+rest_wants c (codes.EndSession session quiet) h1 h2 h3 h4 h5 h6 h7 h8 h9 h10 = absurd (h10 session quiet refl)
+rest_wants c _ h1 h2 h3 h4 h5 h6 h7 h8 h9 h10 = refl
 
 -- ---- what wants room alone
 

@@ -48,6 +48,7 @@ alone_step t k p now (readies.Make file row) h = λ keys pending l. tt
 alone_step t k p now (readies.TurnDown id status) h = λ keys pending l. tt
 alone_step t k p now (readies.Tell id body) h = λ keys pending l. tt
 alone_step t k p now (readies.Show id last body) h = λ keys pending l. tt
+alone_step t k p now (readies.Seek id position) h = λ keys pending l. tt
 alone_step t k p now (readies.KeepSlot id index number status) h = λ keys pending l. tt
 alone_step t k p now (readies.PutRanges id index number ranges) h = λ keys pending l. tt
 alone_step t k p now (readies.Alter id change body acts) h = λ keys pending l. tt

@@ -74,6 +74,7 @@ fn plain_ready(verdict: Verdict) -> Result<Ready, AllocError>
         Verdict::TurnDown { id, status } => Ok(Ready::TurnDown { id, status }),
         Verdict::Tell { id, body } => Ok(Ready::Tell { id, body }),
         Verdict::Show { id, last, body } => Ok(Ready::Show { id, last, body }),
+        Verdict::Seek { id, position } => Ok(Ready::Seek { id, position }),
         Verdict::KeepSlot {
             id,
             index,

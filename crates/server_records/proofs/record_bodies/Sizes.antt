@@ -62,10 +62,10 @@ none_fits : (s : Server) → fits s [] ≡ true
 unfolding fits
 none_fits s = refl
 
-some_fit : (s : Server) (r : model.Record) (rs : List model.Record)
+some_fit : (s : Server) (r : model.Record) (rs : List model.Record) → s.limit ≡ 939524096
     → fits s (r ∷ rs) ≡ nat_le (s.journal + (5 + records_size (r ∷ rs))) 939524096
 unfolding fits entry_bytes
-some_fit s r rs = refl
+some_fit s r rs h = ap (λ (n : ℕ). nat_le (s.journal + (5 + records_size (r ∷ rs))) n) h
 
 fits_more : (j m n : ℕ) → n ≡ m → 5 ≤ m → nat_le (j + (5 + m)) 939524096 ≡ fits_by j n
 fits_more j m n e h =
@@ -77,8 +77,9 @@ fits_more j m n e h =
     skip true v w e i = absurd (cc)
     skip false v w e i = i
 
-pub fits_as : (s : Server) (body : List ℕ) (rs : List model.Record) → IsBodyOf body rs → fits s rs ≡ fits_by s.journal (length body)
-fits_as s body rs is = by is.0 is.1 is.2
+pub fits_as : (s : Server) (body : List ℕ) (rs : List model.Record) → s.limit ≡ 939524096 → IsBodyOf body rs
+    → fits s rs ≡ fits_by s.journal (length body)
+fits_as s body rs whole is = by is.0 is.1 is.2
   where
     by : (front : List Record) → records_of front ≡ rs → IsBody body front → fits s rs ≡ fits_by s.journal (length body)
     by [] e b =
@@ -86,7 +87,7 @@ fits_as s body rs is = by is.0 is.1 is.2
         ∙ (none_fits s ∙ ap (λ (m : List ℕ). fits_by s.journal (length m)) (sym b))
     by (r ∷ front) e b =
         sym (ap (λ (v : List model.Record). fits s v) e)
-        ∙ (some_fit s (record_of r) (records_of front)
+        ∙ (some_fit s (record_of r) (records_of front) whole
         ∙ fits_more s.journal (records_size (records_of (r ∷ front))) (length body) (as_many body r front b)
         (several (record_of r) (records_of front)))
 

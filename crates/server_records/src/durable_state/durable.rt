@@ -1,17 +1,20 @@
 //! The durable part of a state, with its epochs and versions.
-ghost use Rattle.std.specs.Prelude.{◌≡◌, ◌+◌, ◌==◌, ◌&&◌, ℕ, not, true, OnOk};
+ghost use Rattle.std.specs.Prelude.{◌≡◌, ◌+◌, ◌++◌, ◌==◌, ◌&&◌, ℕ, not, true, OnOk};
 ghost use Rattle.std.specs.BTreeSet.{IsOrdered, contains};
 ghost use Rattle.std.specs.Ordering.{nat_cmp};
 ghost use Rattle.spec_exchange.specs.Files.{exists, set_delete_pending};
-ghost use Rattle.spec_exchange.specs.Fold.{begin_epoch, nothing_yet, set_version, sweep};
+ghost use Rattle.spec_exchange.specs.Fold.{begin_epoch, nothing_yet, set_version, sweep, unmark_records};
 ghost use Rattle.spec_exchange.specs.Opens.{file_has_open, without_gone};
+ghost use Rattle.spec_exchange.specs.Records.{origin_at};
 ghost use Rattle.spec_exchange.specs.State.{Server};
+ghost use Rattle.journal.specs.record_bytes.Meaning.{records_of};
 ghost use Rattle.store_files.specs.file_tree.Shown.{ShowsFiles};
 ghost use Rattle.store_opens.specs.open_table.Shown.{ShowsOpens};
-ghost use Rattle.law_records.specs.fold.Order.{swept_of};
+ghost use Rattle.law_records.specs.fold.Order.{mark_at, marks_of, swept_of};
 ghost use Rattle.server_records.specs.durable_state.Durable.{DurableShown};
 ghost use Rattle.law_server.specs.tables.Fits.{Fits};
 
+use journal::{Origin, Record, Records};
 use std::alloc::{AllocError, Global};
 use std::collections::BTreeSet;
 use store_files::Tree;
@@ -19,7 +22,7 @@ use store_opens::Opens;
 
 // The most that a configuration gives: what was written has to fold, whatever room the next server has.
 /// The room for all files while records are folded, in bytes.
-pub const FULL_ROOM: u64 = 268_435_456;
+pub const FULL_ROOM: u64 = 1_125_899_906_842_624;
 
 /// The part of a server's state that outlives a restart: version and epoch, files, persistent opens with their ranges, slots
 /// and timeouts, and expired guids.
@@ -108,6 +111,15 @@ impl Durable {
         number == 2 && self.version == 1
     }
 
+    /// Adds the records of the marks that a start clears: that each file is delete pending no longer that is so without an open.
+    /// Behind a new epoch those are directories in which something stood at their turn.
+    pub fn push_marks(&self, records: &mut Records) -> Result<(), AllocError>
+        ensures { (s : Server) → Fits s → DurableShown self.now s
+            → OnOk result (records_of records.new ≡ records_of records.old ++ unmark_records s s.entries) }
+    {
+        push_each(&self.tree, &self.opens, &self.pending, records)
+    }
+
     // The file is delete pending from here on, or no longer.
     pub(crate) fn mark(&mut self, file: u64, marked: bool) -> Result<(), AllocError>
         ensures { (s : Server) → DurableShown self.old s → OnOk result (DurableShown self.new (set_delete_pending s file marked)) }
@@ -148,6 +160,48 @@ fn sweep_files(tree: &mut Tree, opens: &Opens, pending: &BTreeSet<u64>)
 {
     for file in pending {
         drop_gone(tree, opens, *file);
+    }
+}
+
+// Of these files each is told that is delete pending and has no open.
+fn push_each(
+    tree: &Tree,
+    opens: &Opens,
+    pending: &BTreeSet<u64>,
+    records: &mut Records,
+) -> Result<(), AllocError>
+    ensures told { (s : Server) → ShowsFiles tree.now s → ShowsOpens opens.now s
+        → OnOk result (records_of records.new ≡ records_of records.old ++ marks_of s pending.now.keys) }
+    ensures ordered { IsOrdered nat_cmp pending.now }
+{
+    for file in pending {
+        push_mark(tree, opens, *file, records)?;
+    }
+    Ok(())
+}
+
+fn push_mark(tree: &Tree, opens: &Opens, file: u64, records: &mut Records) -> Result<(), AllocError>
+    ensures { (s : Server) → ShowsFiles tree.now s → ShowsOpens opens.now s
+        → OnOk result (records_of records.new ≡ records_of records.old ++ mark_at s file) }
+{
+    if !goes(tree, opens, file) {
+        return Ok(());
+    }
+    records.push(Record::SetDelete {
+        origin: no_message(),
+        file,
+        marked: false,
+    })
+}
+
+// No message caused it, and no connection.
+fn no_message() -> Origin
+    ensures { result ≡ origin_at 0 }
+{
+    Origin {
+        session: 0,
+        connection: 0,
+        message: 0,
     }
 }
 

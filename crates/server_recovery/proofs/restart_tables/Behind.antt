@@ -1,15 +1,17 @@
 -- What a restart answers, put together from what it read and what it wrote.
 use Rattle.std.proofs.Common.{◌≡◌, ◌⊎◌, inl, inr, ⊎_elim, ℕ, ◌+◌, ◌≤◌, ◌==◌, Bool, true, false, if◌then◌else◌}
-use Rattle.std.proofs.Common.{List, [], ◌∷◌, ◌++◌, length, Some, None, refl, sym, ap, subst, ◌∙◌, arith}
-use Rattle.std.specs.Prelude.{Ok, Err}
-use Rattle.spec_exchange.specs.Fold.{nothing_yet, fold, fold_from, full_room, opening_records, recovery_records}
+use Rattle.std.proofs.Common.{List, [], ◌∷◌, ◌++◌, length, length-append, drop, Some, None, refl, sym, ap, subst, ◌∙◌, arith}
+use Rattle.std.specs.Prelude.{Result, Ok, Err, IfOk}
+use Rattle.std.proofs.lemmas.List.{drop-map, length-map}
+use Rattle.std.proofs.Math.Seq.{drop-append_seam}
+use Rattle.spec_exchange.specs.Fold.{nothing_yet, fold, fold_from, full_room, epoch_records, unmark_records, opening_records, recovery_records}
 use Rattle.spec_exchange.specs.Records.{entry_bytes}
 use Rattle.spec_exchange.specs.State as model
 use Rattle.spec_exchange.specs.State.{Server, VersionRecord, EpochRecord}
 use Rattle.spec_wire.specs.journal.Grammar.{StandsFor, front}
 use Rattle.spec_wire.specs.journal.Moments.{LeavesOnly, Quiet}
 use Rattle.journal.specs.record_bytes.Grammar.{SpellsRecords}
-use Rattle.journal.specs.record_bytes.Meaning.{records_of}
+use Rattle.journal.specs.record_bytes.Meaning.{record_of, records_of}
 use Rattle.journal.specs.declared.record_bytes.value.Record.{Record}
 use Rattle.journal.specs.declared.record_bytes.value.Record.TheVariants.{Epoch, Create, Write, SetEnd, SetBasic, SetDelete}
 use Rattle.journal.specs.declared.record_bytes.value.Record.TheVariants.{Rename, Remove, Lock, Shut, Version, Expire}
@@ -26,8 +28,8 @@ use Rattle.server_records.proofs.durable_state.Choice.{eq_on}
 use Rattle.server_records.specs.durable_state.Durable.{DurableShown}
 use Rattle.server_records.specs.declared.durable_state.durable.Durable.{Durable}
 use Rattle.law_server.specs.tables.Fits.{Fits, all_sound}
-use Rattle.law_server.proofs.tables.Folded.{sound_recovery}
-use Rattle.law_server.proofs.tables.Logic.{either}
+use Rattle.law_server.proofs.tables.Folded.{folded_keeps, sound_epoch, sound_unmarked}
+use Rattle.law_records.proofs.recovery.Leaves.{fold_append}
 use Rattle.server_recovery.specs.Reading.{BodiesSpell, FoldRefused, HandedOut, IsNothing, IsReadFrom, ReadRefused}
 use Rattle.server_recovery.proofs.Bodies.{spell_more}
 use Rattle.server_recovery.specs.restart_tables.Found.{Found, IsOf, IsRead, with_recovery_records}
@@ -40,10 +42,14 @@ use Rattle.spec_world.specs.Ends.{no_logons}
 
 -- ---- the body that a recovery writes
 
-five : (s : Server) → 5 ≤ entry_bytes (opening_records s)
+five_at : (b : Bool) (n : ℕ) (more : List model.Record)
+    → 5 ≤ entry_bytes ((if b then VersionRecord 2 ∷ EpochRecord n ∷ [] else EpochRecord n ∷ []) ++ more)
 unfolding entry_bytes
-five s = either (λ rs. 5 ≤ entry_bytes rs) (s.version == 1) (VersionRecord 2 ∷ EpochRecord (s.epoch + 1) ∷ [])
-    (EpochRecord (s.epoch + 1) ∷ []) (λ _. omega arith) (λ _. omega arith)
+five_at true n more = omega arith
+five_at false n more = omega arith
+
+five : (s : Server) → 5 ≤ entry_bytes (opening_records s)
+five s = let b = fold_from s (epoch_records s) in five_at (s.version == 1) (s.epoch + 1) (unmark_records b b.entries)
 
 opening_adds : (body : List ℕ) (s : Server) → added_by body ≡ entry_bytes (opening_records s)
     → entry_bytes (opening_records s) ≡ 5 + length body
@@ -59,65 +65,102 @@ abbrev some_records : Bool → List model.Record → Bool
 some_records b [] = false
 some_records b (r ∷ rs) = true
 
--- behind a version of 1 the record of version 2 is spelled as in version 2
-spells_1 : (rs : List Record) (n : ℕ) (body : List ℕ) → records_of rs ≡ VersionRecord 2 ∷ EpochRecord n ∷ [] → IsBody body rs
+-- behind a version of 1 the record of version 2 is spelled as in version 2, and so is what follows it
+spells_1 : (rs : List Record) (more : List model.Record) (body : List ℕ) → records_of rs ≡ VersionRecord 2 ∷ more → IsBody body rs
     → SpellsRecords 1 body rs
-spells_1 [] n body e is = absurd (let f : false ≡ true = ap begins e in cc)
-spells_1 (Version k ∷ rest) n body e is =
+spells_1 [] more body e is = absurd (let f : false ≡ true = ap begins e in cc)
+spells_1 (Version k ∷ rest) more body e is =
     let h : SpellsRecords 2 body (Version k ∷ rest) = again body (Version k) rest is in
     (record { fields = h.0.fields; kept = h.0.kept }, h.1)
-spells_1 (Epoch k ∷ rest) n body e is = absurd (let f : false ≡ true = ap begins e in cc)
-spells_1 (Create origin action file path attributes directory time made ∷ rest) n body e is =
+spells_1 (Epoch k ∷ rest) more body e is = absurd (let f : false ≡ true = ap begins e in cc)
+spells_1 (Create origin action file path attributes directory time made ∷ rest) more body e is =
     absurd (let f : false ≡ true = ap begins e in cc)
-spells_1 (Write origin file at time bytes ∷ rest) n body e is = absurd (let f : false ≡ true = ap begins e in cc)
-spells_1 (SetEnd origin file size time ∷ rest) n body e is = absurd (let f : false ≡ true = ap begins e in cc)
-spells_1 (SetBasic origin file basic ∷ rest) n body e is = absurd (let f : false ≡ true = ap begins e in cc)
-spells_1 (SetDelete origin file marked ∷ rest) n body e is = absurd (let f : false ≡ true = ap begins e in cc)
-spells_1 (Rename origin file replaced path ∷ rest) n body e is = absurd (let f : false ≡ true = ap begins e in cc)
-spells_1 (Remove origin file ∷ rest) n body e is = absurd (let f : false ≡ true = ap begins e in cc)
-spells_1 (Lock origin id index number status elements ∷ rest) n body e is = absurd (let f : false ≡ true = ap begins e in cc)
-spells_1 (Shut origin id ∷ rest) n body e is = absurd (let f : false ≡ true = ap begins e in cc)
-spells_1 (Expire origin id ∷ rest) n body e is = absurd (let f : false ≡ true = ap begins e in cc)
+spells_1 (Write origin file at time bytes ∷ rest) more body e is = absurd (let f : false ≡ true = ap begins e in cc)
+spells_1 (SetEnd origin file size time ∷ rest) more body e is = absurd (let f : false ≡ true = ap begins e in cc)
+spells_1 (SetBasic origin file basic ∷ rest) more body e is = absurd (let f : false ≡ true = ap begins e in cc)
+spells_1 (SetDelete origin file marked ∷ rest) more body e is = absurd (let f : false ≡ true = ap begins e in cc)
+spells_1 (Rename origin file replaced path ∷ rest) more body e is = absurd (let f : false ≡ true = ap begins e in cc)
+spells_1 (Remove origin file ∷ rest) more body e is = absurd (let f : false ≡ true = ap begins e in cc)
+spells_1 (Lock origin id index number status elements ∷ rest) more body e is = absurd (let f : false ≡ true = ap begins e in cc)
+spells_1 (Shut origin id ∷ rest) more body e is = absurd (let f : false ≡ true = ap begins e in cc)
+spells_1 (Expire origin id ∷ rest) more body e is = absurd (let f : false ≡ true = ap begins e in cc)
 
-none_told : (b : Bool) (n : ℕ) → [] ≡ (if b then VersionRecord 2 ∷ EpochRecord n ∷ [] else EpochRecord n ∷ []) → ⊥
-none_told true n e = let f : false ≡ true = ap (some_records true) e in cc
-none_told false n e = let f : false ≡ true = ap (some_records true) e in cc
+none_told : (b : Bool) (n : ℕ) (more : List model.Record)
+    → [] ≡ (if b then VersionRecord 2 ∷ EpochRecord n ∷ [] else EpochRecord n ∷ []) ++ more → ⊥
+none_told true n more e = let f : false ≡ true = ap (some_records true) e in cc
+none_told false n more e = let f : false ≡ true = ap (some_records true) e in cc
 
-spells_2 : (rs : List Record) (b : Bool) (n : ℕ) (body : List ℕ)
-    → records_of rs ≡ (if b then VersionRecord 2 ∷ EpochRecord n ∷ [] else EpochRecord n ∷ []) → IsBody body rs → SpellsRecords 2 body rs
-spells_2 [] b n body e is = absurd (none_told b n e)
-spells_2 (r ∷ rest) b n body e is = again body r rest is
+spells_2 : (rs : List Record) (b : Bool) (n : ℕ) (more : List model.Record) (body : List ℕ)
+    → records_of rs ≡ (if b then VersionRecord 2 ∷ EpochRecord n ∷ [] else EpochRecord n ∷ []) ++ more → IsBody body rs
+    → SpellsRecords 2 body rs
+spells_2 [] b n more body e is = absurd (none_told b n more e)
+spells_2 (r ∷ rest) b n more body e is = again body r rest is
 
-spells_opening : (version : ℕ) (rs : List Record) (n : ℕ) (body : List ℕ) → (version ≡ 1) ⊎ (version ≡ 2)
-    → records_of rs ≡ (if version == 1 then VersionRecord 2 ∷ EpochRecord n ∷ [] else EpochRecord n ∷ []) → IsBody body rs
+spells_opening : (version : ℕ) (rs : List Record) (n : ℕ) (more : List model.Record) (body : List ℕ) → (version ≡ 1) ⊎ (version ≡ 2)
+    → records_of rs ≡ (if version == 1 then VersionRecord 2 ∷ EpochRecord n ∷ [] else EpochRecord n ∷ []) ++ more → IsBody body rs
     → SpellsRecords version body rs
-spells_opening version rs n body (inl one) e is =
+spells_opening version rs n more body (inl one) e is =
     subst (λ (v : ℕ). SpellsRecords v body rs) (sym one)
-    (spells_1 rs n body (e ∙ ap (λ (b : Bool). if b then VersionRecord 2 ∷ EpochRecord n ∷ [] else EpochRecord n ∷ [])
-    (eq_on version 1 one)) is)
-spells_opening version rs n body (inr two) e is =
-    subst (λ (v : ℕ). SpellsRecords v body rs) (sym two) (spells_2 rs (version == 1) n body e is)
+    (spells_1 rs (EpochRecord n ∷ more) body
+    (e ∙ ap (λ (b : Bool). (if b then VersionRecord 2 ∷ EpochRecord n ∷ [] else EpochRecord n ∷ []) ++ more) (eq_on version 1 one)) is)
+spells_opening version rs n more body (inr two) e is =
+    subst (λ (v : ℕ). SpellsRecords v body rs) (sym two) (spells_2 rs (version == 1) n more body e is)
 
 none_not : (n : ℕ) → None ≡ Some n → ⊥
 none_not n e = cc
 
 -- what the body of a recovery's records is, and what the state follows
 abbrev pub IsOpened : Durable → Durable → List ℕ → Type 0
-IsOpened old new body = (rs : List Record) × IsBody body rs
-    × ((s : Server) → s.version ≡ old.version → s.epoch ≡ old.epoch → records_of rs ≡ opening_records s)
-    × ((s : Server) → Fits s → DurableShown old s → all_sound (records_of rs) ≡ true → DurableShown new (fold_from s (records_of rs)))
+IsOpened old new body = (s : Server) → Fits s → DurableShown old s → (rs : List Record) × IsBody body rs
+    × (records_of rs ≡ opening_records s) × DurableShown new (fold_from s (opening_records s))
 
-pub opened_by : (old new : Durable) (body : List ℕ) (rs xs : List Record) → xs ≡ rs → IsBody body rs
-    → ((s : Server) → s.version ≡ old.version → s.epoch ≡ old.epoch → records_of rs ≡ opening_records s)
-    → ((s : Server) → Fits s → DurableShown old s → all_sound (records_of xs) ≡ true → DurableShown new (fold_from s (records_of xs)))
+-- behind the first records of a list those that were added
+rest_of : (old new : List Record) (count : ℕ) (more : List model.Record) → count ≡ length old → records_of new ≡ records_of old ++ more
+    → records_of (drop count new) ≡ more
+rest_of old new count more n e =
+    sym (drop-map record_of count new)
+    ∙ (ap (λ (v : List model.Record). drop count v) e
+    ∙ (ap (λ (k : ℕ). drop k (records_of old ++ more)) (n ∙ sym (length-map old record_of))
+    ∙ drop-append_seam (records_of old) more))
+
+enough : (old new : List Record) (count : ℕ) (more : List model.Record) → count ≡ length old → records_of new ≡ records_of old ++ more
+    → count ≤ length new
+enough old new count more n e =
+    let all : length (records_of new) ≡ length (records_of old ++ more) = ap (λ (v : List model.Record). length v) e in
+    let both = length-append (records_of old) more in
+    let a = length-map new record_of in let b = length-map old record_of in omega (arith, n, all, both, a, b)
+
+-- the epoch's records first, and behind them the marks that they leave
+pub opened_by : (old mid new : Durable) (body : List ℕ) (first all : List Record) (xs ys : List Record) (count : ℕ) → xs ≡ first
+    → count ≡ length first → (count ≤ length all → ys ≡ drop count all) → IsBody body all
+    → ((s : Server) → s.version ≡ old.version → s.epoch ≡ old.epoch → records_of first ≡ epoch_records s)
+    → ((s : Server) → Fits s → DurableShown old s → all_sound (records_of xs) ≡ true → DurableShown mid (fold_from s (records_of xs)))
+    → ((s : Server) → Fits s → DurableShown mid s → records_of all ≡ records_of first ++ unmark_records s s.entries)
+    → ((s : Server) → Fits s → DurableShown mid s → all_sound (records_of ys) ≡ true → DurableShown new (fold_from s (records_of ys)))
     → IsOpened old new body
-opened_by old new body rs xs e is opening begun = (
-  rs,
-  is,
-  opening,
-  subst (λ (ys : List Record). (s : Server) → Fits s → DurableShown old s → all_sound (records_of ys) ≡ true
-      → DurableShown new (fold_from s (records_of ys))) e begun,
-)
+opened_by old mid new body first all xs ys count x n y is epoch begun marks cleared s i h =
+    let b = fold_from s (epoch_records s) in let more = unmark_records b b.entries in
+    let told : records_of first ≡ epoch_records s = epoch s h.version_is h.epoch_is in
+    let told_xs : records_of xs ≡ epoch_records s = ap (λ (v : List Record). records_of v) x ∙ told in
+    let fits : Fits b = folded_keeps s (epoch_records s) (sound_epoch s) i in
+    let shown : DurableShown mid b = subst (λ (v : List model.Record). DurableShown mid (fold_from s v)) told_xs
+    (begun s i h (ap (λ (v : List model.Record). all_sound v) told_xs ∙ sound_epoch s)) in
+    let added : records_of all ≡ records_of first ++ more = marks b fits shown in
+    let told_ys : records_of ys ≡ more = ap (λ (v : List Record). records_of v) (y (enough first all count more n added))
+    ∙ rest_of first all count more n added in
+    let after : DurableShown new (fold_from b more) = subst (λ (v : List model.Record). DurableShown new (fold_from b v)) told_ys
+    (cleared b fits shown (ap (λ (v : List model.Record). all_sound v) told_ys ∙ sound_unmarked b b.entries)) in (
+      all,
+      is,
+      added ∙ ap (λ (v : List model.Record). v ++ more) told,
+      subst (λ (z : Server). DurableShown new z) (sym (fold_append s (epoch_records s) more)) after,
+    )
+
+-- of the body that they are spelled as
+pub opened_with : {E : Type 0} (old new : Durable) (all : List Record) (r : Result (List ℕ) E) → IfOk r (λ b. IsBody b all)
+    → ((body : List ℕ) → IsBody body all → IsOpened old new body) → IfOk r (λ b. IsOpened old new b)
+opened_with old new all (Ok body) is opened = opened body is
+opened_with old new all (Err x) is opened = tt
 
 module _ {D : Type 0} (told : Type 0) (seen : D → List ℕ) (may_leave : D → List ℕ → Type 0) (faults : D → ℕ) where
   -- what a fold of all its bodies gives
@@ -129,50 +172,41 @@ module _ {D : Type 0} (told : Type 0) (seen : D → List ℕ) (may_leave : D →
   abbrev Stays : JournalState D → JournalState D → Type 0
   Stays old new = told → (all : List (List ℕ)) → JournalSettled seen may_leave old all → JournalSettled seen may_leave new all
 
-  opening_told : (d : Durable) (bodies : List (List ℕ)) (records : List model.Record) (rs : List Record)
-      → IsReadFrom d nothing_yet bodies records
-      → ((s : Server) → s.version ≡ d.version → s.epoch ≡ d.epoch → records_of rs ≡ opening_records s)
-      → records_of rs ≡ recovery_records records
-  opening_told d bodies records rs was opening = opening (fold records) was.shown.version_is was.shown.epoch_is
-
   read_all : (first j : JournalState D) (d : Durable) (bodies : List (List ℕ)) (records : List model.Record) (rs : List Record)
       (body : List ℕ) → IsReadFrom d nothing_yet bodies records → HandedOut told seen may_leave first bodies → Stays first j
-      → ((s : Server) → s.version ≡ d.version → s.epoch ≡ d.epoch → records_of rs ≡ opening_records s) → IsBody body rs
+      → records_of rs ≡ recovery_records records → IsBody body rs
       → told → (all : List (List ℕ)) → JournalSettled seen may_leave first all → IsRead seen may_leave j all bodies records body
-  read_all first j d bodies records rs body was handed stays opening is t all settled =
+  read_all first j d bodies records rs body was handed stays e is t all settled =
       let same : bodies ≡ all = handed t all settled in
       let spelled : BodiesSpell all records = subst (λ (bs : List (List ℕ)). BodiesSpell bs records) same was.spelled in
-      let e : records_of rs ≡ recovery_records records = opening_told d bodies records rs was opening in
+      let b = fold_from (fold records) (epoch_records (fold records)) in
       record {
         same = same;
         spelled = spelled;
         settled = stays t all settled;
         more = subst (λ (xs : List model.Record). BodiesSpell (all ++ body ∷ []) (records ++ xs)) e
             (spell_more nothing_yet all records body rs spelled
-            (spells_opening (fold records).version rs ((fold records).epoch + 1) body (of_fold records).version_is e is));
+            (spells_opening (fold records).version rs ((fold records).epoch + 1) (unmark_records b b.entries) body
+            (of_fold records).version_is e is));
       }
 
   pub found : (first j : JournalState D) (d0 d1 d2 : Durable) (body : List ℕ) → DurableShown d0 nothing_yet
       → (j.stopped ≡ None) × (faults j.disk ≡ faults first.disk) × (j.used ≡ first.used) → Folds first d0 d1
       → Stays first j → IsOpened d1 d2 body
       → Found told seen may_leave faults first j d2 body
-  found first j d0 d1 d2 body new read folds stays o =
-      let rs = o.0 in
+  found first j d0 d1 d2 body new read folds stays opened =
       let e = folds nothing_yet refl new in
       let was : IsReadFrom d1 nothing_yet e.0 e.1 = e.2 in
-      let told_so : records_of rs ≡ recovery_records e.1 = opening_told d1 e.0 e.1 rs was o.2 in
+      let o = opened (fold e.1) was.fits was.shown in
       record {
         bodies = e.0;
         records = e.1;
         goes_on = read.0;
         no_fault = read.1;
         sound = was.sound;
-        shown = subst (λ (x : Server). DurableShown d2 x)
-            (ap (λ (xs : List model.Record). fold_from (fold e.1) xs) told_so ∙ behind e.1)
-            (o.3 (fold e.1) was.fits was.shown
-            (subst (λ (xs : List model.Record). all_sound xs ≡ true) (sym told_so) (sound_recovery (fold e.1))));
-        adds = opening_adds body (fold e.1) (added body (recovery_records e.1) (rs, told_so, o.1));
-        read = read_all first j d1 e.0 e.1 rs body was e.3 stays o.2 o.1;
+        shown = subst (λ (x : Server). DurableShown d2 x) (behind e.1) o.3;
+        adds = opening_adds body (fold e.1) (added body (recovery_records e.1) (o.0, o.2, o.1));
+        read = read_all first j d1 e.0 e.1 o.0 body was e.3 stays o.2 o.1;
       }
 
   -- ---- the answers

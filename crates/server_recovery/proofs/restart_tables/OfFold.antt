@@ -26,6 +26,7 @@ use Rattle.law_records.specs.recovery.Recovers.{RecordOpens, RecordRecovers, sta
 use Rattle.law_records.specs.recovery.Restarted.{Bare}
 use Rattle.law_records.proofs.recovery.Leaves.{fold_append}
 use Rattle.law_records.proofs.recovery.Lists.{in_tail, at_head}
+use Rattle.law_records.proofs.recovery.Marks.{opened_same}
 use Rattle.law_records.proofs.recovery.Restarts.{bare_fold}
 use Rattle.server_records.proofs.durable_state.Choice.{eq_on}
 use Rattle.server_recovery.proofs.Nothing.{nothing_fits}
@@ -222,7 +223,8 @@ other_version version off (inr two) = two
 pub version_2 : (d : Server) → IsOfFold d → (fold_from d (opening_records d)).version ≡ 2
 unfolding fold_from
 version_2 d f =
-    either (λ rs. (fold_from d rs).version ≡ 2) (d.version == 1) (VersionRecord 2 ∷ EpochRecord (d.epoch + 1) ∷ [])
+    ap (λ (x : Server). x.version) (opened_same d)
+    ∙ either (λ rs. (fold_from d rs).version ≡ 2) (d.version == 1) (VersionRecord 2 ∷ EpochRecord (d.epoch + 1) ∷ [])
     (EpochRecord (d.epoch + 1) ∷ [])
     (λ on. version_stays (set_version d 2) (d.epoch + 1) ∙ raised d on)
     (λ off. version_stays d (d.epoch + 1) ∙ other_version d.version off f.version_is)
@@ -244,7 +246,8 @@ epoch_kept s number = either (λ x. x.epoch ≡ s.epoch) ((number == 2) && (s.ve
 pub no_session : (d : Server) → (fold_from d (opening_records d)).session_ids_given ≡ 0
 unfolding fold_from
 no_session d =
-    either (λ rs. (fold_from d rs).session_ids_given ≡ 0) (d.version == 1) (VersionRecord 2 ∷ EpochRecord (d.epoch + 1) ∷ [])
+    ap (λ (x : Server). x.session_ids_given) (opened_same d)
+    ∙ either (λ rs. (fold_from d rs).session_ids_given ≡ 0) (d.version == 1) (VersionRecord 2 ∷ EpochRecord (d.epoch + 1) ∷ [])
     (EpochRecord (d.epoch + 1) ∷ [])
     (λ on. none_begun (set_version d 2) (d.epoch + 1) (ap (λ (n : ℕ). n + 1) (sym (epoch_kept d 2))))
     (λ off. none_begun d (d.epoch + 1) refl)

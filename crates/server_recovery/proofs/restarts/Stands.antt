@@ -1,6 +1,7 @@
 -- Where a server stands behind a restart, under any configuration.
 use Rattle.std.proofs.Common.{ℕ, List}
 use Rattle.spec_exchange.specs.Fold.{Configuration, recovered}
+use Rattle.spec_exchange.specs.Opens.{file_has_open}
 use Rattle.spec_exchange.specs.State.{Record, Server}
 use Rattle.law_records.specs.recovery.Recovers.{RecordRecovers}
 use Rattle.law_records.specs.recovery.Restarted.{EntriesLeft, Restarted}
@@ -33,6 +34,7 @@ stands_again s rs z count r =
 
 pub files_again : (s : Server) (rs : List Record) (z : Configuration) (count : ℕ) → Fits s → RecordRecovers rs s
     → EntriesLeft s (recovered z count rs)
+unfolding file_has_open
 files_again s rs z count i r =
-    let h = entries_left s rs i.listed r in
-    record { were = h.were; not_pending = h.not_pending; held = h.held }
+    let h = entries_left s rs i.listed i.root_stays r in
+    record { were = h.were; not_pending = h.not_pending; held = h.held; held_pending = h.held_pending; opened = h.opened }

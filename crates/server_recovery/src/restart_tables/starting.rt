@@ -10,12 +10,13 @@ ghost use Rattle.journal.specs.disk_journal.Journal.{BeforeOrAfter, JournalState
 ghost use Rattle.journal.specs.declared.disk_journal.journal.JournalError.TheVariants as causes;
 ghost use Rattle.server_records.specs.record_bodies.Body.{IsBody};
 ghost use Rattle.server_records.specs.durable_state.Durable.{DurableShown};
-ghost use Rattle.law_server.specs.tables.Fits.{Fits, all_sound};
+ghost use Rattle.law_server.specs.tables.Fits.{Fits};
 ghost use Rattle.server_recovery.specs.restart_tables.Found.{Found, IsOf};
 ghost use Rattle.server_recovery.specs.restart_tables.Restart.{BeginAnswers, RestartAnswers, RestartLeaves};
 
+use crate::opening::behind;
 use crate::restart_tables::tables::tables_of;
-use crate::{fold_bodies, opening_records};
+use crate::{epoch_records, fold_bodies};
 use base_outside::Disk;
 use journal::{Journal, JournalError};
 use server_checks::{Config, Tables};
@@ -82,16 +83,17 @@ pub fn begin<D: Disk>(
 
 // The body of the records that a recovery adds, which the state then follows.
 fn opened(alloc: Global, state: &mut Durable) -> Result<Bytes, AllocError>
-    ensures { IfOk result (λ body. (rs : List Record) × IsBody body rs
-        × ((s : model.Server) → s.version ≡ state.old.version → s.epoch ≡ state.old.epoch → records_of rs ≡ opening_records s)
-        × ((s : model.Server) → Fits s → DurableShown state.old s → all_sound (records_of rs) ≡ true
-        → DurableShown state.new (fold_from s (records_of rs)))) }
+    ensures { IfOk result (λ body. (s : model.Server) → Fits s → DurableShown state.old s → (rs : List Record) × IsBody body rs
+        × (records_of rs ≡ opening_records s) × DurableShown state.new (fold_from s (opening_records s))) }
 {
-    let records = opening_records(state)?;
-    let body = spelled(alloc, &records)?;
-    // Before the write, so that nothing takes memory after it.
+    let mut records = epoch_records(state)?;
+    let count = records.len();
+    // All of it before the write, so that nothing takes memory after it.
     state.with_records(records.as_slice())?;
-    Ok(body)
+    // Behind the epoch: what went with it has no mark to lose.
+    state.push_marks(&mut records)?;
+    state.with_records(behind(records.as_slice(), count))?;
+    spelled(alloc, &records)
 }
 
 // Puts them onto the disk. Then the tables are those of the state.

@@ -1,7 +1,7 @@
 ghost use Rattle.std.specs.Prelude.{◌≡◌, ◌==◌, ℕ, List, length, true, false, Some, ◌<◌, ◌+◌, drop};
 ghost use Rattle.std.specs.String.{string_bytes};
 ghost use Rattle.spec_exchange.specs.State.{Server};
-ghost use Rattle.spec_exchange.specs.Files.{find, exists, is_directory, has_parent, is_full_directory, has_below};
+ghost use Rattle.spec_exchange.specs.Files.{find, exists, is_directory, has_parent, has_pending_parent, is_full_directory, has_below};
 ghost use Rattle.spec_exchange.specs.Texts.{parent_of};
 ghost use Rattle.store_files.specs.file_tree.Shown.{ShowsFiles, folded, at_key, below_key, FileRowFound};
 ghost use Rattle.std.specs.Str.{bytes_eq};
@@ -92,6 +92,16 @@ impl Tree {
     {
         match self.find(parent_of(path)) {
             Some(file) => return self.is_directory(file),
+            None => return false,
+        }
+    }
+
+    /// Whether the directory in which the path would stand is delete pending.
+    pub fn has_pending_parent(&self, path: &str) -> bool
+        ensures { (s : Server) → ShowsFiles self.now s → result ≡ has_pending_parent s path.now }
+    {
+        match self.find(parent_of(path)) {
+            Some(file) => return self.info(file).marked,
             None => return false,
         }
     }

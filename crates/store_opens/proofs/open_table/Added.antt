@@ -109,25 +109,26 @@ index_added o q d deadline P was false h = was q d h
 
 pub open_added : (t u : Opens) (o : ℕ) (row : Row) (n : ℕ) (trees : ℕ → ℕ) (s : model.Server) → Placed t u o row n
     → ((q : ℕ) → OpenTreeShown (if q == o then Some row else get nat_eq t.rows q) (trees q))
-    → hash_map_len t.rows < 2 ^ 63 → Fits s → ShowsOpens t s → s.standing o ≡ false → row.deadline ≡ None → row.location
-    ≡ None → SlotsShown row.slots (λ i. None)
+    → hash_map_len t.rows < 2 ^ 63 → Fits s → ShowsOpens t s → s.standing o ≡ false → row.deadline ≡ None → row.location ≡ None → row.position ≡ 0
+    → SlotsShown row.slots (λ i. None)
     → ShowsOpens u (record (add_open s o (open_of row) row.session row.sequence) {
       open_ids_given = n;
       tree_of_open = trees;
       guids = guids_with row.session row.guid s.guids;
     })
-open_added t u o row n trees s p shown few i h st no_deadline no_location no_slots =
+open_added t u o row n trees s p shown few i h st no_deadline no_location no_position no_slots =
     record {
       epoch_is = h.epoch_is ∙ sym p.epoch;
       given_is = sym p.given;
       count_is = length_placed o s.opens ∙ ap (λ (v : ℕ). v + 1) h.count_is ∙ sym p.len;
-      rows_are = λ q. rw (p.rows q) (row_added (q == o) _ row _ _ _ _ _ _ _ _ _ _ _ _ _ (h.rows_are q)
+      rows_are = λ q. rw (p.rows q) (row_added (q == o) _ row _ _ _ _ _ _ _ _ _ _ _ _ _ _ _ (h.rows_are q)
           (record {
             opened_is = refl;
             session_is = refl;
             sequence_is = refl;
             deadline_is = sym no_deadline;
             location_is = sym no_location;
+            position_is = sym no_position;
             slots_are = no_slots;
           }));
       trees_are = λ q. rw (p.rows q) (shown q);
@@ -180,7 +181,7 @@ pub row_absent : (t : Opens) (s : model.Server) (o : ℕ) → ShowsOpens t s →
 row_absent t s o h st = by (get nat_eq t.rows o) (h.rows_are o)
   where
     by : (r : Option Row) → OpenRowShown r (s.standing o) (s.opened o) (s.session_of_open o) (s.sequence o) (s.deadline o)
-        (s.enumeration_location o) (s.lock_sequences o) → r ≡ None
+        (s.enumeration_location o, s.current_byte_offset o) (s.lock_sequences o) → r ≡ None
     by None k = refl
     by (Some r) k = absurd (let e = k.0 in cc)
 
@@ -283,6 +284,7 @@ restored_row row w p user new e =
       no_session = refl;
       no_deadline = new.no_deadline;
       no_location = new.no_location;
+      no_position = new.no_position;
       no_slots = new.no_slots;
     })
 

@@ -14,8 +14,9 @@ use Rattle.store_opens.specs.lock_replay.Shown.{SlotsShown}
 use Rattle.store_opens.specs.declared.lock_replay.slots.Slots.{Slots}
 use Rattle.store_opens.specs.declared.open_table.row.Row.{Row}
 use Rattle.store_opens.specs.declared.open_table.table.Opens.{Opens}
-use Rattle.store_opens.specs.open_table.Rows.{OpenRowShown, OpenTreeShown, offered_row, located_row, SlotsPut}
-use Rattle.store_opens.specs.open_table.Changes.{offered_to, located_at}
+use Rattle.store_opens.specs.open_table.Rows.{OpenPlace, OpenRowShown, OpenTreeShown, offered_row, located_row}
+use Rattle.store_opens.specs.open_table.Rows.{positioned_row, SlotsPut}
+use Rattle.store_opens.specs.open_table.Changes.{offered_to, located_at, offset_at}
 use Rattle.store_opens.specs.open_table.Shown.{ShowsOpens}
 
 -- only rows changed, and none came or went
@@ -24,14 +25,20 @@ pub record RowsChanged (t u : Opens) : Type 0 where
   pub len : hash_map_len u.rows ≡ hash_map_len t.rows
 
 pub shows_columns : (t u : Opens) (s : model.Server) (sequence : ℕ → ℕ) (location : ℕ → Option (List ℕ))
-    (locks : ℕ → ℕ → Option model.Kept) → RowsChanged t u
+    (offset : ℕ → ℕ) (locks : ℕ → ℕ → Option model.Kept) → RowsChanged t u
     → ((q : ℕ) → OpenRowShown (get nat_eq u.rows q) (s.standing q) (s.opened q) (s.session_of_open q) (sequence q)
-    (s.deadline q) (location q) (locks q)) → ((q : ℕ) → OpenTreeShown (get nat_eq u.rows q) (s.tree_of_open q)) → ShowsOpens t s
-    → ShowsOpens u (record s { sequence = sequence; enumeration_location = location; lock_sequences = locks })
-shows_columns t u s sequence location locks c rows trees h =
+    (s.deadline q) (location q, offset q) (locks q)) → ((q : ℕ) → OpenTreeShown (get nat_eq u.rows q) (s.tree_of_open q)) → ShowsOpens t s
+    → ShowsOpens u (record s {
+      sequence = sequence;
+      enumeration_location = location;
+      current_byte_offset = offset;
+      lock_sequences = locks;
+    })
+shows_columns t u s sequence location offset locks c rows trees h =
     subst (λ (v : Opens). ShowsOpens v (record s {
       sequence = sequence;
       enumeration_location = location;
+      current_byte_offset = offset;
       lock_sequences = locks;
     })) (sym c.rest) (record {
       epoch_is = h.epoch_is;
@@ -60,7 +67,7 @@ kept_is n k = by (difference n k)
     by d = grind (arith, nat_tests)
 
 row_offered : (b : Bool) (r : Option Row) (n : ℕ) (stands : Bool) (opened : model.Open) (session : Option ℕ)
-    (sequence : ℕ) (deadline : Option ℕ) (location : Option (List ℕ)) (locks : ℕ → Option model.Kept)
+    (sequence : ℕ) (deadline : Option ℕ) (location : OpenPlace) (locks : ℕ → Option model.Kept)
     → OpenRowShown r stands opened session sequence deadline location locks → OpenRowShown (if b then offered_row n r else r)
     stands opened session (if b then kept_after n sequence else sequence) deadline location locks
 row_offered true None n stands opened session sequence deadline location locks h = h
@@ -72,6 +79,7 @@ row_offered true (Some r) n stands opened session sequence deadline location loc
     sequence_is = ap (kept_after n) h.1.sequence_is;
     deadline_is = h.1.deadline_is;
     location_is = h.1.location_is;
+    position_is = h.1.position_is;
     slots_are = h.1.slots_are;
   },
 )
@@ -106,17 +114,17 @@ pub shows_offered : (t u : Opens) (s : model.Server) (o n : ℕ) → RowsChanged
     → ShowsOpens t s → ShowsOpens u (offered_to s o n)
 shows_offered t u s o n c rows h =
     either (λ (v : model.Server). ShowsOpens u v) (is_stale n (s.sequence o)) s (record s { sequence = put s.sequence o n })
-    (λ e. shows_columns t u s s.sequence s.enumeration_location s.lock_sequences c
+    (λ e. shows_columns t u s s.sequence s.enumeration_location s.current_byte_offset s.lock_sequences c
     (λ q. subst (λ (k : ℕ). OpenRowShown (get nat_eq u.rows q) (s.standing q) (s.opened q) (s.session_of_open q) k
-    (s.deadline q) (s.enumeration_location q) (s.lock_sequences q)) (stays_at (q == o) q o n s.sequence refl e)
+    (s.deadline q) (s.enumeration_location q, s.current_byte_offset q) (s.lock_sequences q)) (stays_at (q == o) q o n s.sequence refl e)
     (shown q)) trees h)
-    (λ e. shows_columns t u s (put s.sequence o n) s.enumeration_location s.lock_sequences c
+    (λ e. shows_columns t u s (put s.sequence o n) s.enumeration_location s.current_byte_offset s.lock_sequences c
     (λ q. subst (λ (k : ℕ). OpenRowShown (get nat_eq u.rows q) (s.standing q) (s.opened q) (s.session_of_open q) k
-    (s.deadline q) (s.enumeration_location q) (s.lock_sequences q)) (moves_at (q == o) q o n s.sequence refl e)
+    (s.deadline q) (s.enumeration_location q, s.current_byte_offset q) (s.lock_sequences q)) (moves_at (q == o) q o n s.sequence refl e)
     (shown q)) trees h)
   where
     shown : (q : ℕ) → OpenRowShown (get nat_eq u.rows q) (s.standing q) (s.opened q) (s.session_of_open q)
-        (if q == o then kept_after n (s.sequence q) else s.sequence q) (s.deadline q) (s.enumeration_location q)
+        (if q == o then kept_after n (s.sequence q) else s.sequence q) (s.deadline q) (s.enumeration_location q, s.current_byte_offset q)
         (s.lock_sequences q)
     shown q = rw (rows q) (row_offered (q == o) (get nat_eq t.rows q) n _ _ _ _ _ _ _ (h.rows_are q))
 
@@ -128,7 +136,7 @@ pub told_offered : (t : Opens) (s : model.Server) (o n : ℕ) (result : Offered)
 told_offered t s o n result h st f = by (get nat_eq t.rows o) (h.rows_are o) f
   where
     by : (r : Option Row) → OpenRowShown r (s.standing o) (s.opened o) (s.session_of_open o) (s.sequence o) (s.deadline o)
-        (s.enumeration_location o) (s.lock_sequences o)
+        (s.enumeration_location o, s.current_byte_offset o) (s.lock_sequences o)
         → IfSome r (λ r. result ≡ offered n r.sequence) → result ≡ offered n (s.sequence o)
     by None e f = absurd (cc)
     by (Some r) e f = f ∙ ap (offered n) (sym e.1.sequence_is)
@@ -136,12 +144,13 @@ told_offered t s o n result h st f = by (get nat_eq t.rows o) (h.rows_are o) f
 -- ---- listings
 
 row_located : (b : Bool) (r : Option Row) (last : Option (List ℕ)) (stands : Bool) (opened : model.Open)
-    (session : Option ℕ) (sequence : ℕ) (deadline : Option ℕ) (location : Option (List ℕ))
+    (session : Option ℕ) (sequence : ℕ) (deadline : Option ℕ) (location : Option (List ℕ)) (offset : ℕ)
     (locks : ℕ → Option model.Kept)
-    → OpenRowShown r stands opened session sequence deadline location locks → OpenRowShown (if b then located_row last r else r)
-    stands opened session sequence deadline (if b then last else location) locks
-row_located true None last stands opened session sequence deadline location locks h = h
-row_located true (Some r) last stands opened session sequence deadline location locks h = (
+    → OpenRowShown r stands opened session sequence deadline (location, offset) locks
+    → OpenRowShown (if b then located_row last r else r) stands opened session sequence deadline
+    (if b then last else location, offset) locks
+row_located true None last stands opened session sequence deadline location offset locks h = h
+row_located true (Some r) last stands opened session sequence deadline location offset locks h = (
   h.0,
   record {
     opened_is = h.1.opened_is;
@@ -149,23 +158,60 @@ row_located true (Some r) last stands opened session sequence deadline location 
     sequence_is = h.1.sequence_is;
     deadline_is = h.1.deadline_is;
     location_is = refl;
+    position_is = h.1.position_is;
     slots_are = h.1.slots_are;
   },
 )
-row_located false r last stands opened session sequence deadline location locks h = h
+row_located false r last stands opened session sequence deadline location offset locks h = h
 
 pub shows_located : (t u : Opens) (s : model.Server) (o : ℕ) (last : Option (List ℕ)) → RowsChanged t u
     → ((q : ℕ) → get nat_eq u.rows q ≡ (if q == o then located_row last (get nat_eq t.rows q) else get nat_eq t.rows q))
     → ShowsOpens t s → ShowsOpens u (located_at s o last)
 shows_located t u s o last c rows h =
-    shows_columns t u s s.sequence (put s.enumeration_location o last) s.lock_sequences c
-    (λ q. rw (rows q) (row_located (q == o) (get nat_eq t.rows q) last _ _ _ _ _ _ _ (h.rows_are q)))
+    shows_columns t u s s.sequence (put s.enumeration_location o last) s.current_byte_offset s.lock_sequences c
+    (λ q. rw (rows q) (row_located (q == o) (get nat_eq t.rows q) last _ _ _ _ _ _ _ _ (h.rows_are q)))
     (λ q. rw (rows q) (tree_located (q == o) (get nat_eq t.rows q) (s.tree_of_open q) last (h.trees_are q))) h
+
+-- ---- positions
+
+row_positioned : (b : Bool) (r : Option Row) (position : ℕ) (stands : Bool) (opened : model.Open) (session : Option ℕ)
+    (sequence : ℕ) (deadline : Option ℕ) (location : Option (List ℕ)) (offset : ℕ) (locks : ℕ → Option model.Kept)
+    → OpenRowShown r stands opened session sequence deadline (location, offset) locks
+    → OpenRowShown (if b then positioned_row position r else r) stands opened session sequence deadline
+    (location, if b then position else offset) locks
+row_positioned true None position stands opened session sequence deadline location offset locks h = h
+row_positioned true (Some r) position stands opened session sequence deadline location offset locks h = (
+  h.0,
+  record {
+    opened_is = h.1.opened_is;
+    session_is = h.1.session_is;
+    sequence_is = h.1.sequence_is;
+    deadline_is = h.1.deadline_is;
+    location_is = h.1.location_is;
+    position_is = refl;
+    slots_are = h.1.slots_are;
+  },
+)
+row_positioned false r position stands opened session sequence deadline location offset locks h = h
+
+tree_positioned : (b : Bool) (r : Option Row) (tree position : ℕ) → OpenTreeShown r tree
+    → OpenTreeShown (if b then positioned_row position r else r) tree
+tree_positioned true None tree position h = tt
+tree_positioned true (Some r) tree position h = h
+tree_positioned false r tree position h = h
+
+pub shows_positioned : (t u : Opens) (s : model.Server) (o position : ℕ) → RowsChanged t u
+    → ((q : ℕ) → get nat_eq u.rows q ≡ (if q == o then positioned_row position (get nat_eq t.rows q) else get nat_eq t.rows q))
+    → ShowsOpens t s → ShowsOpens u (offset_at s o position)
+shows_positioned t u s o position c rows h =
+    shows_columns t u s s.sequence s.enumeration_location (put s.current_byte_offset o position) s.lock_sequences c
+    (λ q. rw (rows q) (row_positioned (q == o) (get nat_eq t.rows q) position _ _ _ _ _ _ _ _ (h.rows_are q)))
+    (λ q. rw (rows q) (tree_positioned (q == o) (get nat_eq t.rows q) (s.tree_of_open q) position (h.trees_are q))) h
 
 -- ---- slots
 
 slots_put : (r w : Option Row) (P : Slots → Slots → Type 0) (stands : Bool) (opened : model.Open) (session : Option ℕ)
-    (sequence : ℕ) (deadline : Option ℕ) (location : Option (List ℕ)) (old new : ℕ → Option model.Kept)
+    (sequence : ℕ) (deadline : Option ℕ) (location : OpenPlace) (old new : ℕ → Option model.Kept)
     → SlotsPut r w P → ((x y : Slots) → P x y → SlotsShown x old → SlotsShown y new) → OpenRowShown r stands opened session
     sequence deadline location old → OpenRowShown w stands opened session sequence deadline location new
 slots_put None w P stands opened session sequence deadline location old new p f h =
@@ -179,6 +225,7 @@ slots_put (Some r) w P stands opened session sequence deadline location old new 
         sequence_is = h.1.sequence_is;
         deadline_is = h.1.deadline_is;
         location_is = h.1.location_is;
+        position_is = h.1.position_is;
         slots_are = f r.slots p.0 p.2 h.1.slots_are;
       },
     )
@@ -189,7 +236,7 @@ pub shows_slot : (t u : Opens) (s : model.Server) (o index : ℕ) (kept : model.
     → ((q : ℕ) → (q == o) ≡ false → get nat_eq u.rows q ≡ get nat_eq t.rows q)
     → ShowsOpens t s → ShowsOpens u (record s { lock_sequences = put2 s.lock_sequences o index (Some kept) })
 shows_slot t u s o index kept c there others h =
-    shows_columns t u s s.sequence s.enumeration_location (put2 s.lock_sequences o index (Some kept)) c (λ q. by q (q == o) refl)
+    shows_columns t u s s.sequence s.enumeration_location s.current_byte_offset (put2 s.lock_sequences o index (Some kept)) c (λ q. by q (q == o) refl)
     (λ q. tree_by q (q == o) refl) h
   where
     here : put2 s.lock_sequences o index (Some kept) o ≡ put (s.lock_sequences o) index (Some kept)
@@ -205,17 +252,17 @@ shows_slot t u s o index kept c there others h =
         cell i = rw e refl
 
     by : (q : ℕ) (b : Bool) → (q == o) ≡ b → OpenRowShown (get nat_eq u.rows q) (s.standing q) (s.opened q)
-        (s.session_of_open q) (s.sequence q) (s.deadline q) (s.enumeration_location q)
+        (s.session_of_open q) (s.sequence q) (s.deadline q) (s.enumeration_location q, s.current_byte_offset q)
         (put2 s.lock_sequences o index (Some kept) q)
     by q true e = subst (λ (z : ℕ). OpenRowShown (get nat_eq u.rows z) (s.standing z) (s.opened z) (s.session_of_open z)
-        (s.sequence z) (s.deadline z) (s.enumeration_location z) (put2 s.lock_sequences o index (Some kept) z))
+        (s.sequence z) (s.deadline z) (s.enumeration_location z, s.current_byte_offset z) (put2 s.lock_sequences o index (Some kept) z))
         (sym (eqb-true q o e))
         (subst (λ (k : ℕ → Option model.Kept). OpenRowShown (get nat_eq u.rows o) (s.standing o) (s.opened o)
-        (s.session_of_open o) (s.sequence o) (s.deadline o) (s.enumeration_location o) k) (sym here)
+        (s.session_of_open o) (s.sequence o) (s.deadline o) (s.enumeration_location o, s.current_byte_offset o) k) (sym here)
         (slots_put (get nat_eq t.rows o) (get nat_eq u.rows o) _ _ _ _ _ _ _ (s.lock_sequences o) _ there
         (λ x y p k. p (s.lock_sequences o) k) (h.rows_are o)))
     by q false e = subst (λ (k : ℕ → Option model.Kept). OpenRowShown (get nat_eq u.rows q) (s.standing q) (s.opened q)
-        (s.session_of_open q) (s.sequence q) (s.deadline q) (s.enumeration_location q) k) (sym (other q e))
+        (s.session_of_open q) (s.sequence q) (s.deadline q) (s.enumeration_location q, s.current_byte_offset q) k) (sym (other q e))
         (rw (others q e) (h.rows_are q))
 
     tree_by : (q : ℕ) (b : Bool) → (q == o) ≡ b → OpenTreeShown (get nat_eq u.rows q) (s.tree_of_open q)

@@ -15,7 +15,7 @@ use Rattle.spec_exchange.specs.Step.{first_deadline, with_deadlines, is_past, du
 use Rattle.law_server.specs.tables.Fits.{Fits, is_ascending}
 use Rattle.store_opens.specs.declared.open_table.row.Row.{Row}
 use Rattle.store_opens.specs.declared.open_table.table.Opens.{Opens}
-use Rattle.store_opens.specs.open_table.Rows.{OpenRowShown, open_of}
+use Rattle.store_opens.specs.open_table.Rows.{OpenPlace, OpenRowShown, open_of}
 use Rattle.store_opens.specs.open_index.Held.{HeldShown, sharing_in}
 use Rattle.store_opens.specs.open_index.Keep.{SessionShown, HasKeepPlace, keep_lists, lists_plain, keep_names}
 use Rattle.store_opens.specs.open_index.Index.{indexes}
@@ -52,7 +52,7 @@ stays_dated true (Some x) deadline row now N h e = refl
 stays_dated false session deadline row now N h e = refl
 
 row_first : (b : Bool) (r : Option Row) (stands : Bool) (opened : model.Open) (session : Option ℕ) (sequence : ℕ)
-    (deadline : Option ℕ) (location : Option (List ℕ)) (locks : ℕ → Option model.Kept) (now : ℕ)
+    (deadline : Option ℕ) (location : OpenPlace) (locks : ℕ → Option model.Kept) (now : ℕ)
     → (stands ≡ true → session ≡ None → deadline ≡ None → b ≡ true) → OpenRowShown r stands opened session sequence deadline location locks
     → OpenRowShown (if b then dated_row now r else r) stands opened session sequence
     (first_deadline now stands session opened deadline) location locks
@@ -97,7 +97,7 @@ open_dated t u now s a h =
     }
   where
     rows_at : (q : ℕ) → OpenRowShown (get nat_eq u.rows q) (s.standing q) (s.opened q) (s.session_of_open q) (s.sequence q)
-        (first_deadline now (s.standing q) (s.session_of_open q) (s.opened q) (s.deadline q)) (s.enumeration_location q)
+        (first_deadline now (s.standing q) (s.session_of_open q) (s.opened q) (s.deadline q)) (s.enumeration_location q, s.current_byte_offset q)
         (s.lock_sequences q)
     rows_at q = rw (a.rows q) (row_first (has q t.undated.items) (get nat_eq t.rows q) _ _ _ _ _ _ _ now (h.undated q) (h.rows_are q))
 
@@ -108,7 +108,7 @@ open_dated t u now s a h =
       where
         row_deadline : (r : Option Row) → OpenRowShown r (s.standing o) (s.opened o) (s.session_of_open o) (s.sequence o)
             (first_deadline now (s.standing o) (s.session_of_open o) (s.opened o) (s.deadline o))
-            (s.enumeration_location o) (s.lock_sequences o) → deadline_at r ≡ Some d
+            (s.enumeration_location o, s.current_byte_offset o) (s.lock_sequences o) → deadline_at r ≡ Some d
         row_deadline None k = absurd (cc)
         row_deadline (Some r) k = sym k.1.deadline_is ∙ e
 
@@ -147,7 +147,7 @@ pub stands_past : (t : Opens) (s : model.Server) (q d : ℕ) → ShowsOpens t s 
 stands_past t s q d h = by (get nat_eq t.rows q) (h.rows_are q)
   where
     by : (r : Option Row) → OpenRowShown r (s.standing q) (s.opened q) (s.session_of_open q) (s.sequence q) (s.deadline q)
-        (s.enumeration_location q) (s.lock_sequences q) → deadline_at r ≡ Some d → s.standing q ≡ true
+        (s.enumeration_location q, s.current_byte_offset q) (s.lock_sequences q) → deadline_at r ≡ Some d → s.standing q ≡ true
     by None e k = absurd (cc)
     by (Some r) e k = e.0
 

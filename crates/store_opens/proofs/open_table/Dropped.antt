@@ -27,7 +27,7 @@ use Rattle.store_opens.proofs.open_index.HeldLemmas.{held_same, counts_split, sh
 row_of : (t : Opens) (o : ℕ) (row : Row) (s : model.Server) → ShowsOpens t s → get nat_eq t.rows o ≡ Some row → s.opened o ≡ open_of row
 row_of t o row s h was =
     (subst (λ (r : Option Row). OpenRowShown r (s.standing o) (s.opened o) (s.session_of_open o) (s.sequence o)
-    (s.deadline o) (s.enumeration_location o) (s.lock_sequences o)) was (h.rows_are o)).1.opened_is
+    (s.deadline o) (s.enumeration_location o, s.current_byte_offset o) (s.lock_sequences o)) was (h.rows_are o)).1.opened_is
 
 turned : (a b : ℕ) → (a == b) ≡ false → (b == a) ≡ false
 turned a b e = grind arith
@@ -170,7 +170,7 @@ row_session : (t : Opens) (o : ℕ) (row : Row) (s : model.Server) → ShowsOpen
     → s.session_of_open o ≡ row.session
 row_session t o row s h was =
     (subst (λ (r : Option Row). OpenRowShown r (s.standing o) (s.opened o) (s.session_of_open o) (s.sequence o)
-    (s.deadline o) (s.enumeration_location o) (s.lock_sequences o)) was (h.rows_are o)).1.session_is
+    (s.deadline o) (s.enumeration_location o, s.current_byte_offset o) (s.lock_sequences o)) was (h.rows_are o)).1.session_is
 
 -- it left, and its session has its guid as closed: u is the table without it, v the one with the guid
 pub close_left : (t u v : Opens) (o : ℕ) (row : Row) (s : model.Server) → Left t u o row → u.sessions ≡ t.sessions
@@ -215,10 +215,10 @@ pub told_left : (t : Opens) (o : ℕ) (s : model.Server) (r : Option Row) → r 
     → is_some r ≡ s.standing o
 told_left t o s r e h =
     by r (subst (λ (v : Option Row). OpenRowShown v (s.standing o) (s.opened o) (s.session_of_open o) (s.sequence o)
-    (s.deadline o) (s.enumeration_location o) (s.lock_sequences o)) (sym e) (h.rows_are o))
+    (s.deadline o) (s.enumeration_location o, s.current_byte_offset o) (s.lock_sequences o)) (sym e) (h.rows_are o))
   where
     by : (r : Option Row) → OpenRowShown r (s.standing o) (s.opened o) (s.session_of_open o) (s.sequence o) (s.deadline o)
-        (s.enumeration_location o) (s.lock_sequences o) → is_some r ≡ s.standing o
+        (s.enumeration_location o, s.current_byte_offset o) (s.lock_sequences o) → is_some r ≡ s.standing o
     by None k = sym k
     by (Some r) k = sym k.0
 

@@ -109,7 +109,7 @@ due_dated t s now h i =
 
     -- a row whose first deadline is met
     by_row : (q : ℕ) (r : Option Row) → OpenRowShown r (s.standing q) (s.opened q) (s.session_of_open q) (s.sequence q)
-        (s.deadline q) (s.enumeration_location q) (s.lock_sequences q)
+        (s.deadline q) (s.enumeration_location q, s.current_byte_offset q) (s.lock_sequences q)
         → is_past now (first_of now r) ≡ true → all q ≡ true
     by_row q None e k = absurd (cc)
     by_row q (Some r) e k = both (has q s.opens) _ (i.listed q ∙ e.0)
@@ -131,7 +131,7 @@ due_dated t s now h i =
         by false e k = listed_sub q k
 
     by_place : (q : ℕ) (r : Option Row) → OpenRowShown r (s.standing q) (s.opened q) (s.session_of_open q) (s.sequence q)
-        (s.deadline q) (s.enumeration_location q) (s.lock_sequences q)
+        (s.deadline q) (s.enumeration_location q, s.current_byte_offset q) (s.lock_sequences q)
         → s.standing q ≡ true → s.session_of_open q ≡ None → s.deadline q ≡ None → past q ≡ true → is_past now (first_of now r) ≡ true
     by_place q None e st a b k = absurd (cc)
     by_place q (Some r) e st a b k = newly_row now r r.session r.deadline (sym e.1.session_is ∙ a) (sym e.1.deadline_is

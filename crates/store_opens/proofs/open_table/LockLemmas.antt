@@ -38,7 +38,7 @@ pub file_is : (t : Opens) (s : model.Server) (o : ℕ) → ShowsOpens t s → s.
 file_is t s o h st = by (get nat_eq t.rows o) (h.rows_are o)
   where
     by : (r : Option Row) → OpenRowShown r (s.standing o) (s.opened o) (s.session_of_open o) (s.sequence o) (s.deadline o)
-        (s.enumeration_location o) (s.lock_sequences o) → file_at r ≡ (s.opened o).file
+        (s.enumeration_location o, s.current_byte_offset o) (s.lock_sequences o) → file_at r ≡ (s.opened o).file
     by None e = absurd (cc)
     by (Some r) e = ap (λ (w : model.Open). w.file) (sym e.1.opened_is)
 

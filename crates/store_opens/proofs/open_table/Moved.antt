@@ -13,7 +13,7 @@ use Rattle.store_opens.specs.declared.open_table.row.Row.{Row}
 use Rattle.store_opens.specs.declared.open_table.table.Opens.{Opens}
 use Rattle.store_opens.specs.declared.open_index.index.Deadlines.{Deadlines}
 use Rattle.store_opens.specs.declared.open_index.keep.SessionOpens.{SessionOpens}
-use Rattle.store_opens.specs.open_table.Rows.{OpenRowShown, attached_row, detached_row, guid_at}
+use Rattle.store_opens.specs.open_table.Rows.{OpenPlace, OpenRowShown, attached_row, detached_row, guid_at}
 use Rattle.store_opens.specs.open_index.Held.{HeldShown, sharing_in}
 use Rattle.store_opens.specs.open_index.Keep.{SessionShown, SessionsCount, one_more, keep_lists, lists_plain, keep_names}
 use Rattle.store_opens.specs.open_index.Index.{indexes}
@@ -48,14 +48,14 @@ pub deadline_of : (t : Opens) (s : model.Server) (o : ℕ) → ShowsOpens t s �
 deadline_of t s o h st = by (get nat_eq t.rows o) (h.rows_are o)
   where
     by : (r : Option Row) → OpenRowShown r (s.standing o) (s.opened o) (s.session_of_open o) (s.sequence o) (s.deadline o)
-        (s.enumeration_location o) (s.lock_sequences o) → deadline_at r ≡ s.deadline o
+        (s.enumeration_location o, s.current_byte_offset o) (s.lock_sequences o) → deadline_at r ≡ s.deadline o
     by None e = absurd (cc)
     by (Some r) e = sym e.1.deadline_is
 
 -- ---- attached
 
 row_attached : (b : Bool) (r : Option Row) (stands : Bool) (opened : model.Open) (session : Option ℕ) (sequence : ℕ)
-    (deadline : Option ℕ) (location : Option (List ℕ)) (locks : ℕ → Option model.Kept) (x tree n : ℕ)
+    (deadline : Option ℕ) (location : OpenPlace) (locks : ℕ → Option model.Kept) (x tree n : ℕ)
     → OpenRowShown r stands opened session sequence deadline location locks
     → OpenRowShown (if b then attached_row x tree n r else r) stands opened (if b then Some x else session)
     (if b then n else sequence) (if b then None else deadline) location locks
@@ -68,6 +68,7 @@ row_attached true (Some r) stands opened session sequence deadline location lock
     sequence_is = refl;
     deadline_is = refl;
     location_is = h.1.location_is;
+    position_is = h.1.position_is;
     slots_are = h.1.slots_are;
   },
 )
@@ -95,7 +96,7 @@ guid_of : (t : Opens) (s : model.Server) (o : ℕ) → ShowsOpens t s → s.stan
 guid_of t s o h st = by (get nat_eq t.rows o) (h.rows_are o)
   where
     by : (r : Option Row) → OpenRowShown r (s.standing o) (s.opened o) (s.session_of_open o) (s.sequence o) (s.deadline o)
-        (s.enumeration_location o) (s.lock_sequences o) → guid_at r ≡ (s.opened o).create_guid
+        (s.enumeration_location o, s.current_byte_offset o) (s.lock_sequences o) → guid_at r ≡ (s.opened o).create_guid
     by None e = absurd (cc)
     by (Some r) e = ap (λ (w : model.Open). w.create_guid) (sym e.1.opened_is)
 
@@ -132,7 +133,7 @@ open_attached t u o x tree n s a h st =
 
     -- a plain open that stands has its place
     plain_of : (r : Option Row) (b : Bool) → OpenRowShown r (s.standing o) (s.opened o) (s.session_of_open o) (s.sequence o) (s.deadline o)
-        (s.enumeration_location o) (s.lock_sequences o) → HasPlainPlace r b → (s.opened o).persistent ≡ false → b ≡ true
+        (s.enumeration_location o, s.current_byte_offset o) (s.lock_sequences o) → HasPlainPlace r b → (s.opened o).persistent ≡ false → b ≡ true
     plain_of None b e p f = absurd (cc)
     plain_of (Some r) b e p f = p (ap (λ (w : model.Open). w.persistent) (sym e.1.opened_is) ∙ f)
 
@@ -212,11 +213,11 @@ indexed_detached x now o d t u s a h i w true st e =
     pick (a.index.here w o d (row_deadline (get nat_eq u.rows o) shown))
   where
     shown : OpenRowShown (get nat_eq u.rows o) true (s.opened o) (cleared x (s.session_of_open o)) (s.sequence o)
-        (dated x now (s.opened o) (s.session_of_open o) (s.deadline o)) (s.enumeration_location o) (s.lock_sequences o)
+        (dated x now (s.opened o) (s.session_of_open o) (s.deadline o)) (s.enumeration_location o, s.current_byte_offset o) (s.lock_sequences o)
     shown = rw (a.rows o) (row_detached (get nat_eq t.rows o) true _ _ _ _ _ _ x now (rw st at (h.rows_are o)))
 
     row_deadline : (r : Option Row) → OpenRowShown r true (s.opened o) (cleared x (s.session_of_open o)) (s.sequence o)
-        (dated x now (s.opened o) (s.session_of_open o) (s.deadline o)) (s.enumeration_location o) (s.lock_sequences o)
+        (dated x now (s.opened o) (s.session_of_open o) (s.deadline o)) (s.enumeration_location o, s.current_byte_offset o) (s.lock_sequences o)
         → deadline_at r ≡ Some d
     row_deadline None k = absurd (cc)
     row_deadline (Some r) k = sym k.1.deadline_is ∙ e
@@ -289,7 +290,7 @@ detached_unlisted t s x now q h none = by (get nat_eq t.rows q) (h.rows_are q)
         at_other false f = f
 
     by : (r : Option Row) → OpenRowShown r (s.standing q) (s.opened q) (s.session_of_open q) (s.sequence q) (s.deadline q)
-        (s.enumeration_location q) (s.lock_sequences q) → detached_row x now r ≡ r
+        (s.enumeration_location q, s.current_byte_offset q) (s.lock_sequences q) → detached_row x now r ≡ r
     by None e = refl
     by (Some r) e = rw (by_session r.session e.1.session_is) refl
 

@@ -8,26 +8,28 @@ use Rattle.spec_exchange.specs.Effects.{cleared, dated}
 use Rattle.spec_exchange.specs.Step.{first_deadline}
 use Rattle.law_server.proofs.tables.Logic.{either}
 use Rattle.store_opens.specs.declared.open_table.row.Row.{Row}
-use Rattle.store_opens.specs.open_table.Rows.{OpenRowIs, OpenRowShown, OpenTreeShown, open_of, attached_row, detached_row}
+use Rattle.store_opens.specs.open_table.Rows.{OpenPlace, OpenRowIs, OpenRowShown, OpenTreeShown, open_of, attached_row, detached_row}
 use Rattle.store_opens.specs.open_table.Due.{dated_row}
 
 -- a new row stands at the id, or the old one where it is another
 pub row_added : (b : Bool) (old : Option Row) (w : Row) (stands : Bool) (opened : model.Open) (session : Option ℕ)
-    (sequence : ℕ) (deadline : Option ℕ) (location : Option (List ℕ)) (locks : ℕ → Option model.Kept)
+    (sequence : ℕ) (deadline : Option ℕ) (location : Option (List ℕ)) (offset : ℕ) (locks : ℕ → Option model.Kept)
     (new_opened : model.Open) (new_session : Option ℕ) (new_sequence : ℕ) (new_deadline : Option ℕ)
-    (new_location : Option (List ℕ)) (new_locks : ℕ → Option model.Kept)
-    → OpenRowShown old stands opened session sequence deadline location locks → OpenRowIs w new_opened new_session new_sequence
-    new_deadline new_location new_locks
+    (new_location : Option (List ℕ)) (new_offset : ℕ) (new_locks : ℕ → Option model.Kept)
+    → OpenRowShown old stands opened session sequence deadline (location, offset) locks
+    → OpenRowIs w new_opened new_session new_sequence new_deadline (new_location, new_offset) new_locks
     → OpenRowShown (if b then Some w else old) (if b then true else stands) (if b then new_opened else opened)
     (if b then new_session else session) (if b then new_sequence else sequence)
-    (if b then new_deadline else deadline) (if b then new_location else location) (if b then new_locks else locks)
-row_added true old w stands opened session sequence deadline location locks opened1 session1 sequence1 deadline1
-    location1 locks1 h new = (refl, new)
-row_added false old w stands opened session sequence deadline location locks opened1 session1 sequence1 deadline1 location1 locks1 h new = h
+    (if b then new_deadline else deadline)
+    (if b then new_location else location, if b then new_offset else offset) (if b then new_locks else locks)
+row_added true old w stands opened session sequence deadline location offset locks opened1 session1 sequence1 deadline1
+    location1 offset1 locks1 h new = (refl, new)
+row_added false old w stands opened session sequence deadline location offset locks opened1 session1 sequence1 deadline1
+    location1 offset1 locks1 h new = h
 
 -- the row of an id goes
 pub row_dropped : (b : Bool) (old : Option Row) (stands : Bool) (opened : model.Open) (session : Option ℕ)
-    (sequence : ℕ) (deadline : Option ℕ) (location : Option (List ℕ)) (locks : ℕ → Option model.Kept)
+    (sequence : ℕ) (deadline : Option ℕ) (location : OpenPlace) (locks : ℕ → Option model.Kept)
     → OpenRowShown old stands opened session sequence deadline location locks
     → OpenRowShown (if b then None else old) (if b then false else stands) opened (if b then None else session) sequence
     (if b then None else deadline) location locks
@@ -47,7 +49,7 @@ detached_twice session now None = refl
 detached_twice session now (Some r) = grind (arith, common_steps)
 
 pub row_detached : (r : Option Row) (stands : Bool) (opened : model.Open) (session : Option ℕ) (sequence : ℕ)
-    (deadline : Option ℕ) (location : Option (List ℕ)) (locks : ℕ → Option model.Kept) (x now : ℕ)
+    (deadline : Option ℕ) (location : OpenPlace) (locks : ℕ → Option model.Kept) (x now : ℕ)
     → OpenRowShown r stands opened session sequence deadline location locks
     → OpenRowShown (detached_row x now r) stands opened (cleared x session) sequence (dated x now opened session deadline) location locks
 row_detached None stands opened session sequence deadline location locks x now h = h
@@ -66,6 +68,7 @@ row_detached (Some r) stands opened session sequence deadline location locks x n
         sequence_is = h.1.sequence_is;
         deadline_is = rw (h.1.opened_is, h.1.session_is, h.1.deadline_is) refl;
         location_is = h.1.location_is;
+        position_is = h.1.position_is;
         slots_are = h.1.slots_are;
       },
     )
@@ -77,6 +80,7 @@ row_detached (Some r) stands opened session sequence deadline location locks x n
         sequence_is = h.1.sequence_is;
         deadline_is = grind (arith, common_steps, h.1.session_is, h.1.deadline_is);
         location_is = h.1.location_is;
+        position_is = h.1.position_is;
         slots_are = h.1.slots_are;
       },
     )
@@ -97,7 +101,7 @@ dated_twice now (Some r) = twice r.session r.deadline
     twice (Some x) deadline = refl
 
 pub row_dated : (r : Option Row) (stands : Bool) (opened : model.Open) (session : Option ℕ) (sequence : ℕ)
-    (deadline : Option ℕ) (location : Option (List ℕ)) (locks : ℕ → Option model.Kept) (now : ℕ)
+    (deadline : Option ℕ) (location : OpenPlace) (locks : ℕ → Option model.Kept) (now : ℕ)
     → OpenRowShown r stands opened session sequence deadline location locks
     → OpenRowShown (dated_row now r) stands opened session sequence (first_deadline now stands session opened deadline) location locks
 row_dated None stands opened session sequence deadline location locks now h = h
@@ -109,6 +113,7 @@ row_dated (Some r) stands opened session sequence deadline location locks now h 
     sequence_is = h.1.sequence_is;
     deadline_is = rw (h.0, h.1.opened_is, h.1.session_is, h.1.deadline_is) refl;
     location_is = h.1.location_is;
+    position_is = h.1.position_is;
     slots_are = h.1.slots_are;
   },
 )

@@ -23,6 +23,9 @@ offered_to s o n = if is_stale n (s.sequence o) then s else record s { sequence 
 abbrev pub located_at : Server → ℕ → Option (List ℕ) → Server
 located_at s o last = record s { enumeration_location = put s.enumeration_location o last }
 
+abbrev pub offset_at : Server → ℕ → ℕ → Server
+offset_at s o position = record s { current_byte_offset = put s.current_byte_offset o position }
+
 -- ---- creates
 
 -- a count stands at its limit: opens, ids of the epoch, and where a guid is to be kept, guids of the session

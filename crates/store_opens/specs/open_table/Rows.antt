@@ -25,17 +25,22 @@ open_of r =
       timeout = r.timeout;
     }
 
+-- where an open stands: the last name that its listing gave, and its position
+abbrev pub OpenPlace : Type 0
+OpenPlace = Option (List ℕ) × ℕ
+
 pub record OpenRowIs (r : Row) (opened : model.Open) (session : Option ℕ) (sequence : ℕ) (deadline : Option ℕ)
-    (location : Option (List ℕ)) (lock_sequences : ℕ → Option model.Kept) : Type 0 where
+    (location : OpenPlace) (lock_sequences : ℕ → Option model.Kept) : Type 0 where
   pub opened_is : opened ≡ open_of r
   pub session_is : session ≡ r.session
   pub sequence_is : sequence ≡ r.sequence
   pub deadline_is : deadline ≡ r.deadline
-  pub location_is : location ≡ r.location
+  pub location_is : location.0 ≡ r.location
+  pub position_is : location.1 ≡ r.position
   pub slots_are : SlotsShown r.slots lock_sequences
 
 -- what an id says of the columns at it; of an open that left only that it doesn't stand
-abbrev pub OpenRowShown : Option Row → Bool → model.Open → Option ℕ → ℕ → Option ℕ → Option (List ℕ) → (ℕ → Option model.Kept) → Type 0
+abbrev pub OpenRowShown : Option Row → Bool → model.Open → Option ℕ → ℕ → Option ℕ → OpenPlace → (ℕ → Option model.Kept) → Type 0
 OpenRowShown None stands opened session sequence deadline location lock_sequences = stands ≡ false
 OpenRowShown (Some r) stands opened session sequence deadline location lock_sequences = (stands ≡ true)
     × OpenRowIs r opened session sequence deadline location lock_sequences
@@ -48,7 +53,7 @@ OpenTreeShown (Some r) tree = (x : ℕ) → r.session ≡ Some x → tree ≡ r.
 -- the row at an id of a state
 abbrev pub OpenRowFound : Option Row → model.Server → ℕ → Type 0
 OpenRowFound r s o = OpenRowShown r (s.standing o) (s.opened o) (s.session_of_open o) (s.sequence o) (s.deadline o)
-    (s.enumeration_location o) (s.lock_sequences o)
+    (s.enumeration_location o, s.current_byte_offset o) (s.lock_sequences o)
 
 -- ---- what an open is made with
 
@@ -103,6 +108,7 @@ pub record IsMadeRow (r : Row) (p : OpenParts) (user : List ℕ) (slots : Slots)
   pub user_is : r.user ≡ user
   pub no_deadline : r.deadline ≡ None
   pub no_location : r.location ≡ None
+  pub no_position : r.position ≡ 0
   pub slots_are : r.slots ≡ slots
 
 -- a row for a new open
@@ -111,6 +117,7 @@ pub record IsOpenNewRow (r : Row) (p : OpenParts) (user : List ℕ) : Type 0 whe
   pub user_is : r.user ≡ user
   pub no_deadline : r.deadline ≡ None
   pub no_location : r.location ≡ None
+  pub no_position : r.position ≡ 0
   pub no_slots : SlotsShown r.slots (λ i. None)
 
 -- a row for an open that the journal tells, which has no session
@@ -120,6 +127,7 @@ pub record IsRestoredRow (r : Row) (p : OpenParts) (user : List ℕ) : Type 0 wh
   pub no_session : r.session ≡ None
   pub no_deadline : r.deadline ≡ None
   pub no_location : r.location ≡ None
+  pub no_position : r.position ≡ 0
   pub no_slots : SlotsShown r.slots (λ i. None)
 
 -- ---- rows behind a change
@@ -141,6 +149,10 @@ offered_row n (Some r) = Some (record r { sequence = kept_after n r.sequence })
 abbrev pub located_row : Option (List ℕ) → Option Row → Option Row
 located_row last None = None
 located_row last (Some r) = Some (record r { location = last })
+
+abbrev pub positioned_row : ℕ → Option Row → Option Row
+positioned_row position None = None
+positioned_row position (Some r) = Some (record r { position = position })
 
 -- where there is a row, only its slots changed
 abbrev pub SlotsPut : Option Row → Option Row → (Slots → Slots → Type 0) → Type 0

@@ -17,13 +17,13 @@ pair_eq x y = nat_eq x.0 y.0 && nat_eq x.1 y.1
 
 pub record OpensShown (t : Opens) (epoch : ℕ) (opens : List ℕ) (standing : ℕ → Bool) (open_ids_given : ℕ) (opened : ℕ → model.Open)
     (session_of_open : ℕ → Option ℕ) (tree_of_open : ℕ → ℕ) (sequence : ℕ → ℕ) (deadline : ℕ → Option ℕ) (enumeration_location : ℕ → Option (List ℕ))
-    (lock_sequences : ℕ → ℕ → Option model.Kept) (by_guid : ℕ → ℕ → Option ℕ) (ranges : ℕ → List model.Range)
+    (current_byte_offset : ℕ → ℕ) (lock_sequences : ℕ → ℕ → Option model.Kept) (by_guid : ℕ → ℕ → Option ℕ) (ranges : ℕ → List model.Range)
     (closed : ℕ → ℕ → Bool) (refused : ℕ → ℕ → Option ℕ) (guids : ℕ → ℕ) (expired_guids : ℕ → ℕ → Bool) (expired_count : ℕ) : Type 0 where
   pub epoch_is : epoch ≡ t.epoch
   pub given_is : open_ids_given ≡ t.given
   pub count_is : length opens ≡ hash_map_len t.rows
   pub rows_are : (o : ℕ) → OpenRowShown (get nat_eq t.rows o) (standing o) (opened o) (session_of_open o) (sequence o)
-      (deadline o) (enumeration_location o) (lock_sequences o)
+      (deadline o) (enumeration_location o, current_byte_offset o) (lock_sequences o)
   pub trees_are : (o : ℕ) → OpenTreeShown (get nat_eq t.rows o) (tree_of_open o)
   pub guids_are : (c g : ℕ) → by_guid c g ≡ get pair_eq t.guids (c, g)
   -- what is held of each file
@@ -41,7 +41,7 @@ pub record OpensShown (t : Opens) (epoch : ℕ) (opens : List ℕ) (standing : �
 
 abbrev pub ShowsOpens : Opens → model.Server → Type 0
 ShowsOpens t s = OpensShown t s.epoch s.opens s.standing s.open_ids_given s.opened s.session_of_open s.tree_of_open s.sequence
-    s.deadline s.enumeration_location s.lock_sequences s.by_guid s.ranges s.closed s.refused s.guids s.expired_guids
+    s.deadline s.enumeration_location s.current_byte_offset s.lock_sequences s.by_guid s.ranges s.closed s.refused s.guids s.expired_guids
     s.expired_count
 
 -- ---- room, which is no part of what is shown

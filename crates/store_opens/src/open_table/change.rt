@@ -14,9 +14,9 @@ ghost use Rattle.store_opens.specs.share_modes.Locking as outcomes;
 ghost use Rattle.store_opens.specs.share_modes.Answers.{AllOf};
 ghost use Rattle.store_opens.specs.open_table.Locks.{DeniedBy, StandsWith, held_of, held_by, with_ranges};
 ghost use Rattle.store_opens.specs.lock_replay.Shown.{SlotsShown};
-ghost use Rattle.store_opens.specs.open_table.Rows.{offered_row, located_row, SlotsPut};
+ghost use Rattle.store_opens.specs.open_table.Rows.{offered_row, located_row, positioned_row, SlotsPut};
 ghost use Rattle.store_opens.specs.open_table.Shown.{ShowsOpens};
-ghost use Rattle.store_opens.specs.open_table.Changes.{offered_to, located_at};
+ghost use Rattle.store_opens.specs.open_table.Changes.{offered_to, located_at, offset_at};
 
 use crate::channel_sequence::Offered;
 use crate::open_index::FileOpens;
@@ -48,6 +48,13 @@ impl Opens {
         ensures { (s : Server) → ShowsOpens self.old s → s.standing id ≡ true → ShowsOpens self.new (located_at s id last) }
     {
         put_location(&mut self.rows, id, last);
+    }
+
+    /// The position of an open is this one.
+    pub fn set_position(&mut self, id: u64, position: u64)
+        ensures { (s : Server) → ShowsOpens self.old s → s.standing id ≡ true → ShowsOpens self.new (offset_at s id position) }
+    {
+        put_position(&mut self.rows, id, position);
     }
 
     /// What a lock of an open would leave of its file's ranges. A caller that is to write it down first puts it in
@@ -169,6 +176,15 @@ fn put_location(rows: &mut HashMap<u64, Row>, id: u64, last: Option<Text>)
 {
     if let Some(row) = rows.get_mut(&id) {
         row.location = last;
+    }
+}
+
+fn put_position(rows: &mut HashMap<u64, Row>, id: u64, position: u64)
+    ensures rows { (q : ℕ) → get nat_eq rows.new q ≡ (if q == id then positioned_row position (get nat_eq rows.old q) else get nat_eq rows.old q) }
+    ensures len { hash_map_len rows.new ≡ hash_map_len rows.old }
+{
+    if let Some(row) = rows.get_mut(&id) {
+        row.position = position;
     }
 }
 

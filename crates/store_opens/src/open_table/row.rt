@@ -51,11 +51,13 @@ pub struct Row {
     pub deadline: Option<u64>,
     /// The last name that its listing gave.
     pub location: Option<Text>,
+    /// The position that was set last; no read or write moves it.
+    pub position: u64,
     pub slots: Slots,
 }
 
 impl Row {
-    /// A row for a new open: no deadline, no listing, no slot used.
+    /// A row for a new open: no deadline, no listing, position 0, no slot used.
     pub fn new(alloc: Global, made: &OpenParts, user: &str) -> Result<Row, AllocError>
         ensures { IfOk result (λ r. IsOpenNewRow r made.now user.now) }
     {
@@ -104,6 +106,7 @@ fn new_row(made: &OpenParts, user: Text, slots: Slots) -> Row
         sequence: Seen::new(made.sequence),
         deadline: None,
         location: None,
+        position: 0,
         slots,
     }
 }

@@ -8,7 +8,10 @@ use Rattle.server_effects.proofs.reached.show.Goals as goal
 pub returns-clause-shows : goal.returns-clause-shows
 returns-clause-shows c = λ now s f h a. record {
   shows = reached (λ v. TablesShown c.reach.new.t v
-      → TablesShown c.locate.new.t (record v { enumeration_location = put s.enumeration_location c.args.id c.args.last })) s
+      → TablesShown c.locate.new.t (record v {
+        enumeration_location = put s.enumeration_location c.args.id c.args.last;
+        current_byte_offset = s.current_byte_offset;
+      })) s
       (message_of c.args.m.now) c.args.id
       (λ x. c.locate.ensures.shows s x a) (λ x. c.locate.ensures.shows
       (record s { sequence = put s.sequence c.args.id c.args.m.now.channel_sequence }) x a) (c.reach.ensures.shows s h a);

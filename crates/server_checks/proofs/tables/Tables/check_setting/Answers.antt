@@ -30,3 +30,11 @@ returns-in-SetAllocation c = λ s f t st p. c.check_allocation.ensures (command_
 pub returns-in-SetEnd : goal.returns-in-SetEnd
 returns-in-SetEnd c = λ s f t st p. c.check_end.ensures (command_of c.args.m.now.command) s f t st
     ∙ sym (ap (λ (z : Setting). setting_check s (message_of c.args.m.now) c.args.id (setting_of z)) c.in-SetEnd.is)
+
+pub returns-in-SetPosition : goal.returns-in-SetPosition
+returns-in-SetPosition c = λ s f t st p. c.seek.ensures (command_of c.args.m.now.command)
+    ∙ sym (ap (λ (z : Setting). setting_check s (message_of c.args.m.now) c.args.id (setting_of z)) c.in-SetPosition.is)
+
+pub returns-in-SetMode : goal.returns-in-SetMode
+returns-in-SetMode c = λ s f t st p. c.told.ensures (command_of c.args.m.now.command)
+    ∙ sym (ap (λ (z : Setting). setting_check s (message_of c.args.m.now) c.args.id (setting_of z)) c.in-SetMode.is)

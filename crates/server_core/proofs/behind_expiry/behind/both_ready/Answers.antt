@@ -18,7 +18,7 @@ returns-in-Ok-clause-shown g c = λ s records f h a p.
       x.0,
       x.1 ∙ p.0,
       p.1,
-      c.body_law.ensures.fits s c.args.body _ p.1 ∙ (ap (λ (j : ℕ). fits_by j (length c.args.body)) h.journal_is ∙ c.requires),
+      c.body_law.ensures.fits s c.args.body _ f.limit p.1 ∙ (ap (λ (j : ℕ). fits_by j (length c.args.body)) h.journal_is ∙ c.requires),
     )
 
 pub returns-in-Ok-clause-step : goal.returns-in-Ok-clause-step

@@ -13,7 +13,7 @@ returns-clause-front g c = λ front h. h
 pub returns-clause-shown : goal.returns-clause-shown
 returns-clause-shown g c = λ s records f h a p. (
   h,
-  c.body_law.ensures.fits s c.args.body _ p.1 ∙ (ap (λ (j : ℕ). fits_by j (length c.args.body)) h.journal_is
+  c.body_law.ensures.fits s c.args.body _ f.limit p.1 ∙ (ap (λ (j : ℕ). fits_by j (length c.args.body)) h.journal_is
       ∙ (ap (λ (n : ℕ). fits_by c.args.server.now.tables.journal n) (sym c.len.ensures) ∙ (sym c.fits.ensures ∙ c.if-fits.false))),
 )
 

@@ -16,7 +16,7 @@ returns-then-not-fits-clause-step g c = λ users s L records e a m b. (
   a.holds,
   a.said ∙ c.expiring_law.ensures.unfit s c.args.now c.args.id (event_of c.args.asked.now) m.is_due
       (c.expiring_law.ensures.front s c.args.now c.args.id (event_of c.args.asked.now)
-      (c.body_law.ensures.fits s c.args.front.now _ b ∙ (ap (λ (j : ℕ). fits_by j (length c.args.front.now)) a.holds.shown.tables.journal_is
+      (c.body_law.ensures.fits s c.args.front.now _ a.holds.fits.limit b ∙ (ap (λ (j : ℕ). fits_by j (length c.args.front.now)) a.holds.shown.tables.journal_is
       ∙ (ap (λ (n : ℕ). fits_by c.args.server.now.tables.journal n) (sym c.len.ensures) ∙ (sym c.fits.ensures ∙ c.if-not-fits.true))))),
 )
 
@@ -50,7 +50,7 @@ returns-in-Ok-clause-step g c = λ users s L records e a m b.
     c.args.now e c.args.asked.now o a) m
     (record {
       body = b;
-      room = c.body_law.ensures.fits s c.args.front.now _ b
+      room = c.body_law.ensures.fits s c.args.front.now _ a.holds.fits.limit b
           ∙ (ap (λ (j : ℕ). fits_by j (length c.args.front.now)) a.holds.shown.tables.journal_is
           ∙ (ap (λ (n : ℕ). fits_by c.args.server.now.tables.journal n) (sym c.len.ensures) ∙ (sym c.fits.ensures ∙ c.if-not-fits.false)));
     }))
@@ -65,7 +65,7 @@ returns-in-Ok-clause-any_moment g c = λ told users s L records bodies e a m b n
     c.args.now e c.args.asked.now o a) m
     (record {
       body = b;
-      room = c.body_law.ensures.fits s c.args.front.now _ b
+      room = c.body_law.ensures.fits s c.args.front.now _ a.holds.fits.limit b
           ∙ (ap (λ (j : ℕ). fits_by j (length c.args.front.now)) a.holds.shown.tables.journal_is
           ∙ (ap (λ (n : ℕ). fits_by c.args.server.now.tables.journal n) (sym c.len.ensures) ∙ (sym c.fits.ensures ∙ c.if-not-fits.false)));
     }) (n.0, stands_still g.D.Disk.seen g.D.Disk.may_leave old.journal c.reserve_body.new.journal s records bodies o n.1))

@@ -67,8 +67,16 @@ returns-in-Show-clause-shows c = λ s f i a. subst (λ (r : Ready). ArmShows c.a
     (message_of c.args.m.now) c.args.now (command_of c.args.m.now.command) r) (sym c.in-Show.is)
     (λ j b. c.show.ensures.shows c.args.now s f (whole c.args.t.now s j.others j.files) b) i a
 
+pub returns-in-Seek-clause-shows : goal.returns-in-Seek-clause-shows
+returns-in-Seek-clause-shows c = λ s f i a. subst (λ (r : Ready). ArmShows c.args.t.now c.seek.new.t c.seek.result s
+    (message_of c.args.m.now) c.args.now (command_of c.args.m.now.command) r) (sym c.in-Seek.is)
+    (λ j b. c.seek.ensures.shows c.args.now s f (whole c.args.t.now s j.others j.files) b) i a
+
 pub returns-in-Show-clause-config : goal.returns-in-Show-clause-config
 returns-in-Show-clause-config c = c.show.ensures.config
+
+pub returns-in-Seek-clause-config : goal.returns-in-Seek-clause-config
+returns-in-Seek-clause-config c = c.seek.ensures.config
 
 pub returns-in-KeepSlot-clause-shows : goal.returns-in-KeepSlot-clause-shows
 returns-in-KeepSlot-clause-shows c = λ s f i a. subst (λ (r : Ready). ArmShows c.args.t.now c.keep_slot.new.t c.keep_slot.result s
@@ -212,6 +220,11 @@ pub returns-in-Show-clause-beside : goal.returns-in-Show-clause-beside
 returns-in-Show-clause-beside c =
     subst (λ (r : Ready). Beside c.args.t.now c.show.new.t c.show.result (message_of c.args.m.now) r) (sym c.in-Show.is)
     (c.show.ensures.bare, c.show.ensures.logons)
+
+pub returns-in-Seek-clause-beside : goal.returns-in-Seek-clause-beside
+returns-in-Seek-clause-beside c =
+    subst (λ (r : Ready). Beside c.args.t.now c.seek.new.t c.seek.result (message_of c.args.m.now) r) (sym c.in-Seek.is)
+    (c.seek.ensures.bare, c.seek.ensures.logons)
 
 pub returns-in-KeepSlot-clause-beside : goal.returns-in-KeepSlot-clause-beside
 returns-in-KeepSlot-clause-beside c =

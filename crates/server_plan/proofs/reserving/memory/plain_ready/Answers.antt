@@ -17,6 +17,9 @@ returns-in-Tell-clause-stands c = λ k. rw c.in-Tell.is refl
 pub returns-in-Show-clause-stands : goal.returns-in-Show-clause-stands
 returns-in-Show-clause-stands c = λ k. rw c.in-Show.is refl
 
+pub returns-in-Seek-clause-stands : goal.returns-in-Seek-clause-stands
+returns-in-Seek-clause-stands c = λ k. rw c.in-Seek.is refl
+
 pub returns-in-KeepSlot-clause-stands : goal.returns-in-KeepSlot-clause-stands
 returns-in-KeepSlot-clause-stands c = λ k. rw c.in-KeepSlot.is refl
 
@@ -44,6 +47,9 @@ returns-in-Tell-clause-sure c = λ k. rw c.in-Tell.is refl
 pub returns-in-Show-clause-sure : goal.returns-in-Show-clause-sure
 returns-in-Show-clause-sure c = λ k. rw c.in-Show.is refl
 
+pub returns-in-Seek-clause-sure : goal.returns-in-Seek-clause-sure
+returns-in-Seek-clause-sure c = λ k. rw c.in-Seek.is refl
+
 pub returns-in-KeepSlot-clause-sure : goal.returns-in-KeepSlot-clause-sure
 returns-in-KeepSlot-clause-sure c = λ k. rw c.in-KeepSlot.is refl
 
@@ -59,4 +65,5 @@ returns-in-EndSession-clause-sure c = λ k. rw c.in-EndSession.is refl
 pub returns-clause-sure : goal.returns-clause-sure
 returns-clause-sure c = λ k. rest_wants k c.args.verdict c.in_default.not-Refuse c.in_default.not-Give
     c.in_default.not-TurnDown c.in_default.not-Tell c.in_default.not-Show
+    c.in_default.not-Seek
     c.in_default.not-KeepSlot c.in_default.not-PutRanges c.in_default.not-CloseOpen c.in_default.not-EndSession

@@ -42,5 +42,5 @@ returns c = λ s p i h new.
           (ap (λ (g : ℕ). record t { sessions = c.stand_new.new.sessions; undated = c.note_new.new.undated; given = g }) n)
           c.place.ensures.rows c.place.ensures.len c.place.ensures.guids c.place.ensures.file c.place.ensures.files c.place.ensures.rest)
           (λ q. tree_added (q == o) (get nat_eq t.rows q) row (s.tree_of_open q) row.tree (h.trees_are q) (λ x k. refl))
-          c.requires.0.3 i h st new.no_deadline new.no_location new.no_slots),
+          c.requires.0.3 i h st new.no_deadline new.no_location new.no_position new.no_slots),
     )

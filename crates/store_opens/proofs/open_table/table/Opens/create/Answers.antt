@@ -23,6 +23,7 @@ returns-in-Ok c = λ s i h.
       user_is = refl;
       no_deadline = made.no_deadline;
       no_location = made.no_location;
+      no_position = made.no_position;
       no_slots = made.no_slots;
     }) in (
       sym (c.in_default.ensures.shown s h),

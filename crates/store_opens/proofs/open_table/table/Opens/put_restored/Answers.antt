@@ -25,4 +25,4 @@ returns c = λ s p user i h free noted new.
     (λ q. noted) (λ q k. k) (ap (λ (g : ℕ). record t { given = g }) given)
     c.place.ensures.rows c.place.ensures.len c.place.ensures.guids c.place.ensures.file c.place.ensures.files c.place.ensures.rest)
     (λ q. tree_kept (q == o) (get nat_eq t.rows q) w (s.tree_of_open q) new.no_session (h.trees_are q))
-    c.requires.3 i h st new.no_deadline new.no_location new.no_slots)
+    c.requires.3 i h st new.no_deadline new.no_location new.no_position new.no_slots)
