@@ -132,6 +132,8 @@ fn setting_of(words: &[&str]) -> Option<Setting> {
         "unmark" => Some(Setting::SetDelete { marked: false }),
         "allocate" => Some(Setting::SetAllocation { size }),
         "size" => Some(Setting::SetEnd { size }),
+        "seek" => Some(Setting::SetPosition { position: size }),
+        "mode" => Some(Setting::SetMode),
         _ => None,
     }
 }

@@ -86,11 +86,16 @@ fn push_body(said: &mut String, body: &Body) -> Result<(), AllocError> {
             info,
             access,
             options,
+            position,
         } => {
             let path = if path.is_empty() { "-" } else { path.as_str() };
             write!(said, "class {class} {path} ")?;
             push_info(said, info)?;
-            write!(said, " access {access:x} options {options:x}")
+            write!(said, " access {access:x} options {options:x}")?;
+            if *position == 0 {
+                return Ok(());
+            }
+            write!(said, " position {position}")
         }
         Body::VolumeInfo { class, room, used } => {
             write!(said, "class {class} room {room} used {used}")

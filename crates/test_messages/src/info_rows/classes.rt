@@ -151,6 +151,82 @@ fn file_fs_attribute_information(
     both_ways!(said, alloc, m, read_file_fs_attribute_information, write_file_fs_attribute_information, v => v.name.len() < 0x1_0000_0000)
 }
 
+fn file_ea_information(said: &mut String, alloc: Global, m: &[u8]) -> Result<(), AllocError> {
+    both_ways!(
+        said,
+        alloc,
+        m,
+        read_file_ea_information,
+        write_file_ea_information
+    )
+}
+
+fn file_access_information(said: &mut String, alloc: Global, m: &[u8]) -> Result<(), AllocError> {
+    both_ways!(
+        said,
+        alloc,
+        m,
+        read_file_access_information,
+        write_file_access_information
+    )
+}
+
+fn file_position_information(said: &mut String, alloc: Global, m: &[u8]) -> Result<(), AllocError> {
+    both_ways!(
+        said,
+        alloc,
+        m,
+        read_file_position_information,
+        write_file_position_information
+    )
+}
+
+fn file_mode_information(said: &mut String, alloc: Global, m: &[u8]) -> Result<(), AllocError> {
+    both_ways!(
+        said,
+        alloc,
+        m,
+        read_file_mode_information,
+        write_file_mode_information
+    )
+}
+
+fn file_alignment_information(
+    said: &mut String,
+    alloc: Global,
+    m: &[u8],
+) -> Result<(), AllocError> {
+    both_ways!(
+        said,
+        alloc,
+        m,
+        read_file_alignment_information,
+        write_file_alignment_information
+    )
+}
+
+fn file_fs_sector_size_information(
+    said: &mut String,
+    alloc: Global,
+    m: &[u8],
+) -> Result<(), AllocError> {
+    both_ways!(
+        said,
+        alloc,
+        m,
+        read_file_fs_sector_size_information,
+        write_file_fs_sector_size_information
+    )
+}
+
+fn file_name_information(said: &mut String, alloc: Global, m: &[u8]) -> Result<(), AllocError> {
+    both_ways!(said, alloc, m, read_file_name_information, write_file_name_information, v => v.name.len() < 0x1_0000_0000)
+}
+
+fn file_stream_information(said: &mut String, alloc: Global, m: &[u8]) -> Result<(), AllocError> {
+    both_ways!(said, alloc, m, read_file_stream_information, write_file_stream_information, v => v.name.len() < 0x1_0000_0000)
+}
+
 fn network_interface(said: &mut String, alloc: Global, m: &[u8]) -> Result<(), AllocError> {
     both_ways!(
         said,
@@ -169,6 +245,11 @@ fn file_class(said: &mut String, alloc: Global, word: &str, m: &[u8]) -> Result<
         "file_disposition_information" => file_disposition_information(said, alloc, m),
         "file_allocation_information" => file_allocation_information(said, alloc, m),
         "file_end_of_file_information" => file_end_of_file_information(said, alloc, m),
+        "file_ea_information" => file_ea_information(said, alloc, m),
+        "file_access_information" => file_access_information(said, alloc, m),
+        "file_position_information" => file_position_information(said, alloc, m),
+        "file_mode_information" => file_mode_information(said, alloc, m),
+        "file_alignment_information" => file_alignment_information(said, alloc, m),
         "file_network_open_information" => file_network_open_information(said, alloc, m),
         _ => said.push_str("an unknown word"),
     }
@@ -181,6 +262,7 @@ fn volume_class(said: &mut String, alloc: Global, word: &str, m: &[u8]) -> Resul
         "file_fs_full_size_information" => file_fs_full_size_information(said, alloc, m),
         "file_fs_volume_information" => file_fs_volume_information(said, alloc, m),
         "file_fs_attribute_information" => file_fs_attribute_information(said, alloc, m),
+        "file_fs_sector_size_information" => file_fs_sector_size_information(said, alloc, m),
         "network_interface" => network_interface(said, alloc, m),
         _ => file_class(said, alloc, word, m),
     }
@@ -191,6 +273,8 @@ pub fn class(said: &mut String, alloc: Global, word: &str, m: &[u8]) -> Result<(
     match word {
         "file_rename_information" => file_rename_information(said, alloc, m),
         "file_all_information" => file_all_information(said, alloc, m),
+        "file_name_information" => file_name_information(said, alloc, m),
+        "file_stream_information" => file_stream_information(said, alloc, m),
         _ => volume_class(said, alloc, word, m),
     }
 }

@@ -85,6 +85,7 @@ fn body_of(alloc: Global, status: u32, words: &mut Words<'_>) -> Result<Body, Fa
             info: info_of(words.number()),
             access: 0,
             options: 0,
+            position: 0,
         }),
         "content" => content_of(alloc, words),
         "names" => listing_of(alloc, words.rest()),

@@ -85,6 +85,7 @@ fn file_in(alloc: Global, words: &mut Words<'_>) -> Result<Body, AllocError> {
         info: INFO,
         access: 0x12_019f,
         options: 0x20,
+        position: 0x1_0203_0405,
     })
 }
 
