@@ -2,7 +2,7 @@
 # Tries real clients on a server: tools/clients.sh PROGRAM serve, PROGRAM by its whole path. It is begun as PROGRAM serve ADDR with its
 # settings on standard input, in a new folder. One line a check, and a count at the end; the status is 0 where none failed.
 # It wants Debian's smbclient (4.17), python3-impacket (0.10), python3-smbc (1.0) and rclone (1.60); what is missing is said, and its checks are left out.
-# The checks of NTLM without SPNEGO, as Linux's kernel sends it, want Python's package cryptography.
+# The checks of NTLM without SPNEGO, as Linux's kernel sends it, and of marks over a start want Python's package cryptography.
 # SIZES (bytes of the files that are put and got) and PORT may be given; LIMIT is how many seconds a client may take.
 top=$(cd "$(dirname "$0")/.." && pwd)
 sizes=${SIZES:-0 1 65536 1048577 50000000}; port=${PORT:-4450}; limit=${LIMIT:-600}
@@ -135,12 +135,14 @@ with_smbclient() {
   for size in $sizes; do check "smbclient $kind: put and get $size bytes" round "$size"; done
   check "smbclient $kind: make, rename, list, delete, remove" names
   # no short names: file class 21 is refused by name
-  meets "smbclient $kind: allinfo" NT_STATUS_INVALID_INFO_CLASS smb "${protection[@]}" -c "put $room/f1 f1; allinfo f1"
+  meets "smbclient $kind: allinfo" NT_STATUS_OBJECT_NAME_NOT_FOUND smb "${protection[@]}" -c "put $room/f1 f1; allinfo f1"
   check "smbclient $kind: a new file" archived
   meets "smbclient $kind: a read-only file, written" NT_STATUS_ACCESS_DENIED smb "${protection[@]}" -c "setmode held +r; put $room/f1 held"
   meets "smbclient $kind: a read-only file, deleted" NT_STATUS_CANNOT_DELETE smb "${protection[@]}" -c "del held"
   meets "smbclient $kind: a hidden file, put anew" NT_STATUS_ACCESS_DENIED smb "${protection[@]}" -c "setmode held -r; setmode held +h; put $room/f1 held"
   check "smbclient $kind: the same without attributes" freed
+  meets "smbclient $kind: a directory that isn't empty, removed" NT_STATUS_DIRECTORY_NOT_EMPTY smb "${protection[@]}" -c "mkdir full; put $room/f1 full\\f1; rmdir full"
+  meets "smbclient $kind: the same with all below it" NT_STATUS_NO_SUCH_FILE smb "${protection[@]}" -c "deltree full; ls full"
   WHO=user%wrong meets "smbclient $kind: a wrong password" NT_STATUS_LOGON_FAILURE smb "${protection[@]}" -c ls
   WHO=nobody%Password meets "smbclient $kind: an unknown user" NT_STATUS_LOGON_FAILURE smb "${protection[@]}" -c ls
   SHARE=nowhere meets "smbclient $kind: an unknown share" NT_STATUS_BAD_NETWORK_NAME smb "${protection[@]}" -c ls
@@ -169,6 +171,21 @@ with_impacket() { lines_of /usr/bin/python3 "$top/tools/$1" "$port" "$2" user Pa
 # bare KIND WORD: logons without SPNEGO, which a server takes (any) or refuses (spnego).
 bare() { lines_of python3 "$top/tools/bare_client.py" "$port" "$1" "$2" user Password data; }
 
+# restarted KIND: a client marks directories, the server is killed under it and begun again, and the client says what it finds.
+restarted() {
+  local client turn
+  timeout "$limit" python3 "$top/tools/marked_client.py" "$port" "$1" user Password data > "$room/marked" 2>&1 & client=$!
+  for turn in $(seq 600); do
+    grep -q '^marked$' "$room/marked" && break
+    kill -0 $client 2>/dev/null || break
+    sleep 0.1
+  done
+  stop
+  begin "$folder" "$settings"
+  wait $client
+  lines_of cat "$room/marked"
+}
+
 # Another client yet, in Go: it copies a folder here and compares the bytes.
 with_rclone() {
   local there hidden
@@ -188,7 +205,7 @@ with_rclone() {
 for size in $sizes 1 65536 1048577; do [ -e "$room/f$size" ] || head -c "$size" /dev/urandom > "$room/f$size"; done
 head -c "$whole" /dev/urandom > "$room/big"
 has_smbclient=; command -v smbclient > /dev/null && has_smbclient=yes || echo "smbclient is missing: its checks are left out"
-has_cryptography=; python3 -c 'import cryptography' 2> /dev/null && has_cryptography=yes || echo "python3's cryptography is missing: the checks of NTLM without SPNEGO are left out"
+has_cryptography=; python3 -c 'import cryptography' 2> /dev/null && has_cryptography=yes || echo "python3's cryptography is missing: the checks of NTLM without SPNEGO and of marks over a start are left out"
 has_impacket=; /usr/bin/python3 -c 'import impacket' 2> /dev/null && has_impacket=yes || echo "python3-impacket is missing: its checks are left out"
 has_smbc=; /usr/bin/python3 -c 'import smbc' 2> /dev/null && has_smbc=yes || echo "python3-smbc is missing: its checks are left out"
 has_rclone=; command -v rclone > /dev/null && has_rclone=yes || echo "rclone is missing: its checks are left out"
@@ -213,7 +230,10 @@ for kind in sealed signed; do
   elif [ -n "$has_smbclient" ]; then
     for name in $signings; do check "smbclient signed: put, get and list by $name" by_one "client smb3 signing algorithms" "$name"; done
   fi
-  [ -n "$has_cryptography" ] && bare "$kind" spnego
+  if [ -n "$has_cryptography" ]; then
+    bare "$kind" spnego
+    restarted "$kind"
+  fi
   check "$kind: 200 connections at once" timeout "$limit" python3 "$top/tools/many_connections.py" "$port" 200 0
   stop
   begin "$folder-any" "tokens any\n$settings"

@@ -345,10 +345,10 @@ class Client(Link):
     def create(self, name, access=ACCESS, shared=SHARED, disposition=OPEN_OR_MAKE, options=PLAIN, contexts=b""):
         return Opened(self.call(CREATE, create_body(name, access, shared, disposition, options, contexts)))
 
-    def create_persistent(self, name, guid, shared=SHARED, disposition=OPEN_OR_MAKE):
+    def create_persistent(self, name, guid, shared=SHARED, disposition=OPEN_OR_MAKE, options=PLAIN):
         """2.2.13.2.11: an open that outlives its session; the time for which it is kept is the server's choice."""
         asked = create_context(b"DH2Q", struct.pack("<II8x", 0, PERSISTENT) + guid)
-        return self.create(name, shared=shared, disposition=disposition, contexts=asked)
+        return self.create(name, shared=shared, disposition=disposition, options=options, contexts=asked)
 
     def attach(self, name, file, guid):
         """2.2.13.2.12: a persistent open of an earlier session."""

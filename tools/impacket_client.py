@@ -8,6 +8,7 @@ lock joins texts.
 """
 import io
 import os
+import struct
 import sys
 
 if len(sys.argv) != 6:
@@ -117,6 +118,57 @@ def locks(it):
     it.deleteFile(SHARE, "ilock")
 
 
+def classes(it):
+    """Information of a file and of the volume that impacket's own structures read (MS-FSCC 2.4, 2.5)."""
+    tree = it.connectTree(SHARE)
+    file = it.createFile(tree, "iclass", shareMode=7)
+    it.writeFile(tree, file, b"text")
+    inner = it._SMBConnection
+    asked = lambda number, kind=1: inner.queryInfo(tree, file, infoType=kind, fileInfoClass=number)
+    assert smb3structs.FILE_EA_INFORMATION(asked(7))["EaSize"] == 0
+    assert smb3structs.FILE_ACCESS_INFORMATION(asked(8))["AccessFlags"] & 3 == 3
+    assert smb3structs.FILE_NAME_INFORMATION(asked(9))["FileName"] == "\\iclass".encode("utf-16-le")
+    assert inner.setInfo(tree, file, inputBlob=(9).to_bytes(8, "little"), fileInfoClass=14)
+    assert smb3structs.FILE_POSITION_INFORMATION(asked(14))["CurrentByteOffset"] == 9
+    assert inner.setInfo(tree, file, inputBlob=(2).to_bytes(4, "little"), fileInfoClass=16)
+    assert smb3structs.FILE_MODE_INFORMATION(asked(16))["Mode"] == 0
+    assert smb3structs.FILE_ALIGNMENT_INFORMATION(asked(17))["AlignmentRequirement"] == 0
+    refused(lambda: asked(21), 0xC0000034)
+    assert asked(22) == struct.pack("<IIQQ", 0, 14, 4, 4096) + "::$DATA".encode("utf-16-le")
+    folder = inner.create(tree, "", 0x81, 7, 1, 1, 0)
+    assert inner.queryInfo(tree, folder, fileInfoClass=22) == b"", "a directory has streams"
+    it.closeFile(tree, folder)
+    assert asked(11, 2)[:8] == b"\0\2\0\0\0\x10\0\0"
+    refused(lambda: inner.setInfo(tree, file, inputBlob=b"\0" * 7 + b"\x80", fileInfoClass=14), 0xC000000D)
+    it.closeFile(tree, file)
+    it.deleteFile(SHARE, "iclass")
+
+
+def marks(it):
+    """A directory that its last open leaves marked and full stays, without its mark (MS-FSA 2.1.5.5 leaves the case open). Until then it takes
+    no name. impacket keeps opens by their names, so the second one of the directory has another case."""
+    pending, tree, inner = 0xC0000056, it.connectTree(SHARE), it._SMBConnection
+    marking = inner.create(tree, "imark", 0x110081, 7, 0x1001, 2, 0)  # it deletes on close, and makes the directory
+    kept = inner.create(tree, "IMARK", 0x110081, 7, 1, 1, 0)
+    for name in ("imark\\a", "iother"):
+        it.putFile(SHARE, name, io.BytesIO(b"text").read)
+    it.closeFile(tree, marking)
+    refused(lambda: it.createFile(tree, "imark\\b"), pending)
+    refused(lambda: it.openFile(tree, "imark\\a"), pending)
+    refused(lambda: it.rename(SHARE, "iother", "imark\\b"), pending)
+    refused(lambda: it.listPath(SHARE, "imark\\*"), pending)
+    assert "a".encode("utf-16-le") in inner.queryDirectory(tree, kept, maxBufferSize=65536)
+    it.closeFile(tree, kept)
+    it.rename(SHARE, "iother", "imark\\b")
+    assert sorted(entry.get_longname() for entry in it.listPath(SHARE, "imark\\*")) == [".", "..", "a", "b"]
+    refused(lambda: it.deleteDirectory(SHARE, "imark"), 0xC0000101)
+    it.closeFile(tree, inner.create(tree, "imark", 0x10000, 7, 0x1001, 1, 0))  # marked and full as its one open leaves
+    for name in ("a", "b"):
+        it.deleteFile(SHARE, f"imark\\{name}")
+    it.deleteDirectory(SHARE, "imark")
+    refused(lambda: it.listPath(SHARE, "imark\\*"), 0xC0000034)
+
+
 def wrong_password():
     refused(lambda: connected().login(USER, PASSWORD + "x"), 0xC000006D)
 
@@ -140,7 +192,7 @@ def main():
     well = check("log on", lambda: kept.update(it=logged_on()))
     if well:
         it = kept["it"]
-        for name, call in (("put and get", files), ("make, rename, list, delete", names), ("lock", locks), ("an unknown share", unknown_share)):
+        for name, call in (("put and get", files), ("make, rename, list, delete", names), ("lock", locks), ("information classes", classes), ("a directory marked while it isn't empty", marks), ("an unknown share", unknown_share)):
             well = check(name, lambda: call(it)) and well
         well = check("log off", it.logoff) and well
     well = check("a wrong password", wrong_password) and well

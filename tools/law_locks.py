@@ -125,7 +125,7 @@ use Rattle.law_sessions.proofs.messages.Lists.{get-push, rest_of, own_up_count, 
     attach_down_count, front_up, front_down, waited, waited_down}
 use Rattle.law_sessions.specs.sessions.Sessions.{is_ops}
 use Rattle.law_locks.specs.Locks.{Locks, locking, kept_at, firm, is_unsent, refused_for_good, in_slots, user_at,
-    open_at, kept_of, goes_with, piped, PARTS}
+    open_at, kept_of, is_stuck, piped, PARTS}
 use Rattle.law_locks.proofs.Words.{WORDS}
 """
 for marked, parts in (("CPARTS", C_PARTS), ("PARTS", PARTS)):
@@ -386,7 +386,7 @@ settle = event("Settle", "a reply settles its operation", "outcome outstanding_o
          ("stuck", "(j n : ℕ) (x : Sent) → slice_get (conns j).up n ≡ Some x → x.token ≡ ForOp g "
              "→ shuts_open (c.op g) ≡ true → is_ok o0 ≡ false → s.present x.message.session_id ≡ true "
              "→ s.standing (open_at c g) ≡ true → (s.opened (open_at c g)).persistent ≡ false "
-             "→ lower_limit < s.journal + 34 × goes_with s (open_at c g) ≡ true"),
+             "→ is_stuck s (open_at c g) ≡ true"),
          ("acted", "locking (c.op g) ≡ true → is_ok o0 ≡ true → a g ≡ 1"),
              ("unacted", "locking (c.op g) ≡ true → refused_for_good o0 ≡ true → a g ≡ 0")],
       c="(record c { outcome = new; outstanding_on = put c.outstanding_on g None; settled_by = by0; order = order0; "
@@ -552,7 +552,7 @@ moves = event("Moves", "the server moves, and carries out no lock",
        ("opened", "(q : ℕ) → " + OK
            + "s2.standing (c.file q) ≡ true → (s2.opened (c.file q)).persistent ≡ (s.opened (c.file q)).persistent"),
        ("stuck", "(q : ℕ) → " + OK + "s2.standing (c.file q) ≡ true → (s.opened (c.file q)).persistent ≡ false "
-           "→ goes_with s (c.file q) ≡ true → lower_limit < s.journal + 34 → goes_with s2 (c.file q) ≡ true"),
+           "→ is_stuck s (c.file q) ≡ true → is_stuck s2 (c.file q) ≡ true"),
        ("unmade", "(q r o : ℕ) → makes_open (c.op q) ≡ true → is_ok (c.outcome q) ≡ false → s2.by_guid c.who.guid "
            "(guid_for c q) ≡ Some o → s2.lock_sequences o r ≡ None"),
        ("plain", "(q : ℕ) → makes_open (c.op q) ≡ true → 1 ≤ a2 q → piped c.who.share ≡ false"),
@@ -667,7 +667,7 @@ writes = event("Writes", "a slot keeps a lock's answer", "lock_sequences journal
            ("own", "a2 g ≡ (if st0 == success then 1 else 0)"),
            ("creates_same", "(q : ℕ) → makes_open (c.op q) ≡ true → a2 q ≡ a q"),
        ("room", "(s.opened (open_at c g)).persistent ≡ true → s.journal + 66 ≤ lower_limit"),
-       ("goes_same", "(o : ℕ) → goes_with SERVER o ≡ goes_with s o"),
+       ("stuck_same", "(o : ℕ) → is_stuck s o ≡ true → is_stuck SERVER o ≡ true"),
        ("inj", "(q : ℕ) → " + OK + "s.standing (c.file q) ≡ true → c.file q ≡ open_at c g → q ≡ create_at c g"),
        ("unmade", "(q : ℕ) → makes_open (c.op q) ≡ true → is_ok (c.outcome q) ≡ false → s.by_guid c.who.guid "
            "(guid_for c q) ≢ Some (open_at c g)"),
@@ -708,11 +708,11 @@ writes.parts.update({
     "first_reply": "λ j n p y h t m. let old = i.first_reply j n p y h t m in let al = alone in let ot = others p m in grind arith",
     "closed_not": "λ p m. let old = i.closed_not p m in let ot = others p m in grind arith",
     "left_full": "λ j n p x h t. let old = i.left_full j n p x h t in grind arith",
-    "left_stuck": "λ j n p x h t. let old = i.left_stuck j n p x h t in let gs = goes_same (open_at c p) in grind arith",
+    "left_stuck": "λ j n p x h t. let old = i.left_stuck j n p x h t in let sk = stuck_same (open_at c p) in grind arith",
     "left_idle": "λ j n p q x h t. let old = i.left_idle j n p q x h t in let lf = i.left_full j n p x h t in "
         "let rm = room in let ot = others q in " + "grind arith",
     "close_full": "λ j n p y h t. let old = i.close_full j n p y h t in grind arith",
-    "close_stuck": "λ j n p y h t. let old = i.close_stuck j n p y h t in let gs = goes_same (open_at c p) in grind arith",
+    "close_stuck": "λ j n p y h t. let old = i.close_stuck j n p y h t in let sk = stuck_same (open_at c p) in grind arith",
     "at_most": "λ p m. let old = i.at_most p m in let ot = others p m in let ow = own in grind arith",
     "ok_acted": "λ p m e. let old = i.ok_acted p m e in let ot = others p m in let okf = ok_firm (c.outcome p) e in grind arith",
     "refused_not": "λ p m e. let old = i.refused_not p m e in let ot = others p m in "
@@ -774,7 +774,7 @@ def emit(event):
 
 if __name__ == "__main__":
     write_wanted(EVENTS, emit)
-    first = ["Words", "Views", "Rooms", "Verdicts", "Steady", "Bare", "Undeleting"]
+    first = ["Words", "Views", "Calm", "Rooms", "Verdicts", "Steady", "Bare", "Undeleting"]
     first = standing(TOP, first)
     later = standing(TOP,
         ("Facing", "Sees", "Serving", "Others", "Locking", "Closing", "Serve", "Ends", "Pushing", "Lines", "Settling",

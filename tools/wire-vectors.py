@@ -322,8 +322,8 @@ def class_refusals(table, messages):
         value = counted_value(listing, {"file_information_class": number, "name": b"*\0"})
         only_read(table, "query_directory_request", listing, listing.spelled(value))
     for kind, layout, part, known, others in (
-        ("query_info_request", asked, "input", layouts.QUERY_CLASSES, {1: (0, 1, 10, 13, 19, 20, 64), 2: (0, 2, 6, 8, 9)}),
-        ("set_info_request", given, "payload", layouts.SET_CLASSES, {1: (0, 1, 5, 6, 18, 34, 255)}),
+        ("query_info_request", asked, "input", layouts.QUERY_CLASSES, {1: (0, 1, 10, 13, 19, 20, 64), 2: (0, 2, 6, 8, 9, 10, 12)}),
+        ("set_info_request", given, "payload", layouts.SET_CLASSES, {1: (0, 1, 5, 6, 8, 9, 17, 18, 21, 22, 34, 255)}),
     ):
         for info_type, numbers in others.items():
             for number in numbers:

@@ -118,6 +118,11 @@ PLAIN = (
     ("FileBasicInformation", f"{TIME_FIELDS} FileAttributes:4 Reserved:4"),
     ("FileStandardInformation", "AllocationSize:8 EndOfFile:8 NumberOfLinks:4 DeletePending:1 Directory:1 Reserved:2"),
     ("FileInternalInformation", "IndexNumber:8"),
+    ("FileEaInformation", "EaSize:4"),
+    ("FileAccessInformation", "AccessFlags:4"),
+    ("FilePositionInformation", "CurrentByteOffset:8"),
+    ("FileModeInformation", "Mode:4"),
+    ("FileAlignmentInformation", "AlignmentRequirement:4"),
     ("FileDispositionInformation", "DeletePending:1"),
     ("FileAllocationInformation", "AllocationSize:8"),
     ("FileEndOfFileInformation", "EndOfFile:8"),
@@ -129,6 +134,12 @@ PLAIN = (
         "FileFsFullSizeInformation",
         "TotalAllocationUnits:8 CallerAvailableAllocationUnits:8 ActualAvailableAllocationUnits:8"
         " SectorsPerAllocationUnit:4 BytesPerSector:4",
+    ),
+    (
+        "FileFsSectorSizeInformation",
+        "LogicalBytesPerSector:4 PhysicalBytesPerSectorForAtomicity:4 PhysicalBytesPerSectorForPerformance:4"
+        " FileSystemEffectivePhysicalBytesPerSectorForAtomicity:4 Flags:4 ByteOffsetForSectorAlignment:4"
+        " ByteOffsetForPartitionAlignment:4",
     ),
 )
 
@@ -170,15 +181,22 @@ def short_rows(table, kind, fields, data):
         at += width
 
 
-# the length of the name stands in the field of this name; MS-FSCC's EA size, position and alignment are passed over and written 0
+# the length of the name stands in the field of this name; MS-FSCC's EA size and alignment are passed over and written 0
 NAMED = (
     ("FileRenameInformation", "ReplaceIfExists:1 Reserved:7 RootDirectory:8 FileNameLength:4", "FileNameLength", "name"),
     (
         "FileAllInformation",
         f"{TIME_FIELDS} FileAttributes:4 Reserved1:4 AllocationSize:8 EndOfFile:8 NumberOfLinks:4 DeletePending:1"
-        " Directory:1 Reserved2:2 IndexNumber:8 ReservedEaSize:4 AccessFlags:4 ReservedPosition:8 Mode:4"
+        " Directory:1 Reserved2:2 IndexNumber:8 ReservedEaSize:4 AccessFlags:4 CurrentByteOffset:8 Mode:4"
         " ReservedAlignment:4 FileNameLength:4",
         "FileNameLength",
+        "name",
+    ),
+    ("FileNameInformation", "FileNameLength:4", "FileNameLength", "name"),
+    (
+        "FileStreamInformation",
+        "NextEntryOffset:4 StreamNameLength:4 StreamSize:8 StreamAllocationSize:8",
+        "StreamNameLength",
         "name",
     ),
     (

@@ -314,8 +314,8 @@ INFO = {
 # ---- information classes: those that are known, by information type; types of other kinds have none
 
 DIRECTORY_CLASSES = (1, 2, 3, 12, 37, 38)
-QUERY_CLASSES = {1: (4, 5, 6, 18, 34), 2: (1, 3, 4, 5, 7)}
-SET_CLASSES = {1: (4, 10, 13, 19, 20)}
+QUERY_CLASSES = {1: (4, 5, 6, 7, 8, 9, 14, 16, 17, 18, 21, 22, 34), 2: (1, 3, 4, 5, 7, 11)}
+SET_CLASSES = {1: (4, 10, 13, 14, 16, 19, 20)}
 
 
 def known_by(classes):
