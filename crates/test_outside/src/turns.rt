@@ -35,7 +35,10 @@ impl Counting {
             What::End => self.ends = self.ends.saturating_add(1),
             What::Frame(_) => {
                 self.frames = self.frames.saturating_add(1);
+                // A header alone behind its length (MS-SMB2 2.1, 2.2.1.2).
                 let mut answer = [0u8; 68];
+                answer[3] = 64;
+                answer[4..8].copy_from_slice(b"\xfeSMB");
                 answer[16] = 1;
                 return Bytes::from_slice(self.alloc, &answer);
             }

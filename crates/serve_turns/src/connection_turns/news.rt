@@ -1,5 +1,5 @@
 //! What a link is told of its connection's frames: which SESSION_SETUPs made a session or were refused, by which name. It is for lines of a
-//! log alone, so it looks at the bytes once more, and no contract speaks of it.
+//! log and for the count of refused logons alone, so it looks at the bytes once more, and no contract speaks of it.
 ghost use Rattle.std.specs.Prelude.{◌≤◌, length};
 
 use crate::connection_turns::turn::What;
@@ -8,6 +8,16 @@ use wire_bytes::{u16_at, u32_at};
 
 /// The ProtocolId of a message that is not sealed (MS-SMB2 2.2.1.2).
 const PLAIN: &[u8] = b"\xfeSMB";
+
+/// The bytes of a header (MS-SMB2 2.2.1.2), and where it has its Status and NextCommand.
+const HEADER: usize = 64;
+
+const STATUS: usize = 8;
+
+const NEXT_COMMAND: usize = 20;
+
+/// The bytes of the length in front of a frame (MS-SMB2 2.1).
+const LENGTH: usize = 4;
 
 /// The command of a SESSION_SETUP, as its two bytes stand in a header.
 const SESSION_SETUP: &[u8] = &[1, 0];
@@ -94,32 +104,89 @@ fn setup_asks(message: &[u8]) -> Asked {
 
 /// A message, without its length, that is a SESSION_SETUP and not sealed.
 fn is_setup(message: &[u8]) -> bool {
-    message.len() >= 64 && message.starts_with(PLAIN) && message[12..].starts_with(SESSION_SETUP)
+    message.len() >= HEADER
+        && message.starts_with(PLAIN)
+        && message[12..].starts_with(SESSION_SETUP)
 }
 
-/// What a turn asks in its first message, where that is a SESSION_SETUP.
-pub(crate) fn asked_by(what: &What) -> Option<Asked> {
-    let What::Frame(bytes) = what else {
+/// The first SESSION_SETUP of a frame that isn't sealed, and what stands behind it. In front may stand an ECHO of SessionId 0, which takes
+/// no key: passwords could else be guessed behind it without being counted.
+fn setup_in(text: &[u8]) -> Option<&[u8]> {
+    if !text.starts_with(PLAIN) {
         return None;
-    };
-    let message = bytes.as_slice();
-    if is_setup(message) {
-        return Some(setup_asks(message));
+    }
+    let mut left = text;
+    // Each round passes a header at least, so that it ends, and no byte is looked at twice.
+    'messages: while left.len() >= HEADER {
+        if is_setup(left) {
+            return Some(left);
+        }
+        let next = u32_at(left, NEXT_COMMAND) as usize;
+        if next < HEADER {
+            return None;
+        }
+        if next > left.len() {
+            return None;
+        }
+        left = &left[next..];
     }
     None
 }
 
-/// What a SESSION_SETUP brought that asked this, by the status of the first message of its answer. That stands behind its length.
-fn setup_brought(asked: Asked, answer: &[u8]) -> News {
+/// What a turn asks in its first SESSION_SETUP. Another one behind that in its frame is refused unheard, and tries no password.
+pub(crate) fn asked_by(what: &What) -> Option<Asked> {
+    let What::Frame(bytes) = what else {
+        return None;
+    };
+    match setup_in(bytes.as_slice()) {
+        Some(message) => Some(setup_asks(message)),
+        None => None,
+    }
+}
+
+/// How many bytes the text of a frame has, by its length in front (MS-SMB2 2.1).
+fn text_size(frame: &[u8]) -> usize
+    requires { 4 ≤ length frame.now }
+{
+    usize::from(frame[1]) * 65536 + usize::from(frame[2]) * 256 + usize::from(frame[3])
+}
+
+/// The first SESSION_SETUP's response in the frames of an answer, which are several where one would be too long.
+fn setup_answered(answer: &[u8]) -> Option<&[u8]> {
+    let mut rest = answer;
+    'frames: while rest.len() >= LENGTH {
+        let size = text_size(rest);
+        let text = &rest[LENGTH..];
+        if size > text.len() {
+            return None;
+        }
+        if let Some(found) = setup_in(&text[..size]) {
+            return Some(found);
+        }
+        rest = &text[size..];
+    }
+    None
+}
+
+/// What a SESSION_SETUP brought that asked this, by the status of its response.
+fn brought_by(asked: Asked, response: &[u8]) -> News {
     let Asked { binding, name } = asked;
-    if answer.len() < 68 || !answer[16..].starts_with(SESSION_SETUP) {
+    if response.len() < HEADER {
         return News::Nothing;
     }
-    match u32_at(answer, 12) {
+    match u32_at(response, STATUS) {
         SUCCESS if binding => News::Bound(name),
         SUCCESS => News::LoggedOn(name),
         GOES_ON => News::Nothing,
         _ => News::Refused(name),
+    }
+}
+
+/// What a SESSION_SETUP brought that asked this, by its frame's answer.
+fn setup_brought(asked: Asked, answer: &[u8]) -> News {
+    match setup_answered(answer) {
+        Some(response) => brought_by(asked, response),
+        None => News::Nothing,
     }
 }
 
