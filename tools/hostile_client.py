@@ -145,6 +145,7 @@ class Client(Link):
         self.next = self.session = self.tree = self.sent = 0
         self.channel, self.keys, self.encrypts, self.cipher, self.signing = 1, None, False, 0, 1
         self.chain, self.heard, self.signing_key, self.greeted = bytes(64), {}, None, bytes(64)
+        self.behind = False  # each SESSION_SETUP goes behind an ECHO in its frame
 
     # ---- messages
 
@@ -269,8 +270,22 @@ class Client(Link):
         body = struct.pack("<HBBIIHHQ", 25, int(binding), 1, 0, 0, 88, len(token), previous) + token
         return header(SESSION_SETUP, self.took(), session=self.session) + body
 
+    def set_up_behind(self, token):
+        """One SESSION_SETUP behind an ECHO of SessionId 0 in its frame (3.3.5.2.7), and its answer."""
+        echo = self.took()
+        front = header(ECHO, echo, chained=72) + struct.pack("<HH4x", 4, 0)
+        message = self.setup_message(token)
+        number = struct.unpack_from("<Q", message, 24)[0]
+        self.noted(message)
+        self.send_frame(front + message)
+        self.success(self.answer_to(echo))
+        answer = self.answer_to(number)
+        return struct.unpack_from("<I", answer, 8)[0], answer
+
     def set_up(self, token, to=None, previous=0):
         """One SESSION_SETUP and its answer; in a binding it is signed with the session's key."""
+        if self.behind:
+            return self.set_up_behind(token)
         message = self.setup_message(token, to is not None, previous)
         if to is not None:
             message = self.signed(message, to.keys.signing)

@@ -6,8 +6,8 @@ import struct
 import time
 
 from hostile_client import HOST, Client, Closed, Refused, bound
-from hostile_server import (ANNA, BERT, CONNECTIONS, KEEPALIVE_SECONDS, LOGON_SECONDS, PATIENCE, PEER_CONNECTIONS, PEER_REFUSALS, PEERS,
-                            REFUSALS, SESSIONS, USERS, Skipped, check, closed_all, expect, silent, still_open)
+from hostile_server import (ANNA, BERT, CONNECTIONS, KEEPALIVE_SECONDS, LOG, LOGON_SECONDS, PATIENCE, PEER_CONNECTIONS, PEER_REFUSALS,
+                            PEERS, REFUSALS, SESSIONS, USERS, Skipped, check, closed_all, expect, silent, still_open)
 from hostile_work import refused_by
 
 SLACK = 3.0  # seconds that a time-out may come late
@@ -173,11 +173,37 @@ def vanished(run):
 # ---- refused logons
 
 
+def behind_echo(server, source):
+    """A client that has negotiated, and whose SESSION_SETUPs go behind an ECHO in their frames."""
+    client = Client(server.port, source).negotiate()
+    client.behind = True
+    return client
+
+
+def refused_behind(server, source):
+    """Logons that are refused behind an ECHO in their frames count too: for the connection, for its address, and in the log."""
+    before, count = negotiating(server, source), 0
+    while count <= PEER_REFUSALS:
+        with behind_echo(server, source) as client:
+            for number in range(1, min(REFUSALS, PEER_REFUSALS + 1 - count) + 1):
+                status = refused_by(lambda client=client: client.log_on("mallory", "wrong"))
+                expect(status == 0xC000006D, f"refused logon {number} behind an ECHO was answered {status:08x}")
+                count += 1
+            expect(number < REFUSALS or client.ended_within(3), f"after {REFUSALS} refused logons behind ECHOs the link stays")
+    time.sleep(0.5)
+    lines = [line for line in server.told().split("\n") if source in line and "mallory" in line]
+    expect(len(lines) == count, f"{len(lines)} lines of the log tell {count} refused logons behind ECHOs: {lines[:2]!r}")
+    slow = negotiating(server, source)
+    expect(before < 0.5 and 0.8 < slow < 5, f"a NEGOTIATE took {before:.2f} s before {count} of them, {slow:.2f} s behind them")
+    with behind_echo(server, "127.9.5.4") as client:
+        client.log_on(*ANNA).connect_tree("data").echo()
+    return f"behind an ECHO: dropped after {REFUSALS}, {count} lines, a NEGOTIATE then took {slow:.2f} s"
+
+
 @check("refused-logons", "logons")
 def refused_logons(run):
-    """After ten refused logons on one connection its link is dropped; after nine the right password is taken."""
-    server = run.server()
-    seen = []
+    """After ten refused logons on one connection its link is dropped, those behind an ECHO too; after nine the right password is taken."""
+    server, seen = run.server(LOG.format(level="warn") + USERS), []
     for user in ("anna", "nobody"):
         with Client(server.port, source=run.peer()) as client:
             client.negotiate()
@@ -191,6 +217,7 @@ def refused_logons(run):
         for _ in range(REFUSALS - 1):
             refused_by(lambda: client.log_on("anna", "wrong"))
         client.log_on(*ANNA).connect_tree("data").echo()
+    seen.append(refused_behind(server, "127.9.5.3"))
     return f"{'; '.join(seen)}; after {REFUSALS - 1} the right one was taken"
 
 
