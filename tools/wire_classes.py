@@ -113,7 +113,7 @@ def interface(address, index=1, capability=0, speed=10**9, family=2):
 # ---- rows
 
 TIME_FIELDS = "CreationTime:8 LastAccessTime:8 LastWriteTime:8 ChangeTime:8"
-RAW = ("Port", "Address")
+RAW = ("Port", "Address", "ObjectId", "BirthVolumeId", "BirthObjectId")
 PLAIN = (
     ("FileBasicInformation", f"{TIME_FIELDS} FileAttributes:4 Reserved:4"),
     ("FileStandardInformation", "AllocationSize:8 EndOfFile:8 NumberOfLinks:4 DeletePending:1 Directory:1 Reserved:2"),
@@ -130,6 +130,7 @@ PLAIN = (
     ("FileFsSizeInformation", "TotalAllocationUnits:8 AvailableAllocationUnits:8 SectorsPerAllocationUnit:4 BytesPerSector:4"),
     ("FileFsDeviceInformation", "DeviceType:4 Characteristics:4"),
     ("NetworkInterface", "Next:4 IfIndex:4 Capability:4 Reserved1:4 LinkSpeed:8 Family:2 Port:2 Address:4 Reserved2:120"),
+    ("ObjectIdBuffer", "ObjectId:16 BirthVolumeId:16 BirthObjectId:16 ReservedDomainId:16"),
     (
         "FileFsFullSizeInformation",
         "TotalAllocationUnits:8 CallerAvailableAllocationUnits:8 ActualAvailableAllocationUnits:8"
@@ -236,7 +237,7 @@ def named_rows(table, name, words, length, part):
 
 
 def class_rows(table):
-    table.title("info classes of one length (MS-FSCC 2.4, 2.5), and the entry of a network interface (MS-SMB2 2.2.32.5)")
+    table.title("info classes of one length (MS-FSCC 2.4, 2.5), the entry of a network interface (MS-SMB2 2.2.32.5), and an object id (MS-FSCC 2.1.3.1)")
     for name, words in PLAIN:
         plain_rows(table, name, words)
     address = Shown(

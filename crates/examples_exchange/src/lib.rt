@@ -12,10 +12,10 @@ ghost use Rattle.spec_exchange.specs.Operations.{OpRemove, WasOk, WasRefused, No
 ghost use Rattle.spec_exchange.specs.Operations.{WithStatus, IsDone, Action, IsCount, IsContent, Length, Names};
 ghost use Rattle.std.specs.Prelude.{Some, None};
 ghost use Rattle.spec_exchange.specs.State.{Accept, Heard, End, SetUp, Connected, VolumeInfo, FileInfo, Listing};
-ghost use Rattle.spec_exchange.specs.State.{Interfaces, DeleteRecord, RemoveRecord, CloseRecord, ExpireRecord};
+ghost use Rattle.spec_exchange.specs.State.{Interfaces, ObjectId, DeleteRecord, RemoveRecord, CloseRecord, ExpireRecord};
 ghost use Rattle.spec_exchange.specs.State.{VersionRecord, EpochRecord, CreateRecord};
 ghost use Rattle.spec_exchange.specs.Commands.{Begins, Close, Create, Ioctl, ListDirectory, Lock, Logon, QueryFile, QueryVolume, Read, TreeConnect, Write, create_form, list_form, no_file, path_form, SetInfo, SetEnd, SetDelete, TreeDisconnect, Rename, SetPosition, SetMode};
-ghost use Rattle.spec_exchange.specs.CheckOpen.{is_stale, query_interfaces};
+ghost use Rattle.spec_exchange.specs.CheckOpen.{is_stale, get_object_id, query_interfaces};
 ghost use Rattle.spec_exchange.specs.CheckSetup.{pipes_name};
 ghost use Rattle.spec_exchange.specs.Listing.{matches};
 ghost use Rattle.spec_exchange.specs.Step.{step};
@@ -1082,6 +1082,23 @@ pub fn told_by_successes_example()
     ensures interfaces_of_an_open { body_after one_session (ask (make 0x183 7 2 0x40 None) ∷ []) (ask (Ioctl first_open query_interfaces 152))
         ≡ Interfaces (record { ip = 2130706433; port = 445 }) }
     ensures interfaces_after_a_restart { (recovered_from one_session []).address ≡ record { ip = 2130706433; port = 445 } }
+{}
+
+/// An object id is told on an open, whatever its access, in 64 bytes, behind the channel's sequence, which it raises. It's the
+/// file's, whichever open asks, and nothing is recorded.
+pub fn object_ids_example()
+    ensures told { body_after one_session (ask (make 0x80 7 2 0x40 None) ∷ []) (ask (Ioctl first_open get_object_id 64)) ≡ ObjectId 1 }
+    ensures of_the_file { body_after one_session (ask (make 0x183 7 2 0x40 None) ∷ ask (make 0x80 7 1 0x40 None) ∷ [])
+        (ask (Ioctl second_open get_object_id 64)) ≡ ObjectId 1 }
+    ensures of_a_directory { body_after one_session (ask (make 0x80 7 2 1 None) ∷ []) (ask (Ioctl first_open get_object_id 1048576)) ≡ ObjectId 1 }
+    ensures short { status_after one_session (ask (make 0x80 7 2 0x40 None) ∷ []) (ask (Ioctl first_open get_object_id 63)) ≡ 0xc000000d }
+    ensures no_open { status_after one_session [] (ask (Ioctl no_file get_object_id 64)) ≡ 0xc0000128 }
+    ensures no_open_and_short { status_after one_session [] (ask (Ioctl no_file get_object_id 63)) ≡ 0xc0000128 }
+    ensures another_open { status_after one_session (ask (make 0x80 7 2 0x40 None) ∷ []) (ask (Ioctl second_open get_object_id 63)) ≡ 0xc0000128 }
+    ensures late { status_after one_session (ask (make 0x183 7 2 0x40 None) ∷ Heard (from_client 0 7 9 6 false (Ioctl first_open get_object_id 64))
+        ∷ []) (Heard (from_client 0 7 9 5 false (Ioctl first_open get_object_id 63))) ≡ 0xc0000467 }
+    ensures no_record { records_after one_session (ask (make 0x183 7 2 0x40 (by_guid 5 true)) ∷ [])
+        (ask (Ioctl first_open get_object_id 64)) ≡ [] }
 {}
 
 /// A new journal, and one of the first version, gets the Version record and the Epoch record; a later one the Epoch record alone.

@@ -11,7 +11,7 @@ ghost use Rattle.spec_commands.specs.BodyOf.{body_of};
 ghost use Rattle.spec_commands.specs.ReplyBody.{reply_body};
 ghost use Rattle.spec_commands.specs.ReplyOf.{reply_of};
 ghost use Rattle.spec_wire.specs.messages.Places.{le};
-ghost use Rattle.spec_commands.specs.Infos.{attributes_of, interface_bytes, file_bytes, volume_bytes};
+ghost use Rattle.spec_commands.specs.Infos.{attributes_of, interface_bytes, object_id_bytes, file_bytes, volume_bytes};
 ghost use Rattle.examples_world.specs.commands.Samples.{header_of, charged, a_read, told, zeros, a_create, replied, two_names, with_attributes, a_plain_create, creating, a_context, an_attaching, old_ask, old_again, maximal, disk, a_unit, half_a_pair, with_size};
 
 /// A CLOSE that asks for times and lengths (MS-SMB2 2.2.15).
@@ -179,4 +179,14 @@ pub fn interface_example()
     ensures { interface_bytes (record { ip = 0x0a000007; port = 445 })
         ≡ (0 ∷ 0 ∷ 0 ∷ 0 ∷ 1 ∷ 0 ∷ 0 ∷ 0 ∷ 0 ∷ 0 ∷ 0 ∷ 0 ∷ 0 ∷ 0 ∷ 0 ∷ 0 ∷ 0 ∷ 228 ∷ 11 ∷ 84 ∷ 2 ∷ 0 ∷ 0 ∷ 0 ∷ 2 ∷ 0
         ∷ 0 ∷ 0 ∷ 10 ∷ 0 ∷ 0 ∷ 7 ∷ []) ++ le 120 0 }
+{}
+
+/// The object id of the file 300: its number and the volume's, no id of the volume, the same id, no domain (MS-FSCC 2.1.3.1). The
+/// root's isn't all zeros.
+pub fn object_id_example()
+    ensures file { object_id_bytes 300
+        ≡ (44 ∷ 1 ∷ 0 ∷ 0 ∷ 0 ∷ 0 ∷ 0 ∷ 0 ∷ 1 ∷ 0 ∷ 0 ∷ 0 ∷ 0 ∷ 0 ∷ 0 ∷ 0 ∷ []) ++ (le 16 0
+        ++ ((44 ∷ 1 ∷ 0 ∷ 0 ∷ 0 ∷ 0 ∷ 0 ∷ 0 ∷ 1 ∷ 0 ∷ 0 ∷ 0 ∷ 0 ∷ 0 ∷ 0 ∷ 0 ∷ []) ++ le 16 0)) }
+    ensures root { object_id_bytes 0
+        ≡ le 8 0 ++ (1 ∷ le 7 0 ++ (le 16 0 ++ (le 8 0 ++ (1 ∷ le 7 0 ++ le 16 0)))) }
 {}

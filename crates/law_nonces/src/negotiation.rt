@@ -12,8 +12,8 @@ pub fn negotiation_law()
     ensures negotiated { Negotiation }
 {}
 
-/// Nothing is taken without a fault that was neither sealed, nor signed where no sealing is owed, but a NEGOTIATE and a
-/// SESSION_SETUP; a binding SESSION_SETUP is refused by the model's checks unless its session signed it.
+/// Nothing is taken without a fault that was neither sealed, nor signed where no sealing is owed, but a NEGOTIATE, a
+/// SESSION_SETUP and an ECHO of SessionId 0; a binding SESSION_SETUP is refused by the model's checks unless its session signed it.
 pub fn guarded_law()
     ensures guarded { FramesAreGuarded }
 {}

@@ -6,6 +6,7 @@ mod directory;
 mod file_class;
 mod interface;
 mod ioctl;
+mod object_id;
 mod query_directory;
 mod query_info;
 mod set_info;
@@ -23,6 +24,7 @@ pub use file_class::{
 };
 pub use interface::network_interface_law;
 pub use ioctl::{ioctl_request_law, ioctl_response_law};
+pub use object_id::object_id_buffer_law;
 pub use query_directory::{query_directory_request_law, query_directory_response_law};
 pub use query_info::{query_info_request_law, query_info_response_law};
 pub use set_info::{set_info_request_law, set_info_response_law};

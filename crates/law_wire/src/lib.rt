@@ -19,8 +19,9 @@ pub use info::{
     file_name_information_law, file_network_open_information_law, file_position_information_law,
     file_rename_information_law, file_standard_information_law, file_stream_information_law,
     ioctl_request_law, ioctl_response_law, listing_law, network_interface_law,
-    query_directory_request_law, query_directory_response_law, query_info_request_law,
-    query_info_response_law, reply_contexts_law, set_info_request_law, set_info_response_law,
+    object_id_buffer_law, query_directory_request_law, query_directory_response_law,
+    query_info_request_law, query_info_response_law, reply_contexts_law, set_info_request_law,
+    set_info_response_law,
 };
 pub use messages::{
     bare_law, close_request_law, close_response_law, compound_law, create_request_law,

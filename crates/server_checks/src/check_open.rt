@@ -3,7 +3,7 @@ ghost use Rattle.std.specs.Prelude.{◌≡◌, ◌+◌, ◌<◌, ◌||◌, ℕ, 
 ghost use Rattle.std.specs.Prelude.{length, map, option_map};
 ghost use Rattle.wire_commands.specs.values.Meaning.{body_of, command_of, message_of, named_of};
 ghost use Rattle.spec_exchange.specs.CheckOpen.{begins_at, bytes_change, close_check, file_of, file_query_check, flush_check};
-ghost use Rattle.spec_exchange.specs.CheckOpen.{free_ioctl_check, has_access, ioctl_check, is_repeated, kept_lock, list_check};
+ghost use Rattle.spec_exchange.specs.CheckOpen.{free_ioctl_check, has_access, ioctl_body, ioctl_check, is_repeated, kept_lock, list_check};
 ghost use Rattle.spec_exchange.specs.CheckOpen.{list_from, listing_of, needs_attributes, range_check};
 ghost use Rattle.spec_exchange.specs.CheckOpen.{lock_check, new_lock_check, read_check, timely_write, volume_query_check};
 ghost use Rattle.spec_exchange.specs.CheckOpen.{none_wanted, write_check};
@@ -25,13 +25,13 @@ ghost use Rattle.store_opens.specs.share_modes.Locking.{range_of};
 
 use crate::tables::{Tables, info_of};
 use crate::verdicts::status::{
-    ACCESS_DENIED, DISK_FULL, END_OF_FILE, FILE_LOCK_CONFLICT, FILE_NOT_AVAILABLE,
+    ACCESS_DENIED, DISK_FULL, END_OF_FILE, FILE_CLOSED, FILE_LOCK_CONFLICT, FILE_NOT_AVAILABLE,
     INFO_LENGTH_MISMATCH, INVALID_DEVICE_REQUEST, INVALID_PARAMETER, NO_MORE_FILES, NO_SUCH_FILE,
     OBJECT_NAME_NOT_FOUND, SUCCESS,
 };
 use crate::verdicts::{
-    Verdict, all_lock, bytes_change, count_of, file_info_size, ioctl_status, is_empty, ranges_of,
-    refuse, status_of, turn_down, turn_down_lock, volume_info_size,
+    GET_OBJECT_ID, Verdict, all_lock, bytes_change, count_of, file_info_size, ioctl_status,
+    is_empty, ranges_of, refuse, status_of, turn_down, turn_down_lock, volume_info_size,
 };
 use std::alloc::{AllocError, Global};
 use store_files::{Entry, Listed};
@@ -342,7 +342,7 @@ impl Tables {
         }
         let status = ioctl_status(code, room);
         if status == SUCCESS {
-            return told(id, self.interfaces());
+            return told(id, self.ioctl_body(id, code));
         }
         turn_down(id, status)
     }
@@ -352,6 +352,9 @@ impl Tables {
         ensures { (c : Command) (s : Server) → TablesShown self.now s → verdict_of c result
             ≡ free_ioctl_check s code room }
     {
+        if code == GET_OBJECT_ID {
+            return refuse(FILE_CLOSED);
+        }
         let status = ioctl_status(code, room);
         if status == SUCCESS {
             return Verdict::Give {
@@ -359,6 +362,18 @@ impl Tables {
             };
         }
         refuse(status)
+    }
+
+    // What an IOCTL tells of an open.
+    fn ioctl_body(&self, id: u64, code: u32) -> Body
+        ensures { (s : Server) → TablesShown self.now s → s.standing id ≡ true → body_of result ≡ ioctl_body s id code }
+    {
+        if code == GET_OBJECT_ID {
+            return Body::ObjectId {
+                file: self.file_of(id),
+            };
+        }
+        self.interfaces()
     }
 
     fn interfaces(&self) -> Body

@@ -14,7 +14,9 @@ pub use bits::{
 };
 pub use form_rules::{all_lock, form};
 pub use ranges::{ranges_of, status_of};
-pub use request::{file_info_size, file_named, ioctl_status, is_setup, is_slot, volume_info_size};
+pub use request::{
+    GET_OBJECT_ID, file_info_size, file_named, ioctl_status, is_setup, is_slot, volume_info_size,
+};
 pub use setting::{may_set_attributes, may_set_times, set_basic, target_of};
 pub use verdict::{
     Change, Verdict, altered, bytes_change, check_first_binding, count_of, is_empty, refuse,

@@ -6,6 +6,7 @@ use Rattle.spec_wire.specs.messages.Places.{le}
 use Rattle.spec_wire.proofs.messages.Numbers.{length-le}
 use Rattle.spec_wire.specs.messages.Table.{Field, Num, Raw, Any, with_fields}
 use Rattle.spec_wire.specs.messages.Interfaces.{network_interface_table}
+use Rattle.spec_wire.specs.messages.ObjectIds.{object_id_buffer_table}
 use Rattle.spec_wire.specs.messages.Utf16.{utf16}
 use Rattle.spec_wire.specs.messages.FileClasses.{file_ea_information_spelling, file_ea_information_table}
 use Rattle.spec_wire.specs.messages.FileClasses.{file_access_information_spelling, file_access_information_table}
@@ -14,7 +15,8 @@ use Rattle.spec_wire.specs.messages.FileClasses.{file_alignment_information_spel
 use Rattle.spec_wire.specs.messages.FileClasses.{file_stream_information_spelling, file_stream_information_whole}
 use Rattle.spec_exchange.specs.State.{Address, Info}
 use Rattle.spec_exchange.specs.Listing.{streams_size}
-use Rattle.spec_commands.specs.Infos.{interface_bytes, interface_of, short_bytes, streams_of, stream_of}
+use Rattle.spec_commands.specs.Ids.{object_id}
+use Rattle.spec_commands.specs.Infos.{interface_bytes, interface_of, object_id_bytes, object_id_of, short_bytes, streams_of, stream_of}
 
 -- how many bytes fields take
 unfoldable pub total : List Field → ℕ
@@ -34,6 +36,19 @@ length_fields (Any w ∷ fs) out = length_fields fs (out ++ le w 0) ∙ omega (a
 pub interface_long : (a : Address) → length (interface_bytes a) ≡ 152
 unfolding interface_bytes total
 interface_long a = length_fields (network_interface_table (interface_of a)) []
+
+-- an object id
+pub object_id_long : (file : ℕ) → length (object_id_bytes file) ≡ 64
+unfolding object_id_bytes object_id total
+object_id_long file =
+    omega (
+      arith,
+      length_fields (object_id_buffer_table (object_id_of file)) [],
+      length-append (le 8 file) (le 8 1),
+      length-le 8 file,
+      length-le 8 1,
+      length-le 16 0,
+    )
 
 -- the classes of four bytes
 short_by : (a b c : Bool) (access : ℕ) → length (if a then file_ea_information_spelling (record { ea_size = 0 })

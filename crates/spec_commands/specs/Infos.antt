@@ -1,5 +1,5 @@
--- What a success tells of a file, of a listing's entries, of a volume and of interfaces, as bytes (MS-FSCC 2.4, 2.5, MS-SMB2
--- 2.2.32.5).
+-- What a success tells of a file, of a listing's entries, of a volume and of interfaces, as bytes (MS-FSCC 2.1.3, 2.4, 2.5,
+-- MS-SMB2 2.2.32.5).
 use Rattle.std.specs.Prelude.{ℕ, ◌+◌, ◌-◌, ◌*◌, ◌/◌, ◌%◌, ◌==◌, if◌then◌else◌, List, [], ◌∷◌, Option, Some, None, bit_and}
 use Rattle.spec_wire.specs.declared.messages.class.FileBasicInformation.{FileBasicInformation}
 use Rattle.spec_wire.specs.declared.messages.class.FileStandardInformation.{FileStandardInformation}
@@ -8,8 +8,10 @@ use Rattle.spec_wire.specs.declared.messages.class.FileFsSizeInformation.{FileFs
 use Rattle.spec_wire.specs.declared.messages.class.FileFsSectorSizeInformation.{FileFsSectorSizeInformation}
 use Rattle.spec_wire.specs.declared.messages.class.FileFsFullSizeInformation.{FileFsFullSizeInformation}
 use Rattle.spec_wire.specs.declared.messages.class.NetworkInterface.{NetworkInterface}
+use Rattle.spec_wire.specs.declared.messages.class.ObjectIdBuffer.{ObjectIdBuffer}
 use Rattle.spec_wire.specs.declared.messages.directory_class.DirectoryClass.{DirectoryClass}
 use Rattle.spec_wire.specs.declared.messages.directory_class.DirectoryClass.TheVariants as class
+use Rattle.spec_wire.specs.messages.Places.{le}
 use Rattle.spec_wire.specs.messages.Utf16.{utf16}
 use Rattle.spec_wire.specs.messages.FileClasses.{file_basic_information_spelling, file_standard_information_spelling}
 use Rattle.spec_wire.specs.messages.FileClasses.{file_internal_information_spelling, FileAllInformationValue}
@@ -24,9 +26,11 @@ use Rattle.spec_wire.specs.messages.FileClasses.{FileStreamInformationValue, fil
 use Rattle.spec_wire.specs.messages.VolumeClasses.{file_fs_full_size_information_spelling, file_fs_sector_size_information_spelling}
 use Rattle.spec_wire.specs.messages.Directory.{DirectoryEntryValue, listing_spelling}
 use Rattle.spec_wire.specs.messages.Interfaces.{network_interface_spelling}
+use Rattle.spec_wire.specs.messages.ObjectIds.{object_id_buffer_spelling}
 use Rattle.spec_exchange.specs.Commands.{has_bit}
 use Rattle.spec_exchange.specs.State.{Info, Named, Address}
 use Rattle.spec_exchange.specs.Listing.{is_short_class}
+use Rattle.spec_commands.specs.Ids.{object_id}
 use Rattle.spec_commands.specs.Tables.{directory_class, bit_if}
 
 -- ---- a file
@@ -260,3 +264,15 @@ interface_of a =
 
 unfoldable pub interface_bytes : Address → List ℕ
 interface_bytes a = network_interface_spelling (interface_of a)
+
+-- ---- an object id: the birth's is the same, and the volume has none, which 0 tells (MS-FSCC 2.1.3.1)
+
+abbrev pub object_id_of : ℕ → ObjectIdBuffer
+object_id_of file = record {
+  object_id = object_id file;
+  birth_volume_id = le 16 0;
+  birth_object_id = object_id file;
+}
+
+unfoldable pub object_id_bytes : ℕ → List ℕ
+object_id_bytes file = object_id_buffer_spelling (object_id_of file)

@@ -27,10 +27,10 @@ use Rattle.spec_exchange.specs.Commands.{Command, Aside, Setup, Logoff, TreeConn
 use Rattle.spec_exchange.specs.Commands.{Flush, Read, Write, Lock, Ioctl, ListDirectory, QueryFile, QueryVolume}
 use Rattle.spec_exchange.specs.Commands.{SetInfo, is_setup}
 use Rattle.spec_exchange.specs.State.{Info, CreateReply, Address, Body, Empty, Created, Closed, Content, Count}
-use Rattle.spec_exchange.specs.State.{Interfaces, Listing, FileInfo, VolumeInfo, SetUp, Connected, Reply}
+use Rattle.spec_exchange.specs.State.{Interfaces, ObjectId, Listing, FileInfo, VolumeInfo, SetUp, Connected, Reply}
 use Rattle.spec_commands.specs.Ids.{file_id}
 use Rattle.spec_commands.specs.Tables.{bit_if}
-use Rattle.spec_commands.specs.Infos.{allocation, attributes_of, file_bytes, volume_bytes, listing_bytes, interface_bytes}
+use Rattle.spec_commands.specs.Infos.{allocation, attributes_of, file_bytes, volume_bytes, listing_bytes, interface_bytes, object_id_bytes}
 
 -- ---- SESSION_SETUP (2.2.6): SessionFlags ENCRYPT_DATA 4, which a success alone tells
 
@@ -129,6 +129,16 @@ interfaces_value file code address = record {
       interface_bytes address;
 }
 
+abbrev pub object_id_value : ℕ → ℕ → ℕ → IoctlResponseValue
+object_id_value file code number = record {
+  ctl_code = code;
+  file_id = file_id file;
+  flags = 0;
+  input = [];
+  output =
+      object_id_bytes number;
+}
+
 -- ---- the body of a success to a command, and of the interim response to a SESSION_SETUP, whose token is its dialog's
 
 abbrev pub success_body : List ℕ → Command → Body → List ℕ
@@ -149,6 +159,7 @@ success_body token (Read file at size minimum channel) (Content bytes) = read_re
 success_body token (Write file at bytes channel) (Count count) = write_response_spelling (count_value count)
 success_body token (Lock file index number elements) body = lock_response_spelling (record {})
 success_body token (Ioctl file code room) (Interfaces address) = ioctl_response_spelling (interfaces_value file code address)
+success_body token (Ioctl file code room) (ObjectId number) = ioctl_response_spelling (object_id_value file code number)
 success_body token (Aside status) body = bare_spelling
 success_body token (ListDirectory file class restart single pattern room) (Listing told entries) =
     query_directory_response_spelling (record { output = listing_bytes told entries })

@@ -3,13 +3,13 @@ use Rattle.std.specs.Prelude.{ℕ, ◌+◌, ◌-◌, ◌%◌, ◌==◌, nat_lt, 
 use Rattle.std.specs.Prelude.{if◌then◌else◌, List, [], ◌∷◌, length, take, drop, Option, Some, None, is_some}
 use Rattle.spec_exchange.specs.Status.{success, file_not_available, access_denied, invalid_device_request}
 use Rattle.spec_exchange.specs.Status.{invalid_parameter, info_length_mismatch, end_of_file, file_lock_conflict}
-use Rattle.spec_exchange.specs.Status.{disk_full, no_such_file, no_more_files, directory_not_empty}
+use Rattle.spec_exchange.specs.Status.{disk_full, no_such_file, no_more_files, directory_not_empty, file_closed}
 use Rattle.spec_exchange.specs.Status.{object_path_not_found, object_name_collision, fs_driver_required, cannot_delete, delete_pending, object_name_not_found}
 use Rattle.spec_exchange.specs.Texts.{is_below}
 use Rattle.spec_exchange.specs.Content.{written, ended, same_bytes, is_empty}
 use Rattle.spec_exchange.specs.Commands.{Basic, has_bit, Setting, SetBasic, Rename, SetDelete, SetAllocation, SetEnd, Element, SetPosition, SetMode}
 use Rattle.spec_exchange.specs.State.{Server, Message, Kept, Entry, Empty, Content, Count, Closed, Listing, FileInfo}
-use Rattle.spec_exchange.specs.State.{VolumeInfo, Interfaces, Named}
+use Rattle.spec_exchange.specs.State.{VolumeInfo, Interfaces, ObjectId, Named, Body}
 use Rattle.spec_exchange.specs.Files.{root, find, path_of, has_parent, is_directory, is_full_directory, info_of, used, passes_room, allocated, set_basic, same_basic, is_read_only, may_set_attributes, may_set_times, has_pending_parent}
 use Rattle.spec_exchange.specs.Ranges.{RangeAnswer, Stands, Denied, change_ranges, may_read, may_write}
 use Rattle.spec_exchange.specs.Opens.{file_has_open}
@@ -184,7 +184,7 @@ setting_check s m o (SetDelete flag) = if has_access s o 0x1_0000 then unless_re
 setting_check s m o (SetAllocation size) = size_change s m o (allocated size (length (s.content (file_of s o))))
     (allocation_change s (file_of s o) size)
 setting_check s m o (SetEnd size) = size_change s m o size (PutEnd size)
--- these two need no access (MS-FSA 2.1.5.15.8, 2.1.5.15.10); an open's mode never changes (this project's)
+-- these two need no access (MS-FSA 2.1.5.15.7, 2.1.5.15.9); an open's mode never changes (this project's)
 setting_check s m o (SetPosition position) = Show o (At position) Empty
 setting_check s m o SetMode = Tell o Empty
 
@@ -246,16 +246,28 @@ query_interfaces = 0x14_01fc
 abbrev pub get_referrals : ℕ
 get_referrals = 0x6_0194
 
--- the status of an IOCTL (3.3.5.15), 0 where it tells the interfaces
+abbrev pub get_object_id : ℕ
+get_object_id = 0x9_00c0
+
+-- the status of an IOCTL (3.3.5.15), 0 where it tells the interfaces or an object id (MS-FSA 2.1.5.10.1)
 abbrev pub ioctl_status : ℕ → ℕ → ℕ
 ioctl_status code room = if code == query_interfaces then (if nat_lt room 152 then info_length_mismatch else success)
+    else if code == get_object_id then (if nat_lt room 64 then invalid_parameter else success)
     else if code == get_referrals then fs_driver_required else invalid_device_request
+
+-- what it tells of an open: each file has an object id from the first on, its number, and so nothing changes
+abbrev pub ioctl_body : Server → ℕ → ℕ → Body
+ioctl_body s o code = if code == get_object_id then ObjectId (file_of s o) else Interfaces s.address
 
 abbrev pub ioctl_check : Server → Message → ℕ → ℕ → ℕ → Verdict
 ioctl_check s m o code room =
     if is_late s m o then Refuse file_not_available  -- an IOCTL too
-    else if ioctl_status code room == success then Tell o (Interfaces s.address)
+    else if ioctl_status code room == success then Tell o (ioctl_body s o code)
     else TurnDown o (ioctl_status code room)
 
+-- an object id is an open's, whatever room there is
 abbrev pub free_ioctl_check : Server → ℕ → ℕ → Verdict
-free_ioctl_check s code room = if ioctl_status code room == success then Give (Interfaces s.address) else Refuse (ioctl_status code room)
+free_ioctl_check s code room =
+    if code == get_object_id then Refuse file_closed
+    else if ioctl_status code room == success then Give (Interfaces s.address)
+    else Refuse (ioctl_status code room)

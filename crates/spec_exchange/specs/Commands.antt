@@ -165,7 +165,7 @@ abbrev pub list_form : List ℕ → ℕ → Option ℕ
 list_form pattern room = if nat_lt 1048576 room then Some invalid_parameter
     else if is_short_pattern pattern then None else Some object_name_invalid
 
--- a position is a number of 64 bits with a sign, and none is below 0 (MS-FSA 2.1.5.15.10)
+-- a position is a number of 64 bits with a sign, and none is below 0 (MS-FSA 2.1.5.15.9)
 abbrev pub setting_form : Setting → Option ℕ
 setting_form (Rename replace path) = path_form path
 setting_form (SetPosition position) = if nat_lt position 0x8000_0000_0000_0000 then None else Some invalid_parameter

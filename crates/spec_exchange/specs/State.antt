@@ -161,6 +161,7 @@ pub data Body : Type 0 where
   Content : (bytes : List ℕ) → Body
   Count : (count : ℕ) → Body
   Interfaces : (address : Address) → Body
+  ObjectId : (file : ℕ) → Body
   Listing : (class : ℕ) (entries : List Named) → Body
   -- access, options and position are the open's, which the classes 8, 14 and 18 tell (MS-FSCC 2.4.1, 2.4.35, 2.4.2)
   FileInfo : (class : ℕ) (path : List ℕ) (info : Info) (access options position : ℕ) → Body

@@ -30,5 +30,6 @@ pub mod SetInfo
 pub mod FileClasses
 pub mod VolumeClasses
 pub mod Interfaces
+pub mod ObjectIds
 pub mod Directory
 pub mod CreateContexts

@@ -17,7 +17,7 @@ pub use messages::{
     FileFsSizeInformation, FileInternalInformation, FileModeInformation,
     FileNetworkOpenInformation, FilePositionInformation, FileStandardInformation, FlushRequest,
     FlushResponse, FrameError, Header, HeaderError, LockElement, LockResponse, LogoffRequest,
-    LogoffResponse, MaximalAccess, MessageError, NetworkInterface, Part, ReadRequest,
-    ReplyContexts, SetInfoResponse, Span, TextError, TreeConnectResponse, TreeDisconnectRequest,
-    TreeDisconnectResponse, WriteResponse,
+    LogoffResponse, MaximalAccess, MessageError, NetworkInterface, ObjectIdBuffer, Part,
+    ReadRequest, ReplyContexts, SetInfoResponse, Span, TextError, TreeConnectResponse,
+    TreeDisconnectRequest, TreeDisconnectResponse, WriteResponse,
 };

@@ -19,6 +19,7 @@ pub use class::{
     FileFsDeviceInformation, FileFsFullSizeInformation, FileFsSectorSizeInformation,
     FileFsSizeInformation, FileInternalInformation, FileModeInformation,
     FileNetworkOpenInformation, FilePositionInformation, FileStandardInformation, NetworkInterface,
+    ObjectIdBuffer,
 };
 pub use context::{CreateContexts, Dh2c, Dh2q, Dh2qReply, DiskId, MaximalAccess, ReplyContexts};
 pub use directory_class::DirectoryClass;

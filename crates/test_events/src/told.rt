@@ -79,6 +79,7 @@ fn push_body(said: &mut String, body: &Body) -> Result<(), AllocError> {
         Body::Content { bytes } => push_digits(said, bytes.as_slice()),
         Body::Count { count } => write!(said, "{count}"),
         Body::Interfaces { address } => write!(said, "{:08x}:{}", address.ip, address.port),
+        Body::ObjectId { file } => write!(said, "object {file}"),
         Body::Listing { class, entries } => push_listing(said, *class, entries.as_slice()),
         Body::FileInfo {
             class,

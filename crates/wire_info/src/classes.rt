@@ -1,5 +1,5 @@
-//! The information classes of files and of volumes (MS-FSCC 2.4, 2.5) and the entry of the answer that
-//! tells network interfaces (MS-SMB2 2.2.32.5), both ways. A reader takes the bytes of one class, a writer
+//! The information classes of files and of volumes (MS-FSCC 2.4, 2.5), the entry of the answer that tells
+//! network interfaces (MS-SMB2 2.2.32.5) and an object id (MS-FSCC 2.1.3.1), both ways. A reader takes the bytes of one class, a writer
 //! gives them.
 
 mod directory_entry;
@@ -30,6 +30,7 @@ mod file_stream_information;
 mod listing;
 mod named;
 mod network_interface;
+mod object_id_buffer;
 
 pub use directory_entry::DirectoryEntry;
 pub use directory_reading::read_directory_entry;
@@ -88,10 +89,12 @@ pub use named::{
     FileRenameInformation, FileStreamInformation,
 };
 pub use network_interface::{read_network_interface, write_network_interface};
+pub use object_id_buffer::{read_object_id_buffer, write_object_id_buffer};
 pub use spec_wire::{
     DirectoryClass, FileAccessInformation, FileAlignmentInformation, FileAllocationInformation,
     FileBasicInformation, FileDispositionInformation, FileEaInformation, FileEndOfFileInformation,
     FileFsDeviceInformation, FileFsFullSizeInformation, FileFsSectorSizeInformation,
     FileFsSizeInformation, FileInternalInformation, FileModeInformation,
     FileNetworkOpenInformation, FilePositionInformation, FileStandardInformation, NetworkInterface,
+    ObjectIdBuffer,
 };

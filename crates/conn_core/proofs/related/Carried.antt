@@ -72,6 +72,7 @@ file_same before c (model.Closed info) = refl
 file_same before c (model.Content bytes) = refl
 file_same before c (model.Count count) = refl
 file_same before c (model.Interfaces address) = refl
+file_same before c (model.ObjectId file) = refl
 file_same before c (model.Listing class entries) = refl
 file_same before c (model.FileInfo class path info access options position) = refl
 file_same before c (model.VolumeInfo class room used) = refl

@@ -6,9 +6,9 @@ use Rattle.spec_commands.specs.CommandOf.{contexts_in, elements_in, setup_in, lo
 use Rattle.spec_commands.specs.CommandOf.{tree_disconnect_in, create_in, close_in, flush_in, read_in, write_in, lock_in}
 use Rattle.spec_commands.specs.CommandOf.{ioctl_in, list_in, query_in, set_in, command_of, message_of}
 use Rattle.spec_commands.specs.Clashes.{has_named, has_twice, clash_in}
-use Rattle.spec_commands.specs.Ids.{file_of, file_id, guid_of, guid_id}
+use Rattle.spec_commands.specs.Ids.{file_of, file_id, object_id, guid_of, guid_id}
 use Rattle.spec_commands.specs.Infos.{allocation, without_bit, attributes_of, file_bytes, volume_bytes, listing_bytes}
-use Rattle.spec_commands.specs.Infos.{short_bytes, interface_bytes}
+use Rattle.spec_commands.specs.Infos.{short_bytes, interface_bytes, object_id_bytes}
 use Rattle.spec_exchange.specs.Listing.{is_short_class}
 use Rattle.spec_commands.specs.Items.{first_items, items_in}
 use Rattle.spec_commands.specs.ReplyBody.{reply_body}
@@ -33,5 +33,5 @@ unfolding number_of le bytes_at part_fault count_fault is_directory_class is_que
     characters_in text_in first_items items_in has_named has_twice clash_in directory_class bit_if contexts_in elements_in setup_in logoff_in
     tree_connect_in tree_disconnect_in create_in close_in flush_in read_in write_in lock_in ioctl_in list_in query_in
     set_in command_of message_of body_of allocation without_bit attributes_of is_short_class short_bytes file_bytes volume_bytes listing_bytes
-    interface_bytes reply_body names_of listing_in file_in body_in reply_of
+    interface_bytes object_id object_id_bytes reply_body names_of listing_in file_in body_in reply_of
 computed = 0

@@ -35,7 +35,7 @@ use Rattle.spec_exchange.specs.CheckOpen.{delete_names, target_of, target_refuse
 use Rattle.spec_exchange.specs.CheckOpen.{timely_write, write_check, read_check, there, turn_down_lock, range_check, new_lock_check}
 use Rattle.spec_exchange.specs.CheckOpen.{slot_check, lock_check, named_change, unless_repeated, size_change, setting_check, set_check}
 use Rattle.spec_exchange.specs.CheckOpen.{flush_check, close_check, needs_attributes, file_query_check, volume_query_check, listing_of}
-use Rattle.spec_exchange.specs.CheckOpen.{list_check, ioctl_status, ioctl_check, free_ioctl_check, query_interfaces, get_referrals}
+use Rattle.spec_exchange.specs.CheckOpen.{list_check, ioctl_status, ioctl_check, free_ioctl_check, query_interfaces, get_object_id, get_referrals}
 use Rattle.spec_exchange.specs.CheckOpen.{basic_names}
 use Rattle.spec_exchange.specs.Listing.{file_info_size, volume_info_size}
 use Rattle.spec_exchange.specs.CheckSetup.{tree_in, setup_check, tree_check}
@@ -306,7 +306,8 @@ low_ioctl_status : (code room : ℕ) → is_low (ioctl_status code room) ≡ tru
 low_ioctl_status code room =
     let P : ℕ → Type 0 = λ n. is_low n ≡ true in
     either P (code == query_interfaces) _ _ (λ _. either P (nat_lt room 152) _ _ (λ _. refl) (λ _. refl))
-    (λ _. either P (code == get_referrals) _ _ (λ _. refl) (λ _. refl))
+    (λ _. either P (code == get_object_id) _ _ (λ _. either P (nat_lt room 64) _ _ (λ _. refl) (λ _. refl))
+    (λ _. either P (code == get_referrals) _ _ (λ _. refl) (λ _. refl)))
 
 low_ioctl : (s : Server) (m : Message) (o code room : ℕ) → Tells (ioctl_check s m o code room)
 low_ioctl s m o code room =
@@ -314,7 +315,8 @@ low_ioctl s m o code room =
     (λ _. either Tells (ioctl_status code room == success) _ _ (λ _. tt) (λ _. low_ioctl_status code room))
 
 low_free_ioctl : (s : Server) (code room : ℕ) → Tells (free_ioctl_check s code room)
-low_free_ioctl s code room = either Tells (ioctl_status code room == success) _ _ (λ _. tt) (λ _. low_ioctl_status code room)
+low_free_ioctl s code room = either Tells (code == get_object_id) _ _ (λ _. refl)
+    (λ _. either Tells (ioctl_status code room == success) _ _ (λ _. tt) (λ _. low_ioctl_status code room))
 
 low_listing : (o class : ℕ) (last : Option (List ℕ)) (all fit : List Named) → Tells (listing_of o class last all fit)
 unfolding listing_of

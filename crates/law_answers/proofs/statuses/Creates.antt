@@ -2,7 +2,7 @@
 use Rattle.std.proofs.Common.{◌≡◌, ℕ, ◌==◌, Bool, true, false, List, refl, sym, subst, None}
 use Rattle.spec_exchange.specs.Status.{success}
 use Rattle.spec_exchange.specs.Commands.{Command, Create, CreateRequest}
-use Rattle.spec_exchange.specs.State.{Server, Message, Record, Heard, Body, Empty, Created, Closed, Content, Count, Interfaces, Listing}
+use Rattle.spec_exchange.specs.State.{Server, Message, Record, Heard, Body, Empty, Created, Closed, Content, Count, Interfaces, ObjectId, Listing}
 use Rattle.spec_exchange.specs.State.{FileInfo, VolumeInfo, SetUp, Connected}
 use Rattle.spec_exchange.specs.Effects.{apply, create_reply, make_open, next_open}
 use Rattle.spec_exchange.specs.Verdict.{Verdict, Refuse, Give, KeepRefusal, Repeat, Attach, Make, TurnDown, Tell, Show}
@@ -36,6 +36,7 @@ created_in (Closed info) e = absent e
 created_in (Content bytes) e = absent e
 created_in (Count count) e = absent e
 created_in (Interfaces address) e = absent e
+created_in (ObjectId file) e = absent e
 created_in (Listing class entries) e = absent e
 created_in (FileInfo class path info access options position) e = absent e
 created_in (VolumeInfo class room used) e = absent e

@@ -1,5 +1,5 @@
 -- What is told of a volume is short, in each class.
-use Rattle.std.proofs.Common.{◌≡◌, ℕ, ◌^◌, ◌<◌, ◌≤◌, Bool, true, false, List, [], ◌∷◌, length, IsUtf8, arith}
+use Rattle.std.proofs.Common.{ℕ, ◌^◌, ◌<◌, ◌≤◌, Bool, true, false, List, [], ◌∷◌, length, IsUtf8, arith}
 use Rattle.std.specs.Prelude.{◌==◌, if◌then◌else◌}
 use Rattle.std.proofs.lemmas.Str.{IsUtf8-nil}
 use Rattle.spec_wire.specs.messages.Table.{Field, with_fields}

@@ -3,12 +3,13 @@ ghost use Rattle.spec_wire.specs.messages.Utf16.{utf16};
 ghost use Rattle.spec_wire.specs.messages.Ioctl.{ioctl_response_fault, ioctl_response_in};
 ghost use Rattle.spec_wire.specs.messages.QueryInfo.{query_info_response_fault, query_info_response_in};
 ghost use Rattle.spec_wire.specs.messages.Interfaces.{network_interface_fault, network_interface_in};
+ghost use Rattle.spec_wire.specs.messages.ObjectIds.{object_id_buffer_fault, object_id_buffer_in};
 ghost use Rattle.spec_wire.specs.messages.FileClasses as files;
 ghost use Rattle.spec_wire.specs.messages.VolumeClasses as volumes;
 ghost use Rattle.spec_exchange.specs.Commands.{Close, Ioctl, QueryFile, QueryVolume};
-ghost use Rattle.spec_exchange.specs.State.{Info, Address, Closed, Empty, Interfaces, FileInfo, VolumeInfo};
+ghost use Rattle.spec_exchange.specs.State.{Info, Address, Closed, Empty, Interfaces, ObjectId, FileInfo, VolumeInfo};
 ghost use Rattle.spec_commands.specs.Infos as infos;
-ghost use Rattle.spec_commands.specs.ReplyBody.{success_body, interfaces_value};
+ghost use Rattle.spec_commands.specs.ReplyBody.{success_body, interfaces_value, object_id_value};
 ghost use Rattle.spec_commands.specs.ReplyOf.{body_in};
 ghost use Rattle.law_commands.specs.commands.Fitting.{IsInfo};
 
@@ -20,7 +21,7 @@ use law_wire::{
     file_fs_size_information_law, file_fs_volume_information_law, file_internal_information_law,
     file_mode_information_law, file_name_information_law, file_network_open_information_law,
     file_position_information_law, file_stream_information_law, ioctl_response_law,
-    network_interface_law, query_info_response_law,
+    network_interface_law, object_id_buffer_law, query_info_response_law,
 };
 
 /// What this client doesn't look at reads back all the same by the tables of the messages: the output of a QUERY_INFO's
@@ -39,6 +40,10 @@ pub fn output_law()
         → code < 256 ^ 4
         → let m = header ++ (success_body token (Ioctl file code room) (Interfaces address) ++ rest)
         in (ioctl_response_fault m ≡ None) × (ioctl_response_in m ≡ interfaces_value file code address) }
+    ensures object_id { (header rest token : List ℕ) (file code room number : ℕ) → length header ≡ 64
+        → code < 256 ^ 4
+        → let m = header ++ (success_body token (Ioctl file code room) (ObjectId number) ++ rest)
+        in (ioctl_response_fault m ≡ None) × (ioctl_response_in m ≡ object_id_value file code number) }
     ensures close { (header rest token : List ℕ) (file : ℕ) (query : Bool) (info : Info) → length header ≡ 64
         → IsInfo info
         → body_in (Close file query) (header ++ (success_body token (Close file query) (Closed info) ++ rest))
@@ -50,7 +55,7 @@ pub fn output_law()
 }
 
 /// The output reads as the class that it tells: of a volume 1, 3, 4, 5, 7 and 11, of a file 4, 6, 7, 8, 9, 14, 16, 17, 18, 22
-/// and 34 (5 is what this client asks, by `reply_law`), and of an IOCTL the interface.
+/// and 34 (5 is what this client asks, by `reply_law`), and of an IOCTL the interface or the object id.
 pub fn class_law()
     ensures volume { (room used : ℕ)
         → (volumes.file_fs_volume_information_fault (infos.volume_bytes 1 room used) ≡ None)
@@ -117,6 +122,8 @@ pub fn class_law()
     ensures interface { (address : Address) → address.ip < 256 ^ 4
         → (network_interface_fault (infos.interface_bytes address) ≡ None)
         × (network_interface_in (infos.interface_bytes address) ≡ infos.interface_of address) }
+    ensures object_id { (file : ℕ) → (object_id_buffer_fault (infos.object_id_bytes file) ≡ None)
+        × (object_id_buffer_in (infos.object_id_bytes file) ≡ infos.object_id_of file) }
 {
     file_fs_volume_information_law();
     file_fs_size_information_law();
@@ -136,4 +143,5 @@ pub fn class_law()
     file_name_information_law();
     file_stream_information_law();
     network_interface_law();
+    object_id_buffer_law();
 }

@@ -34,7 +34,7 @@ use Rattle.spec_exchange.specs.Ranges.{may_read, may_write}
 use Rattle.spec_exchange.specs.Opens.{mapped, deletes, max_ids}
 use Rattle.spec_exchange.specs.Listing.{file_info_size, volume_info_size}
 use Rattle.spec_exchange.specs.CheckCreate.{shares, keeps_guid, max_guids, is_counted_out, has_guid}
-use Rattle.spec_exchange.specs.CheckOpen.{file_of, has_access, there, is_slot, ioctl_status, needs_attributes}
+use Rattle.spec_exchange.specs.CheckOpen.{file_of, has_access, there, is_slot, get_object_id, ioctl_status, needs_attributes}
 use Rattle.spec_exchange.specs.CheckOpen.{kept_lock, rename_names, delete_names, allocation_change}
 use Rattle.spec_exchange.specs.CheckOpen.{basic_names}
 use Rattle.spec_exchange.specs.CheckSetup.{max_sessions, max_channels, max_numbers, count_channels, is_binding, pipes_name}
@@ -244,7 +244,8 @@ ioctl_sound s m o code room on = either (Sound s m) (is_late s m o) _ _ (λ _. r
 }))
 
 free_sound : (s : Server) (m : Message) (code room : ℕ) → Sound s m (free_ioctl_check s code room)
-free_sound s m code room = either (Sound s m) (ioctl_status code room == success) _ _ (λ _. record { is = tt }) (λ _. record { is = tt })
+free_sound s m code room = either (Sound s m) (code == get_object_id) _ _ (λ _. record { is = tt })
+    (λ _. either (Sound s m) (ioctl_status code room == success) _ _ (λ _. record { is = tt }) (λ _. record { is = tt }))
 
 tree_sound : (s : Server) (m : Message) (pipes : Bool) (c : Command) → Sound s m (tree_command s m pipes c)
 tree_sound s m pipes (Unreadable status) = record { is = tt }

@@ -35,17 +35,17 @@ use Rattle.spec_wire.specs.messages.VolumeClasses.{file_fs_full_size_information
 use Rattle.spec_wire.specs.messages.VolumeClasses.{file_fs_sector_size_information_spelling, file_fs_sector_size_information_table}
 use Rattle.spec_exchange.specs.Commands.{Command, Aside, Unreadable, Setup, Logoff, TreeConnect, TreeDisconnect, Create, Close}
 use Rattle.spec_exchange.specs.Commands.{Flush, Read, Write, Lock, Ioctl, ListDirectory, QueryFile, QueryVolume, SetInfo}
-use Rattle.spec_exchange.specs.State.{Address, CreateReply, Body, Empty, Created, Closed, Content, Count, Interfaces, Listing}
+use Rattle.spec_exchange.specs.State.{Address, CreateReply, Body, Empty, Created, Closed, Content, Count, Interfaces, ObjectId, Listing}
 use Rattle.spec_exchange.specs.State.{FileInfo, VolumeInfo, SetUp, Connected}
 use Rattle.spec_commands.specs.Fits.{FitsSuccess}
 use Rattle.spec_commands.specs.Ids.{file_id}
-use Rattle.spec_commands.specs.Infos.{file_bytes, volume_bytes, listing_bytes, interface_bytes, volume_value, sizes_of}
+use Rattle.spec_commands.specs.Infos.{file_bytes, volume_bytes, listing_bytes, interface_bytes, object_id_bytes, volume_value, sizes_of}
 use Rattle.spec_commands.specs.Infos.{full_sizes_of, file_system, sectors}
 use Rattle.spec_commands.specs.ReplyBody.{success_body, created_value, closed_value, untold_value, connected_value}
-use Rattle.spec_commands.specs.ReplyBody.{content_value, count_value, interfaces_value, seals_in}
+use Rattle.spec_commands.specs.ReplyBody.{content_value, count_value, interfaces_value, object_id_value, seals_in}
 use Rattle.spec_commands.specs.ReplyBody.{contexts_told, timeout_told, access_told, disk_id_told}
 use Rattle.spec_commands.specs.Tables.{bit_if}
-use Rattle.spec_commands.proofs.Lengths.{total, length_fields, interface_long}
+use Rattle.spec_commands.proofs.Lengths.{total, length_fields, interface_long, object_id_long}
 use Rattle.law_commands.proofs.commands.Volumes.{ntfs_few, volume_short}
 use Rattle.law_replies.specs.replies.Replies.{IsTextBody}
 use Rattle.wire_commands.specs.reply_shapes.Room.{reply_room}
@@ -179,6 +179,17 @@ interfaces_few file code address =
       gap_or_none (length (interface_bytes address) == 0) 0,
     )
 
+object_id_few : (file code number : ℕ) → length (ioctl_response_spelling (object_id_value file code number)) ≤ 512
+unfolding total
+object_id_few file code number =
+    omega (
+      arith,
+      file_long file,
+      object_id_long number,
+      length_fields (ioctl_response_whole (object_id_value file code number)) [],
+      gap_or_none (length (object_id_bytes number) == 0) 0,
+    )
+
 few : (fs : List Field) → total fs ≤ 100 → length (with_fields [] fs) ≤ 100
 few fs short = omega (arith, short, length_fields fs [])
 
@@ -245,6 +256,7 @@ success_fits token (TreeConnect share) (Closed info) short text is = (tt, omega 
 success_fits token (TreeConnect share) (Content told) short text is = (tt, omega arith)
 success_fits token (TreeConnect share) (Count count) short text is = (tt, omega arith)
 success_fits token (TreeConnect share) (Interfaces address) short text is = (tt, omega arith)
+success_fits token (TreeConnect share) (ObjectId number) short text is = (tt, omega arith)
 success_fits token (TreeConnect share) (Listing told entries) short text is = (tt, omega arith)
 success_fits token (TreeConnect share) (FileInfo told path info access options position) short text is = (tt, omega arith)
 success_fits token (TreeConnect share) (VolumeInfo told size used) short text is = (tt, omega arith)
@@ -257,6 +269,7 @@ success_fits token (Create request) (Closed info) short text is = (tt, omega ari
 success_fits token (Create request) (Content told) short text is = (tt, omega arith)
 success_fits token (Create request) (Count count) short text is = (tt, omega arith)
 success_fits token (Create request) (Interfaces address) short text is = (tt, omega arith)
+success_fits token (Create request) (ObjectId number) short text is = (tt, omega arith)
 success_fits token (Create request) (Listing told entries) short text is = (tt, omega arith)
 success_fits token (Create request) (FileInfo told path info access options position) short text is = (tt, omega arith)
 success_fits token (Create request) (VolumeInfo told size used) short text is = (tt, omega arith)
@@ -268,6 +281,7 @@ success_fits token (Close file query) (Closed info) short text is = (tt, closed_
 success_fits token (Close file query) (Content told) short text is = (tt, omega arith)
 success_fits token (Close file query) (Count count) short text is = (tt, omega arith)
 success_fits token (Close file query) (Interfaces address) short text is = (tt, omega arith)
+success_fits token (Close file query) (ObjectId number) short text is = (tt, omega arith)
 success_fits token (Close file query) (Listing told entries) short text is = (tt, omega arith)
 success_fits token (Close file query) (FileInfo told path info access options position) short text is = (tt, omega arith)
 success_fits token (Close file query) (VolumeInfo told size used) short text is = (tt, omega arith)
@@ -280,6 +294,7 @@ success_fits token (Read file at many minimum channel) (Content told) short text
     (below_32 (length told) many (more_8 (length told) many is), read_few (content_value told) (min many 1048576) is)
 success_fits token (Read file at many minimum channel) (Count count) short text is = (tt, omega arith)
 success_fits token (Read file at many minimum channel) (Interfaces address) short text is = (tt, omega arith)
+success_fits token (Read file at many minimum channel) (ObjectId number) short text is = (tt, omega arith)
 success_fits token (Read file at many minimum channel) (Listing told entries) short text is = (tt, omega arith)
 success_fits token (Read file at many minimum channel) (FileInfo told path info access options position) short text is =
     (tt, omega arith)
@@ -294,6 +309,7 @@ success_fits token (Write file at bytes channel) (Content told) short text is = 
 success_fits token (Write file at bytes channel) (Count count) short text is =
     (tt, omega (arith, length_fields (write_response_table (count_value count)) []))
 success_fits token (Write file at bytes channel) (Interfaces address) short text is = (tt, omega arith)
+success_fits token (Write file at bytes channel) (ObjectId number) short text is = (tt, omega arith)
 success_fits token (Write file at bytes channel) (Listing told entries) short text is = (tt, omega arith)
 success_fits token (Write file at bytes channel) (FileInfo told path info access options position) short text is =
     (tt, omega arith)
@@ -306,6 +322,7 @@ success_fits token (Ioctl file code room) (Closed info) short text is = (tt, ome
 success_fits token (Ioctl file code room) (Content told) short text is = (tt, omega arith)
 success_fits token (Ioctl file code room) (Count count) short text is = (tt, omega arith)
 success_fits token (Ioctl file code room) (Interfaces address) short text is = (tt, interfaces_few file code address)
+success_fits token (Ioctl file code room) (ObjectId number) short text is = (tt, object_id_few file code number)
 success_fits token (Ioctl file code room) (Listing told entries) short text is = (tt, omega arith)
 success_fits token (Ioctl file code room) (FileInfo told path info access options position) short text is = (tt, omega arith)
 success_fits token (Ioctl file code room) (VolumeInfo told size used) short text is = (tt, omega arith)
@@ -321,6 +338,8 @@ success_fits token (ListDirectory file class restart single pattern room) (Conte
 success_fits token (ListDirectory file class restart single pattern room) (Count count) short text is =
     (tt, omega arith)
 success_fits token (ListDirectory file class restart single pattern room) (Interfaces address) short text is =
+    (tt, omega arith)
+success_fits token (ListDirectory file class restart single pattern room) (ObjectId number) short text is =
     (tt, omega arith)
 success_fits token (ListDirectory file class restart single pattern room) (Listing told entries) short text is = (
   (
@@ -344,6 +363,7 @@ success_fits token (QueryFile file class room) (Closed info) short text is = (tt
 success_fits token (QueryFile file class room) (Content told) short text is = (tt, omega arith)
 success_fits token (QueryFile file class room) (Count count) short text is = (tt, omega arith)
 success_fits token (QueryFile file class room) (Interfaces address) short text is = (tt, omega arith)
+success_fits token (QueryFile file class room) (ObjectId number) short text is = (tt, omega arith)
 success_fits token (QueryFile file class room) (Listing told entries) short text is = (tt, omega arith)
 success_fits token (QueryFile file class room) (FileInfo told path info access options position) short text is = (
   below_32 (length (file_bytes told path info access options position)) room (is text),
@@ -361,6 +381,7 @@ success_fits token (QueryVolume file class room) (Closed info) short text is = (
 success_fits token (QueryVolume file class room) (Content told) short text is = (tt, omega arith)
 success_fits token (QueryVolume file class room) (Count count) short text is = (tt, omega arith)
 success_fits token (QueryVolume file class room) (Interfaces address) short text is = (tt, omega arith)
+success_fits token (QueryVolume file class room) (ObjectId number) short text is = (tt, omega arith)
 success_fits token (QueryVolume file class room) (Listing told entries) short text is = (tt, omega arith)
 success_fits token (QueryVolume file class room) (FileInfo told path info access options position) short text is =
     (tt, omega arith)

@@ -33,13 +33,13 @@ use Rattle.spec_exchange.specs.Commands.{Command, Aside, Unreadable, Setup, Logo
 use Rattle.spec_exchange.specs.Commands.{TreeConnect, TreeDisconnect, Create, Close, Flush, Read}
 use Rattle.spec_exchange.specs.Commands.{Write, Lock, Ioctl, ListDirectory, QueryFile, QueryVolume, SetInfo, is_setup}
 use Rattle.spec_exchange.specs.State.{Address, CreateReply, Body, Empty, Created, Closed}
-use Rattle.spec_exchange.specs.State.{Content, Count, Interfaces, Listing, FileInfo, VolumeInfo}
+use Rattle.spec_exchange.specs.State.{Content, Count, Interfaces, ObjectId, Listing, FileInfo, VolumeInfo}
 use Rattle.spec_exchange.specs.State.{SetUp, Connected, Reply}
-use Rattle.spec_commands.specs.Infos.{file_bytes, volume_bytes, listing_bytes, interface_bytes}
+use Rattle.spec_commands.specs.Infos.{file_bytes, volume_bytes, listing_bytes, interface_bytes, object_id_bytes}
 use Rattle.spec_commands.specs.ReplyBody.{reply_body, success_body, is_told, created_value, closed_value, untold_value, connected_value}
-use Rattle.spec_commands.specs.ReplyBody.{content_value, count_value, interfaces_value}
+use Rattle.spec_commands.specs.ReplyBody.{content_value, count_value, interfaces_value, object_id_value}
 use Rattle.spec_commands.specs.ReplyBody.{contexts_told, timeout_told, access_told, disk_id_told}
-use Rattle.spec_commands.proofs.Lengths.{total, length_fields, interface_long}
+use Rattle.spec_commands.proofs.Lengths.{total, length_fields, interface_long, object_id_long}
 use Rattle.law_server.proofs.tables.Logic.{either}
 use Rattle.law_server.specs.successes.Bodies.{is_simple, IsBodyTold}
 use Rattle.law_ties.specs.requests.Lines.{is_lines}
@@ -161,6 +161,17 @@ interfaces_few file code address =
       gap_or_none (length (interface_bytes address) == 0) 0,
     )
 
+object_id_few : (file code number : ℕ) → 64 + length (ioctl_response_spelling (object_id_value file code number)) ≤ 1114060
+unfolding total
+object_id_few file code number =
+    omega (
+      arith,
+      file_long file,
+      object_id_long number,
+      length_fields (ioctl_response_whole (object_id_value file code number)) [],
+      gap_or_none (length (object_id_bytes number) == 0) 0,
+    )
+
 -- ---- the body of a success
 
 -- a READ's success has at most as many bytes as one may ask for
@@ -211,6 +222,7 @@ success_few token (TreeConnect share) (Closed info) line brief short = omega ari
 success_few token (TreeConnect share) (Content bytes) line brief short = omega arith
 success_few token (TreeConnect share) (Count count) line brief short = omega arith
 success_few token (TreeConnect share) (Interfaces address) line brief short = omega arith
+success_few token (TreeConnect share) (ObjectId number) line brief short = omega arith
 success_few token (TreeConnect share) (Listing told entries) line brief short = omega arith
 success_few token (TreeConnect share) (FileInfo told path info access options position) line brief short = omega arith
 success_few token (TreeConnect share) (VolumeInfo told volume used) line brief short = omega arith
@@ -222,6 +234,7 @@ success_few token (Create request) (Closed info) line brief short = omega arith
 success_few token (Create request) (Content bytes) line brief short = omega arith
 success_few token (Create request) (Count count) line brief short = omega arith
 success_few token (Create request) (Interfaces address) line brief short = omega arith
+success_few token (Create request) (ObjectId number) line brief short = omega arith
 success_few token (Create request) (Listing told entries) line brief short = omega arith
 success_few token (Create request) (FileInfo told path info access options position) line brief short = omega arith
 success_few token (Create request) (VolumeInfo told volume used) line brief short = omega arith
@@ -233,6 +246,7 @@ success_few token (Close file query) (Closed info) line brief short = closed_few
 success_few token (Close file query) (Content bytes) line brief short = omega arith
 success_few token (Close file query) (Count count) line brief short = omega arith
 success_few token (Close file query) (Interfaces address) line brief short = omega arith
+success_few token (Close file query) (ObjectId number) line brief short = omega arith
 success_few token (Close file query) (Listing told entries) line brief short = omega arith
 success_few token (Close file query) (FileInfo told path info access options position) line brief short = omega arith
 success_few token (Close file query) (VolumeInfo told volume used) line brief short = omega arith
@@ -244,6 +258,7 @@ success_few token (Read file at size minimum channel) (Closed info) line brief s
 success_few token (Read file at size minimum channel) (Content bytes) line brief short = read_few (content_value bytes) brief
 success_few token (Read file at size minimum channel) (Count count) line brief short = omega arith
 success_few token (Read file at size minimum channel) (Interfaces address) line brief short = omega arith
+success_few token (Read file at size minimum channel) (ObjectId number) line brief short = omega arith
 success_few token (Read file at size minimum channel) (Listing told entries) line brief short = omega arith
 success_few token (Read file at size minimum channel) (FileInfo told path info access options position) line brief short = omega arith
 success_few token (Read file at size minimum channel) (VolumeInfo told volume used) line brief short = omega arith
@@ -256,6 +271,7 @@ success_few token (Write file at bytes channel) (Content told) line brief short 
 success_few token (Write file at bytes channel) (Count count) line brief short =
     omega (arith, length_fields (write_response_table (count_value count)) [])
 success_few token (Write file at bytes channel) (Interfaces address) line brief short = omega arith
+success_few token (Write file at bytes channel) (ObjectId number) line brief short = omega arith
 success_few token (Write file at bytes channel) (Listing told entries) line brief short = omega arith
 success_few token (Write file at bytes channel) (FileInfo told path info access options position) line brief short = omega arith
 success_few token (Write file at bytes channel) (VolumeInfo told volume used) line brief short = omega arith
@@ -267,6 +283,7 @@ success_few token (Ioctl file code room) (Closed info) line brief short = omega 
 success_few token (Ioctl file code room) (Content bytes) line brief short = omega arith
 success_few token (Ioctl file code room) (Count count) line brief short = omega arith
 success_few token (Ioctl file code room) (Interfaces address) line brief short = interfaces_few file code address
+success_few token (Ioctl file code room) (ObjectId number) line brief short = object_id_few file code number
 success_few token (Ioctl file code room) (Listing told entries) line brief short = omega arith
 success_few token (Ioctl file code room) (FileInfo told path info access options position) line brief short = omega arith
 success_few token (Ioctl file code room) (VolumeInfo told volume used) line brief short = omega arith
@@ -278,6 +295,7 @@ success_few token (ListDirectory file class restart single pattern room) (Closed
 success_few token (ListDirectory file class restart single pattern room) (Content bytes) line brief short = omega arith
 success_few token (ListDirectory file class restart single pattern room) (Count count) line brief short = omega arith
 success_few token (ListDirectory file class restart single pattern room) (Interfaces address) line brief short = omega arith
+success_few token (ListDirectory file class restart single pattern room) (ObjectId number) line brief short = omega arith
 success_few token (ListDirectory file class restart single pattern room) (Listing told entries) line brief short =
     directory_few (record { output = listing_bytes told entries }) short
 success_few token (ListDirectory file class restart single pattern room) (FileInfo told path info access options position) line brief short =
@@ -291,6 +309,7 @@ success_few token (QueryFile file class room) (Closed info) line brief short = o
 success_few token (QueryFile file class room) (Content bytes) line brief short = omega arith
 success_few token (QueryFile file class room) (Count count) line brief short = omega arith
 success_few token (QueryFile file class room) (Interfaces address) line brief short = omega arith
+success_few token (QueryFile file class room) (ObjectId number) line brief short = omega arith
 success_few token (QueryFile file class room) (Listing told entries) line brief short = omega arith
 success_few token (QueryFile file class room) (FileInfo told path info access options position) line brief short =
     info_few (record { output = file_bytes told path info access options position }) short
@@ -303,6 +322,7 @@ success_few token (QueryVolume file class room) (Closed info) line brief short =
 success_few token (QueryVolume file class room) (Content bytes) line brief short = omega arith
 success_few token (QueryVolume file class room) (Count count) line brief short = omega arith
 success_few token (QueryVolume file class room) (Interfaces address) line brief short = omega arith
+success_few token (QueryVolume file class room) (ObjectId number) line brief short = omega arith
 success_few token (QueryVolume file class room) (Listing told entries) line brief short = omega arith
 success_few token (QueryVolume file class room) (FileInfo told path info access options position) line brief short = omega arith
 success_few token (QueryVolume file class room) (VolumeInfo told volume used) line brief short =

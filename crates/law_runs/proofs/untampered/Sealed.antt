@@ -1,7 +1,7 @@
 -- A logon seals only where the settings' client offers a cipher that is known.
 use Rattle.std.proofs.Common.{◌≡◌, ℕ, ◌==◌, Bool, true, false, if◌then◌else◌, List, [], ◌∷◌, refl, sym, ap, ◌∙◌, subst, Option, Some, None}
 use Rattle.spec_exchange.specs.State.{Body, Empty, SetUp, Connected, Created, Closed, Content, Count, Listing, FileInfo}
-use Rattle.spec_exchange.specs.State.{VolumeInfo, Interfaces}
+use Rattle.spec_exchange.specs.State.{VolumeInfo, Interfaces, ObjectId}
 use Rattle.spec_exchange.specs.Network.{World as Values, Event, Sent, answer, run, start}
 use Rattle.spec_crypto.specs.sessions.Choice.{is_cipher, chosen_with, cipher_of, signing_of}
 use Rattle.spec_crypto.specs.sessions.Derivation.{known}
@@ -45,6 +45,7 @@ same_seals (Closed info) e = e
 same_seals (Content bytes) e = e
 same_seals (Count count) e = e
 same_seals (Interfaces address) e = e
+same_seals (ObjectId file) e = e
 same_seals (Listing class entries) e = e
 same_seals (FileInfo class path info access options position) e = e
 same_seals (VolumeInfo class room used) e = e

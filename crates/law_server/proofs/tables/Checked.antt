@@ -33,7 +33,7 @@ use Rattle.spec_exchange.specs.CheckOpen.{allocation_change, target_of, target_r
 use Rattle.spec_exchange.specs.CheckOpen.{open_below, write_check, read_check, there, turn_down_lock, range_check}
 use Rattle.spec_exchange.specs.CheckOpen.{new_lock_check, slot_check, lock_check, named_change, size_change}
 use Rattle.spec_exchange.specs.CheckOpen.{setting_check, set_check, flush_check, file_query_check, volume_query_check}
-use Rattle.spec_exchange.specs.CheckOpen.{listing_of, list_check, ioctl_check, ioctl_status, free_ioctl_check}
+use Rattle.spec_exchange.specs.CheckOpen.{listing_of, list_check, get_object_id, ioctl_check, ioctl_status, free_ioctl_check}
 use Rattle.spec_exchange.specs.CheckOpen.{needs_attributes, begins_at, is_repeated, unless_repeated, basic_names}
 use Rattle.spec_exchange.specs.CheckSetup.{tree_in, is_new, is_binding, granted_session, second_token, first_token}
 use Rattle.spec_exchange.specs.CheckSetup.{session_check, granted_binding, second_binding, first_binding, binding_check}
@@ -578,7 +578,8 @@ ioctl_facts s m o code room f =
     (λ _. either (λ v. Facts s m v) (ioctl_status code room == success) _ _ (λ _. f) (λ _. f))
 
 free_ioctl_facts : (s : Server) (m : Message) (code room : ℕ) → SessionFacts s m → Facts s m (free_ioctl_check s code room)
-free_ioctl_facts s m code room f = either (λ v. Facts s m v) (ioctl_status code room == success) _ _ (λ _. f) (λ _. tt)
+free_ioctl_facts s m code room f = either (λ v. Facts s m v) (code == get_object_id) _ _ (λ _. tt)
+    (λ _. either (λ v. Facts s m v) (ioctl_status code room == success) _ _ (λ _. f) (λ _. tt))
 
 -- ---- SESSION_SETUP
 

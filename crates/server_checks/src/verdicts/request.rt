@@ -7,15 +7,19 @@ ghost use Rattle.spec_exchange.specs.Listing.{file_info_size, volume_info_size};
 ghost use Rattle.server_checks.specs.verdicts.Looks.{file_in};
 
 use crate::verdicts::status::{
-    FS_DRIVER_REQUIRED, INFO_LENGTH_MISMATCH, INVALID_DEVICE_REQUEST, SUCCESS,
+    FS_DRIVER_REQUIRED, INFO_LENGTH_MISMATCH, INVALID_DEVICE_REQUEST, INVALID_PARAMETER, SUCCESS,
 };
 use store_files::units;
 use wire_commands::Command;
 
-// The control codes of IOCTL that are known (MS-SMB2 2.2.31): FSCTL_QUERY_NETWORK_INTERFACE_INFO and FSCTL_DFS_GET_REFERRALS.
+// The control codes of IOCTL that are known (MS-SMB2 2.2.31): FSCTL_QUERY_NETWORK_INTERFACE_INFO and FSCTL_DFS_GET_REFERRALS,
+// and FSCTL_CREATE_OR_GET_OBJECT_ID (MS-FSCC 2.3).
 const QUERY_INTERFACES: u32 = 0x14_01fc;
 
 const GET_REFERRALS: u32 = 0x6_0194;
+
+/// It asks for the object id of an open's file.
+pub const GET_OBJECT_ID: u32 = 0x9_00c0;
 
 /// SESSION_SETUP, which comes before a session is there.
 pub fn is_setup(command: &Command<'_>) -> bool
@@ -53,13 +57,19 @@ pub fn is_slot(index: u32) -> bool
     index >= 1 && index <= 64
 }
 
-/// The status of an IOCTL (MS-SMB2 3.3.5.15); SUCCESS where it tells the interfaces.
+/// The status of an IOCTL (MS-SMB2 3.3.5.15); SUCCESS where it tells the interfaces or an object id.
 pub fn ioctl_status(code: u32, room: u32) -> u32
     ensures { result ≡ ioctl_status code room }
 {
     if code == QUERY_INTERFACES {
         if room < 152 {
             INFO_LENGTH_MISMATCH
+        } else {
+            SUCCESS
+        }
+    } else if code == GET_OBJECT_ID {
+        if room < 64 {
+            INVALID_PARAMETER
         } else {
             SUCCESS
         }

@@ -133,3 +133,11 @@ pub struct NetworkInterface {
     pub port: [u8; 2],
     pub address: [u8; 4],
 }
+
+/// A FILE_OBJECTID_BUFFER of type 1 (MS-FSCC 2.1.3.1). Its DomainId isn't used.
+#[derive(Clone, Copy, Debug, PartialEq, Eq)]
+pub struct ObjectIdBuffer {
+    pub object_id: [u8; 16],
+    pub birth_volume_id: [u8; 16],
+    pub birth_object_id: [u8; 16],
+}

@@ -237,6 +237,16 @@ fn network_interface(said: &mut String, alloc: Global, m: &[u8]) -> Result<(), A
     )
 }
 
+fn object_id_buffer(said: &mut String, alloc: Global, m: &[u8]) -> Result<(), AllocError> {
+    both_ways!(
+        said,
+        alloc,
+        m,
+        read_object_id_buffer,
+        write_object_id_buffer
+    )
+}
+
 fn file_class(said: &mut String, alloc: Global, word: &str, m: &[u8]) -> Result<(), AllocError> {
     match word {
         "file_basic_information" => file_basic_information(said, alloc, m),
@@ -264,6 +274,7 @@ fn volume_class(said: &mut String, alloc: Global, word: &str, m: &[u8]) -> Resul
         "file_fs_attribute_information" => file_fs_attribute_information(said, alloc, m),
         "file_fs_sector_size_information" => file_fs_sector_size_information(said, alloc, m),
         "network_interface" => network_interface(said, alloc, m),
+        "object_id_buffer" => object_id_buffer(said, alloc, m),
         _ => file_class(said, alloc, word, m),
     }
 }

@@ -51,6 +51,9 @@ fn plain_in(kind: &str, words: &mut Words<'_>) -> Result<Body, Fault> {
             let address = Address { ip, port };
             Ok(Body::Interfaces { address })
         }
+        "object" => Ok(Body::ObjectId {
+            file: words.number(),
+        }),
         "volume" => Ok(Body::VolumeInfo {
             class: words.tiny(),
             room: words.number(),

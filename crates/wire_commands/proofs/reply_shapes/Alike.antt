@@ -4,7 +4,7 @@ use Rattle.spec_wire.specs.messages.Error.{error_response_spelling}
 use Rattle.spec_exchange.specs.Commands.{Setup, TreeConnect, Create, Lock, ListDirectory, SetInfo, SetupRequest, CreateRequest}
 use Rattle.spec_exchange.specs.Commands.{Element, Setting}
 use Rattle.spec_exchange.specs.State.{Body, Empty, Created, Closed, Content, Count, Interfaces, Listing, FileInfo, VolumeInfo}
-use Rattle.spec_exchange.specs.State.{SetUp, Connected, Reply}
+use Rattle.spec_exchange.specs.State.{ObjectId, SetUp, Connected, Reply}
 use Rattle.spec_commands.specs.ReplyBody.{reply_body, success_body, is_told}
 
 tree_success : (token : List ℕ) (p q : List ℕ) (b : Body) → success_body token (TreeConnect p) b ≡ success_body token (TreeConnect q) b
@@ -14,6 +14,7 @@ tree_success token p q (Closed info) = refl
 tree_success token p q (Content bytes) = refl
 tree_success token p q (Count count) = refl
 tree_success token p q (Interfaces address) = refl
+tree_success token p q (ObjectId number) = refl
 tree_success token p q (Listing told entries) = refl
 tree_success token p q (FileInfo told path info access options position) = refl
 tree_success token p q (VolumeInfo told size used) = refl
@@ -33,6 +34,7 @@ create_success token p q (Closed info) = refl
 create_success token p q (Content bytes) = refl
 create_success token p q (Count count) = refl
 create_success token p q (Interfaces address) = refl
+create_success token p q (ObjectId number) = refl
 create_success token p q (Listing told entries) = refl
 create_success token p q (FileInfo told path info access options position) = refl
 create_success token p q (VolumeInfo told size used) = refl
@@ -54,6 +56,7 @@ list_success token file class restart single p q room (Closed info) = refl
 list_success token file class restart single p q room (Content bytes) = refl
 list_success token file class restart single p q room (Count count) = refl
 list_success token file class restart single p q room (Interfaces address) = refl
+list_success token file class restart single p q room (ObjectId number) = refl
 list_success token file class restart single p q room (Listing told entries) = refl
 list_success token file class restart single p q room (FileInfo told path info access options position) = refl
 list_success token file class restart single p q room (VolumeInfo told size used) = refl

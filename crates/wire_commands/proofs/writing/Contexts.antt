@@ -17,10 +17,10 @@ use Rattle.spec_wire.specs.declared.messages.context.DiskId.{DiskId}
 use Rattle.spec_wire.specs.messages.Lock.{lock_element_table, lock_element_spelling}
 use Rattle.spec_exchange.specs.Commands.{CreateRequest, Durable, Reconnect, Element}
 use Rattle.spec_exchange.specs.State.{Address, Info}
-use Rattle.spec_commands.proofs.Lengths.{total, length_fields, interface_long}
+use Rattle.spec_commands.proofs.Lengths.{total, length_fields, interface_long, object_id_long}
 use Rattle.spec_commands.specs.Ids.{file_id, guid_id}
 use Rattle.spec_commands.specs.BodyOf.{dh2q_of, dh2c_of, contexts_of, element_of}
-use Rattle.spec_commands.specs.Infos.{interface_bytes, all_of}
+use Rattle.spec_commands.specs.Infos.{interface_bytes, object_id_bytes, all_of}
 use Rattle.spec_wire.specs.messages.Utf16.{utf16}
 use Rattle.spec_wire.specs.messages.FileClasses.{file_all_information_spelling, file_all_information_whole}
 use Rattle.spec_wire.specs.messages.FileClasses.{file_name_information_spelling, file_name_information_whole}
@@ -154,6 +154,9 @@ asked_short r =
 
 pub interface_short : (a : Address) → length (interface_bytes a) < 2 ^ 32
 interface_short a = omega (arith, interface_long a)
+
+pub object_id_short : (file : ℕ) → length (object_id_bytes file) < 2 ^ 32
+object_id_short file = omega (arith, object_id_long file)
 
 -- what is told of all of a file is no shorter than its name
 pub all_long : (path : List ℕ) (i : Info) (access options position : ℕ)

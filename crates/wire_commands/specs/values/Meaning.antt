@@ -23,7 +23,7 @@ use Rattle.wire_commands.specs.declared.values.request.Request.TheVariants as re
 use Rattle.wire_commands.specs.declared.values.request.Message.{Message}
 use Rattle.wire_commands.specs.declared.values.reply.Reply.{Reply}
 use Rattle.wire_commands.specs.declared.values.reply.Body.{Body}
-use Rattle.wire_commands.specs.declared.values.reply.Body.TheVariants.{Empty, Created, Closed, Content, Count, Interfaces, Listing}
+use Rattle.wire_commands.specs.declared.values.reply.Body.TheVariants.{Empty, Created, Closed, Content, Count, Interfaces, ObjectId, Listing}
 use Rattle.wire_commands.specs.declared.values.reply.Body.TheVariants.{FileInfo, VolumeInfo, SetUp, Connected}
 use Rattle.wire_commands.specs.declared.values.reply.Info.{Info}
 use Rattle.wire_commands.specs.declared.values.reply.CreateReply.{CreateReply}
@@ -168,6 +168,7 @@ body_of (Closed info) = says.Closed (info_of info)
 body_of (Content bytes) = says.Content bytes
 body_of (Count count) = says.Count count
 body_of (Interfaces address) = says.Interfaces (address_of address)
+body_of (ObjectId file) = says.ObjectId file
 body_of (Listing class entries) = says.Listing class (map named_of entries.items)
 body_of (FileInfo class path info access options position) = says.FileInfo class path (info_of info) access options position
 body_of (VolumeInfo class room used) = says.VolumeInfo class room used

@@ -29,6 +29,9 @@ pub enum Body {
     Interfaces {
         address: Address,
     },
+    ObjectId {
+        file: u64,
+    },
     Listing {
         class: u8,
         entries: Vec<Named>,

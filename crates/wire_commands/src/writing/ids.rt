@@ -1,6 +1,6 @@
-//! FileIds and CreateGuids as bytes.
+//! FileIds, ObjectIds and CreateGuids as bytes.
 ghost use Rattle.std.specs.Prelude.{◌≡◌};
-ghost use Rattle.spec_commands.specs.Ids.{file_id, guid_id};
+ghost use Rattle.spec_commands.specs.Ids.{file_id, guid_id, object_id};
 
 use wire_bytes::FixedOut;
 
@@ -12,6 +12,17 @@ pub(crate) fn file_id(file: u64) -> [u8; 16]
     let mut out = FixedOut::<16>::new();
     out.put_u64(file);
     out.put_u64(file);
+    out.finish()
+}
+
+// An ObjectId: the file's number, and the volume's.
+#[tactic(auto, unfolding(spec_commands::specs::Ids::object_id))]
+pub(crate) fn object_id(file: u64) -> [u8; 16]
+    ensures { result ≡ object_id file }
+{
+    let mut out = FixedOut::<16>::new();
+    out.put_u64(file);
+    out.put_u64(1);
     out.finish()
 }
 

@@ -1,11 +1,13 @@
 //! What the server writes behind a header for a reply to a command (MS-SMB2 3.3.5).
-ghost use Rattle.std.specs.Prelude.{◌≡◌, ◌<◌, ◌^◌, ℕ, Bool, List, length, option_map, IfOk};
+ghost use Rattle.std.specs.Prelude.{◌≡◌, ◌<◌, ◌^◌, ℕ, Bool, List, [], length, option_map, IfOk};
 ghost use Rattle.spec_wire.specs.messages.QueryDirectory.{query_directory_response_spelling};
 ghost use Rattle.spec_wire.specs.messages.QueryInfo.{query_info_response_spelling};
+ghost use Rattle.spec_wire.specs.messages.Ioctl.{ioctl_response_spelling};
 ghost use Rattle.spec_commands.specs.Tables.{bit_if};
 ghost use Rattle.spec_exchange.specs.Commands as asks;
 ghost use Rattle.spec_wire.specs.messages.CreateResponse.{create_response_spelling};
 ghost use Rattle.spec_wire.specs.messages.Close.{close_response_spelling};
+ghost use Rattle.spec_commands.specs.Ids;
 ghost use Rattle.spec_commands.specs.ReplyBody;
 ghost use Rattle.wire_commands.specs.values.Meaning;
 ghost use Rattle.spec_commands.specs.Fits.{FitsSuccess, FitsReply};
@@ -16,7 +18,7 @@ use crate::writing::fault::WriteError;
 use crate::writing::ids::file_id;
 use crate::writing::infos::{allocation, attributes_of, file_bytes};
 use crate::writing::listing::listing_bytes;
-use crate::writing::volume::{interface_bytes, volume_bytes};
+use crate::writing::volume::{interface_bytes, object_id_bytes, volume_bytes};
 use spec_wire::{Dh2qReply, DiskId, MaximalAccess, ReplyContexts};
 use std::alloc::{AllocError, Global};
 use wire_bytes::Bytes;
@@ -236,7 +238,28 @@ fn write_body(alloc: Global, body: &Body) -> Result<Bytes, AllocError>
     }
 }
 
-#[tactic(auto, using(crate::proofs::writing::Contexts::interface_short))]
+// The response to an IOCTL.
+fn output_of_ioctl(alloc: Global, file: u64, code: u32, output: &Bytes) -> Result<Bytes, AllocError>
+    requires { length output.now < 2 ^ 32 }
+    ensures { IfOk result (λ b. b ≡ ioctl_response_spelling (record {
+      ctl_code = code;
+      file_id = Ids.file_id file;
+      flags = 0;
+      input = [];
+      output = output.now;
+    })) }
+{
+    let value = IoctlResponse {
+        ctl_code: code,
+        file_id: file_id(file),
+        flags: 0,
+        input: &[],
+        output: output.as_slice(),
+    };
+    write_ioctl_response(alloc, &value)
+}
+
+#[tactic(auto, using(crate::proofs::writing::Contexts::interface_short, crate::proofs::writing::Contexts::object_id_short))]
 fn ioctl_body(alloc: Global, file: u64, code: u32, body: &Body) -> Result<Bytes, AllocError>
     ensures { (token : List ℕ) (room : ℕ) → IfOk result
         (λ b. b ≡ ReplyBody.success_body token (asks.Ioctl file code room) (Meaning.body_of body.now)) }
@@ -244,14 +267,11 @@ fn ioctl_body(alloc: Global, file: u64, code: u32, body: &Body) -> Result<Bytes,
     match body {
         Body::Interfaces { address } => {
             let output = interface_bytes(alloc, address)?;
-            let value = IoctlResponse {
-                ctl_code: code,
-                file_id: file_id(file),
-                flags: 0,
-                input: &[],
-                output: output.as_slice(),
-            };
-            write_ioctl_response(alloc, &value)
+            output_of_ioctl(alloc, file, code, &output)
+        }
+        Body::ObjectId { file: number } => {
+            let output = object_id_bytes(alloc, *number)?;
+            output_of_ioctl(alloc, file, code, &output)
         }
         _ => Ok(Bytes::new(alloc)),
     }

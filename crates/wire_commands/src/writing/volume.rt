@@ -1,4 +1,5 @@
-//! What a success tells of the volume and of the server's interface (MS-FSCC 2.5, MS-SMB2 2.2.32.5).
+//! What a success tells of the volume, of the server's interface and of a file's object id (MS-FSCC 2.1.3.1, 2.5, MS-SMB2
+//! 2.2.32.5).
 ghost use Rattle.std.specs.Prelude.{◌≡◌, IfOk, ◌∷◌, []};
 ghost use Rattle.spec_wire.specs.messages.Utf16.{utf16};
 ghost use Rattle.spec_commands.specs.Infos;
@@ -10,14 +11,16 @@ ghost use Rattle.spec_wire.specs.messages.VolumeClasses.{file_fs_sector_size_inf
 ghost use Rattle.wire_commands.specs.values.Meaning;
 
 use crate::values::Address;
+use crate::writing::ids::object_id;
 use std::alloc::{AllocError, Global};
 use wire_bytes::{Bytes, utf16_of};
 use wire_info::{
     FileFsAttributeInformation, FileFsDeviceInformation, FileFsFullSizeInformation,
     FileFsSectorSizeInformation, FileFsSizeInformation, FileFsVolumeInformation, NetworkInterface,
-    write_file_fs_attribute_information, write_file_fs_device_information,
+    ObjectIdBuffer, write_file_fs_attribute_information, write_file_fs_device_information,
     write_file_fs_full_size_information, write_file_fs_sector_size_information,
     write_file_fs_size_information, write_file_fs_volume_information, write_network_interface,
+    write_object_id_buffer,
 };
 
 // The volume's number is 1, and it has no label.
@@ -147,4 +150,17 @@ pub(crate) fn interface_bytes(alloc: Global, address: &Address) -> Result<Bytes,
         ],
     };
     write_network_interface(alloc, &value)
+}
+
+/// An object id, of which 16 zeros say that the volume has none.
+#[tactic(auto, unfolding(spec_commands::specs::Infos::object_id_bytes, spec_wire::specs::messages::Places::le))]
+pub(crate) fn object_id_bytes(alloc: Global, file: u64) -> Result<Bytes, AllocError>
+    ensures { IfOk result (λ b. b ≡ Infos.object_id_bytes file) }
+{
+    let value = ObjectIdBuffer {
+        object_id: object_id(file),
+        birth_volume_id: [0; 16],
+        birth_object_id: object_id(file),
+    };
+    write_object_id_buffer(alloc, &value)
 }

@@ -1,12 +1,17 @@
-use Rattle.std.proofs.Common.{◌≡◌, ℕ, ◌^◌, ◌<◌, Bool, true, false, List, [], ◌∷◌, None, refl, ap, sym, subst, arith}
+use Rattle.std.proofs.Common.{◌≡◌, ℕ, ◌^◌, ◌<◌, Bool, true, false, List, [], ◌∷◌, ◌++◌, length, None, refl, ap, ◌∙◌, sym, subst, arith, length-append}
 use Rattle.std.specs.Prelude.{if◌then◌else◌}
 use Rattle.std.proofs.lemmas.Nat.{and_le_r}
 use Rattle.spec_wire.specs.messages.Interfaces.{SpellsNetworkInterface, network_interface_fault, network_interface_in}
 use Rattle.spec_wire.specs.messages.Interfaces.{IsWritableNetworkInterface, network_interface_spelling}
+use Rattle.spec_wire.specs.messages.ObjectIds.{SpellsObjectIdBuffer, object_id_buffer_fault, object_id_buffer_in}
+use Rattle.spec_wire.specs.messages.ObjectIds.{IsWritableObjectIdBuffer, object_id_buffer_spelling}
+use Rattle.spec_wire.specs.messages.Places.{le}
+use Rattle.spec_wire.proofs.messages.Numbers.{length-le}
 use Rattle.spec_wire.specs.messages.FileClasses as files
 use Rattle.spec_wire.specs.messages.VolumeClasses as volumes
+use Rattle.spec_commands.specs.Ids.{object_id}
 use Rattle.spec_commands.specs.Tables.{bit_if}
-use Rattle.spec_commands.specs.Infos.{volume_bytes, file_bytes, interface_bytes, interface_of, volume_value, sizes_of}
+use Rattle.spec_commands.specs.Infos.{volume_bytes, file_bytes, interface_bytes, interface_of, object_id_bytes, object_id_of, volume_value, sizes_of}
 use Rattle.spec_commands.specs.Infos.{full_sizes_of, file_system, sectors, basic_of, network_open_of, all_of, mode_of}
 use Rattle.spec_commands.specs.Infos.{short_bytes, streams_of, stream_of}
 use Rattle.spec_wire.specs.messages.Utf16.{utf16}
@@ -157,6 +162,15 @@ returns-clause-interface c = λ address small.
     alone SpellsNetworkInterface network_interface_fault network_interface_in IsWritableNetworkInterface
     network_interface_spelling law.one law.whole law.given law.again (interface_of address)
     (omega arith, (omega arith, (omega arith, (omega arith, (omega arith, (refl, (refl, tt)))))))
+
+pub returns-clause-object_id : goal.returns-clause-object_id
+unfolding object_id_bytes object_id
+returns-clause-object_id c = λ file.
+    let law = c.object_id_buffer_law.ensures in
+    let long : length (le 8 file ++ le 8 1) ≡ 16 = length-append (le 8 file) (le 8 1) ∙ omega (arith, length-le 8 file, length-le 8 1) in
+    alone SpellsObjectIdBuffer object_id_buffer_fault object_id_buffer_in IsWritableObjectIdBuffer
+    object_id_buffer_spelling law.one law.whole law.given law.again (object_id_of file)
+    (long, (length-le 16 0, (long, tt)))
 
 pub returns-clause-sectors : goal.returns-clause-sectors
 unfolding volume_bytes

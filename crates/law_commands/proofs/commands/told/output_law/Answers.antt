@@ -1,26 +1,25 @@
 use Rattle.spec_wire.specs.messages.Places.{gap_to_8}
 use Rattle.std.specs.Prelude.{◌==◌, if◌then◌else◌}
-use Rattle.std.proofs.Common.{◌≡◌, ℕ, ◌+◌, ◌^◌, ◌<◌, Bool, true, false, List, ◌++◌, length, Option, Some, None, refl, ap, ◌∙◌, arith}
+use Rattle.std.proofs.Common.{ℕ, ◌+◌, ◌^◌, ◌<◌, Bool, true, false, List, ◌++◌, length, Some, refl, ap, arith}
 use Rattle.spec_wire.specs.messages.QueryInfo.{QueryInfoResponseValue, SpellsQueryInfoResponse, query_info_response_fault}
 use Rattle.spec_wire.specs.messages.QueryInfo.{query_info_response_in, query_info_response_spelling}
 use Rattle.spec_wire.specs.messages.Ioctl.{IoctlResponseValue, SpellsIoctlResponse, ioctl_response_fault}
 use Rattle.spec_wire.specs.messages.Ioctl.{ioctl_response_in, ioctl_response_spelling}
-use Rattle.spec_wire.specs.messages.Close.{SpellsCloseResponse, close_response_fault, close_response_in, close_response_spelling}
+use Rattle.spec_wire.specs.messages.Close.{close_response_fault, close_response_spelling}
 use Rattle.spec_wire.specs.declared.messages.file_message.CloseResponse.{CloseResponse}
-use Rattle.spec_exchange.specs.State.{Address, Info, Empty}
-use Rattle.spec_commands.specs.Infos.{volume_bytes, file_bytes, interface_bytes}
-use Rattle.spec_commands.specs.ReplyBody.{interfaces_value, closed_value}
+use Rattle.spec_exchange.specs.State.{Empty}
+use Rattle.spec_commands.specs.Infos.{volume_bytes, file_bytes, interface_bytes, object_id_bytes}
+use Rattle.spec_commands.specs.ReplyBody.{interfaces_value, object_id_value, closed_value}
 use Rattle.spec_commands.specs.ReplyOf.{body_in}
-use Rattle.spec_commands.proofs.Lengths.{interface_long}
+use Rattle.spec_commands.proofs.Lengths.{interface_long, object_id_long}
 use Rattle.law_commands.proofs.commands.Volumes.{volume_short}
-use Rattle.law_commands.specs.commands.Fitting.{IsInfo}
 use Rattle.law_commands.proofs.commands.Fields.{length-file_id}
 use Rattle.law_commands.proofs.commands.Infos.{allocation_small, attributes_small}
 use Rattle.law_commands.proofs.commands.ReadBack.{found}
 use Rattle.law_commands.proofs.commands.HeardBack.{unbroken}
 use Rattle.law_commands.proofs.commands.told.output_law.Goals as goal
 
--- where the interface is written
+-- where the output of an IOCTL is written
 place_small : (empty : Bool) → (if empty then 0 else 112 + (if empty then 0 else gap_to_8 0)) < 256 ^ 4
 place_small true = omega arith
 place_small false = omega arith
@@ -62,6 +61,32 @@ returns-clause-ioctl c = λ header rest token file code room address len fits.
               (
                 place_small (length (interface_bytes address) == 0),
                 (omega (arith, interface_long address), (omega arith, (refl, (refl, tt)))),
+              ),
+            ),
+          ),
+        ),
+      ),
+    ))
+
+pub returns-clause-object_id : goal.returns-clause-object_id
+returns-clause-object_id c = λ header rest token file code room number len fits.
+    let law = c.ioctl_response_law.ensures in
+    let v : IoctlResponseValue = object_id_value file code number in
+    let m : List ℕ = header ++ (ioctl_response_spelling v ++ rest) in
+    found SpellsIoctlResponse ioctl_response_fault ioctl_response_in law.one law.whole law.given m v
+    (law.again header rest v len (
+      omega arith,
+      (
+        fits,
+        (
+          length-file_id file,
+          (
+            omega arith,
+            (
+              omega arith,
+              (
+                place_small (length (object_id_bytes number) == 0),
+                (omega (arith, object_id_long number), (omega arith, (refl, (refl, tt)))),
               ),
             ),
           ),
