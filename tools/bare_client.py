@@ -11,7 +11,7 @@ import struct
 import sys
 
 import session_formulas as f
-from hostile_client import FIRST, LOGON_FAILURE, Client, Refused, answered, told_in
+from hostile_client import FIRST, LOGON_FAILURE, Client, answered, refused, told_in
 
 if len(sys.argv) != 7:
     sys.exit(__doc__)
@@ -35,15 +35,6 @@ def kernels_third(challenge, first, user, password, exported):
     parts = [b"", answer + blob, b"", f.utf16(user), f.utf16("linux"), carried]
     flags = struct.unpack_from("<I", challenge, 20)[0] | 0x802004
     return b"NTLMSSP\0" + struct.pack("<I", 3) + b"".join(f.fields(b"", 64, parts)) + struct.pack("<I", flags) + b"".join(parts)
-
-
-def refused(call, status):
-    try:
-        call()
-    except Refused as told:
-        assert told.status == status, f"{told.status:08x}"
-        return
-    raise AssertionError("it was not refused")
 
 
 def files(client):

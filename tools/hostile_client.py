@@ -42,6 +42,16 @@ class Refused(Exception):
         self.status = status
 
 
+def refused(call, status):
+    """A call that has to be refused with this status."""
+    try:
+        call()
+    except Refused as told:
+        assert told.status == status, f"{told.status:08x}"
+        return
+    raise AssertionError("it was not refused")
+
+
 class Wrong(Exception):
     """An answer isn't what the standard says."""
 

@@ -9,7 +9,7 @@ import os
 import sys
 import time
 
-from hostile_client import FOLDER, MAKE, NAME_NOT_FOUND, OPEN, Closed, Refused, logged_on
+from hostile_client import FOLDER, MAKE, NAME_NOT_FOUND, OPEN, Closed, logged_on, refused
 
 if len(sys.argv) != 6:
     sys.exit(__doc__)
@@ -18,15 +18,6 @@ DELETE_PENDING, DIRECTORY_NOT_EMPTY = 0xC0000056, 0xC0000101
 DELETES = 0x1000  # an option of CREATE (MS-SMB2 2.2.13)
 GUID = os.urandom(16)
 kept = {}
-
-
-def refused(call, status):
-    try:
-        call()
-    except Refused as told:
-        assert told.status == status, f"{told.status:08x}"
-        return
-    raise AssertionError("it was not refused")
 
 
 def open_folder(client, name, options=0):
