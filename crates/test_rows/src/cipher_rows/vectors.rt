@@ -36,6 +36,8 @@ struct Patterns {
     text: Pattern,
 }
 
+// What each part of a row is made of: `example` counts upwards, as the examples of SP 800-38C do. In a row of neither kind each part goes by
+// another step, so that one taken for another is seen.
 fn patterns_of(kind: &str) -> Patterns {
     match kind {
         "example" => Patterns {
