@@ -3,9 +3,11 @@
 #![tactic(auto)]
 
 mod client_nonces;
+pub mod event_nonces;
 pub mod negotiation;
 pub mod server_nonces;
 
 pub use client_nonces::{nonces_to_server_law, plain_nonces_law};
+pub use event_nonces::event_nonces_law;
 pub use negotiation::{guarded_law, negotiation_law};
 pub use server_nonces::nonces_to_client_law;

@@ -1,2 +1,3 @@
 mod Own
 mod Befell
+mod Single

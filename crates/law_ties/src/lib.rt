@@ -16,7 +16,7 @@ pub use events::{
     tree_takes_law,
 };
 pub use frame_counts::{lists_law, refusals_law};
-pub use lone_server::{nothing_befell_law, own_step_law};
+pub use lone_server::{nothing_befell_law, own_step_law, single_events_law};
 pub use requests::{line_crashes_law, line_sends_law, line_serves_law, opens_law, pushes_law};
 pub use wire_facts::{
     answered_law, ciphers_law, commands_law, greeting_law, headers_law, setups_law, trees_law,

@@ -386,7 +386,7 @@ before_drawn : (s : Server) (now : ℕ) (t : Server) → Before s now t → Same
 before_drawn s now t (inl e) = ap (λ (u : Server). u.channel_numbers_drawn) e
 before_drawn s now t (inr h) = ap (λ (u : Server). u.channel_numbers_drawn) h.2 ∙ expired_drawn (with_deadlines s now) h.0
 
-before_numbers : (s : Server) (now : ℕ) (t : Server) → Before s now t → SameNumbers s t
+pub before_numbers : (s : Server) (now : ℕ) (t : Server) → Before s now t → SameNumbers s t
 before_numbers s now t b = from_stays s t (before_stays s now t b) (before_drawn s now t b)
 
 before_fits : (s : Server) (now : ℕ) (t : Server) → Fits s → Before s now t → Fits t
@@ -419,7 +419,7 @@ front_before : (s : Server) (now : ℕ) (e : ServerEvent) (t : Server) (front : 
 front_before s now e t front (inl q) = inl q.0
 front_before s now e t front (inr q) = inr (q.0, q.1, q.2)
 
-written_numbers : (s t : Server) (j : ℕ) → SameNumbers s t → SameNumbers s (record t { journal = j })
+pub written_numbers : (s t : Server) (j : ℕ) → SameNumbers s t → SameNumbers s (record t { journal = j })
 written_numbers s t j q = record { present = q.present; drawn = q.drawn; making = q.making; last = q.last }
 
 same_numbers : (s : Server) → SameNumbers s s

@@ -90,17 +90,17 @@ all_draw_with drawn [] r all new = (new, tt)
 all_draw_with drawn (x ∷ rs) r all new = (all.0, all_draw_with (next_drawn drawn x.keys.session x.progress) rs r all.1 new)
 
 -- a final reply's keys name its session
-abbrev IsAt : Progress → ℕ → ℕ → Type 0
+abbrev pub IsAt : Progress → ℕ → ℕ → Type 0
 IsAt Stays x y = Unit {0}
 IsAt (Interim binding) x y = Unit {0}
 IsAt (Final binding channel encrypts) x y = x ≡ y
 
-drawn_at : (drawn : ℕ → ℕ) (p : Progress) (x y : ℕ) → IsAt p x y → next_drawn drawn x p ≡ next_drawn drawn y p
+pub drawn_at : (drawn : ℕ → ℕ) (p : Progress) (x y : ℕ) → IsAt p x y → next_drawn drawn x p ≡ next_drawn drawn y p
 drawn_at drawn Stays x y e = refl
 drawn_at drawn (Interim binding) x y e = refl
 drawn_at drawn (Final binding channel encrypts) x y e = ap (λ z. put drawn z channel) e
 
-draws_at : (drawn : ℕ → ℕ) (p : Progress) (x y : ℕ) → IsAt p x y → DrawsOn drawn y p → DrawsOn drawn x p
+pub draws_at : (drawn : ℕ → ℕ) (p : Progress) (x y : ℕ) → IsAt p x y → DrawsOn drawn y p → DrawsOn drawn x p
 draws_at drawn Stays x y e d = tt
 draws_at drawn (Interim binding) x y e d = tt
 draws_at drawn (Final binding channel encrypts) x y e d = subst (λ z. (drawn z < channel) × (channel < 2 ^ 16)) (sym e) d
@@ -110,7 +110,7 @@ final_session : (users : Users) (L : Logons) (k : ℕ) (f : ServerEnd) (c : Chec
 final_session users L k f c true = refl
 final_session users L k f c false = refl
 
-said_at : (z : ServerSettings) (L : Logons) (k : ℕ) (f : ServerEnd) (c : Checked) (p : Progress)
+pub said_at : (z : ServerSettings) (L : Logons) (k : ℕ) (f : ServerEnd) (c : Checked) (p : Progress)
     → IsKeyed (key_sessions L) c.header.session p → IsAt p (keys_said z L k f c p).session c.header.session
 said_at z L k f c Stays e = tt
 said_at z L k f c (Interim binding) e = tt
@@ -158,7 +158,7 @@ placed_session session true (Some n) m f e =
     let same : misplaced n ≡ m = (let h : Some (misplaced n) ≡ Some m = e in cc) in
     ap (λ (y : Message). y.session_id) (sym same) ∙ f n refl
 
-heard_session : (z : ServerSettings) (L : Logons) (k : ℕ) (f : ServerEnd) (c : Checked) (m : Message)
+pub heard_session : (z : ServerSettings) (L : Logons) (k : ℕ) (f : ServerEnd) (c : Checked) (m : Message)
     → heard_message z L k f c ≡ Some m → m.session_id ≡ c.header.session
 unfolding message_of
 heard_session z L k f c m e =

@@ -117,7 +117,7 @@ start_tables : (z : WorldSettings) → AreTables (start (values_of z)).records (
 unfolding run
 start_tables z = record { fit = fitting (values_of z) []; sound = sound (values_of z) []; recovers = begins (values_of z) }
 
-none_sealed : (ends : ℕ → Sealer) → ((k : ℕ) → (ends k).is_on ≡ false) → NonceNumbered [] ends (λ x. 0)
+pub none_sealed : (ends : ℕ → Sealer) → ((k : ℕ) → (ends k).is_on ≡ false) → NonceNumbered [] ends (λ x. 0)
 none_sealed ends off =
     record {
       once = λ i j u v h. absurd (nothing i u h.0);
@@ -157,7 +157,7 @@ pub record IsOnePlace (channel counter other_channel other_counter : ℕ) : Type
   pub channels : channel ≡ other_channel
   pub counters : counter ≡ other_counter
 
-same_place : (channel counter other_channel other_counter : ℕ) → channel < 2 ^ 16 → counter < 2 ^ 64 → other_channel < 2 ^ 16
+pub same_place : (channel counter other_channel other_counter : ℕ) → channel < 2 ^ 16 → counter < 2 ^ 64 → other_channel < 2 ^ 16
     → other_counter < 2 ^ 64 → nonce_at channel counter ≡ nonce_at other_channel other_counter
     → IsOnePlace channel counter other_channel other_counter
 unfolding nonce_of

@@ -38,10 +38,10 @@ use Rattle.law_nonces.proofs.server_nonces.Telling.{sealed_keep, joined_length, 
 
 -- ---- the whole look at a frame leaves keys, channel and counter
 
-abbrev SameSealing : ServerEnd → ServerEnd → Type 0
+abbrev pub SameSealing : ServerEnd → ServerEnd → Type 0
 SameSealing f g = (g.keys ≡ f.keys) × (g.channel ≡ f.channel) × (g.counter ≡ f.counter)
 
-abbrev FrameSame : ServerEnd → Result Frame ConnEnd → Type 0
+abbrev pub FrameSame : ServerEnd → Result Frame ConnEnd → Type 0
 FrameSame f (Err e) = Unit {0}
 FrameSame f (Ok x) = SameSealing f x.server_end
 
@@ -70,10 +70,10 @@ text_same : (f : ServerEnd) (t : Result FrameText ConnEnd) → FrameSame f (chec
 text_same f (Err e) = tt
 text_same f (Ok t) = in_same f t.sealed t.messages
 
-frame_same : (f : ServerEnd) (frame : List ℕ) → FrameSame f (check_frame f frame)
+pub frame_same : (f : ServerEnd) (frame : List ℕ) → FrameSame f (check_frame f frame)
 frame_same f frame = text_same f (text_of f.keys frame)
 
-sealer_same : (f g : ServerEnd) → SameSealing f g → sealer_of true f ≡ sealer_of true g
+pub sealer_same : (f g : ServerEnd) → SameSealing f g → sealer_of true f ≡ sealer_of true g
 sealer_same f g s =
     ap (λ (o : Option Keys). record { is_on = is_some o; session = session_of o; channel = f.channel; counter = f.counter }) (sym s.0)
     ∙ ap (λ n. record { is_on = is_some g.keys; session = session_of g.keys; channel = n; counter = f.counter }) (sym s.1)
@@ -105,7 +105,7 @@ ended_kept rs s k us ends drawn f g why i =
     }
 
 -- where the counter has a nonce for each
-has_room : (f : ServerEnd) (sealed : Bool) (count : ℕ) → (sealed && not (has_nonces f count)) ≡ false → sealed ≡ true
+pub has_room : (f : ServerEnd) (sealed : Bool) (count : ℕ) → (sealed && not (has_nonces f count)) ≡ false → sealed ≡ true
     → f.counter + count ≤ last_counter
 has_room f true count e on = let h : has_nonces f count ≡ true = not_false (has_nonces f count) e in grind (arith, nat_tests)
 has_room f false count e on = absurd (cc)

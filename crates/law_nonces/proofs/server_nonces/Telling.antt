@@ -98,7 +98,7 @@ joined_length (ts ∷ rest) = ap (λ n. suc n) (joined_length rest)
 
 -- ---- the end behind each reply
 
-moved_keep : (us : List Seal) (ends : ℕ → Sealer) (drawn : ℕ → ℕ) (k : ℕ) (f : ServerEnd) (r : SaidReply) (t : List ℕ) (p : Progress)
+pub moved_keep : (us : List Seal) (ends : ℕ → Sealer) (drawn : ℕ → ℕ) (k : ℕ) (f : ServerEnd) (r : SaidReply) (t : List ℕ) (p : Progress)
     → ends k ≡ sealer_of true f → DrawsOn drawn r.keys.session p → NonceNumbered us ends drawn
     → NonceNumbered us (put ends k (sealer_of true (server_end_moved f r t p))) (next_drawn drawn r.keys.session p)
 moved_keep us ends drawn k f r t Stays is on i = alike us ends (put ends k (sealer_of true f)) drawn (put_itself ends k _ is) i
@@ -124,7 +124,7 @@ told_keep us ends drawn k sealed f (r ∷ rs) ts is on i =
 
 -- ---- numbers only grow
 
-one_grown : (drawn : ℕ → ℕ) (x : ℕ) (p : Progress) → DrawsOn drawn x p → (y : ℕ) → drawn y ≤ next_drawn drawn x p y
+pub one_grown : (drawn : ℕ → ℕ) (x : ℕ) (p : Progress) → DrawsOn drawn x p → (y : ℕ) → drawn y ≤ next_drawn drawn x p y
 one_grown drawn x Stays on y = omega arith
 one_grown drawn x (Interim binding) on y = omega arith
 one_grown drawn x (Final binding channel encrypts) on y =
