@@ -31,7 +31,7 @@ use Rattle.conn_core.specs.served.Serving.{Showing}
 use Rattle.conn_core.specs.message_replies.Replying.{AreAsked, AreMessagesSaid}
 use Rattle.conn_core.specs.frame_events.Dealing.{Alone, Deals, Dealing, GoesThrough, EventLeaves, SameCommands, taken_records}
 use Rattle.conn_core.specs.frame_events.Written.{AreWritten}
-use Rattle.conn_core.specs.declared.frame_events.dealing.Dealt.{Dealt}
+use Rattle.conn_core.specs.declared.frame_events.handing.Dealt.{Dealt}
 use Rattle.conn_core.specs.declared.reply_frames.answering.Answered.{Answered}
 use Rattle.conn_core.specs.reply_frames.Joined.{AreAtMost}
 use Rattle.conn_core.specs.reply_frames.Replying.{AnswersWith, AreAnswers, EndsAs, WalkGoes, walk_replied}
@@ -80,7 +80,7 @@ given_by F w = record {
   matches = not w.dealt.missing && not (is_filled w.mishaps);
 }
 
-none_left : (missing : Bool) (xs : List (Option Mishap)) → missing ≡ false → xs ≡ [] → (not missing && not (is_filled xs)) ≡ true
+pub none_left : (missing : Bool) (xs : List (Option Mishap)) → missing ≡ false → xs ≡ [] → (not missing && not (is_filled xs)) ≡ true
 unfolding is_filled
 none_left missing xs e f = ap (λ (b : Bool). not b && not (is_filled xs)) e ∙ ap (λ (l : List (Option Mishap)). not (is_filled l)) f
 
@@ -192,14 +192,14 @@ answers_of z now F x old d w t sealed moment time seals greets asked bound = rec
 abbrev step_due : Frame → Owned → Bool → ConnectionStep
 step_due F w sealed = walk_replied w.dealt.going.server w.dealt.going.logons F.server_end sealed w.dealt.going.window w.dealt.going.replies
 
-alike_due : (F : Frame) (w : Owned) (sealed : Bool) → w.dealt.stopped ≡ None → F.sealed ≡ sealed
+pub alike_due : (F : Frame) (w : Owned) (sealed : Bool) → w.dealt.stopped ≡ None → F.sealed ≡ sealed
     → IsAlike (step_due F w sealed) (given_by F w).step
 alike_due F w sealed goes is =
     subst (λ (S : ConnectionStep). IsAlike (step_due F w sealed) S) (sym (went_step F w goes))
     (subst (λ (b : Bool). IsAlike (step_due F w b) (answered F.server_end F.sealed w.dealt.going)) is
     (alike_step F.server_end F.sealed w.dealt.going))
 
-goes_alike : (k : ℕ) (guid : List ℕ) (S T : ConnectionStep) (bytes : List ℕ) (new : Conn) → IsAlike S T → WalkGoes k guid S bytes new
+pub goes_alike : (k : ℕ) (guid : List ℕ) (S T : ConnectionStep) (bytes : List ℕ) (new : Conn) → IsAlike S T → WalkGoes k guid S bytes new
     → WalkGoes k guid T bytes new
 goes_alike k guid S T bytes new a g = record {
   goes_on = a.ends_are ∙ g.goes_on;
@@ -239,7 +239,7 @@ taken_on shown z k now fresh s L records f F x d w sealed new t deal left is don
 
 -- ---- an end
 
-ends_alike : (S T : ConnectionStep) (why : ConnEnd) → IsAlike S T → EndsAs why S.ends → EndsAs why T.ends
+pub ends_alike : (S T : ConnectionStep) (why : ConnEnd) → IsAlike S T → EndsAs why S.ends → EndsAs why T.ends
 ends_alike S T why a h = subst (λ (o : Option ends.ConnEnd). EndsAs why o) (sym a.ends_are) h
 
 at_end : (shown : Showing) (written : List model.Record → Type 0) (records : List model.Record) (e : Ended) (G : GivenStep) (why : ConnEnd)

@@ -4,11 +4,15 @@ pub mod Saids
 pub mod Plainly
 pub mod Setting
 pub mod Gives
+pub mod Tellings
 pub mod Alone
 pub mod Lists
 pub mod SoFar
 pub mod Shorts
 pub mod Keeping
 pub mod Cases
+pub mod Givens
+pub mod Jump
 pub mod Stepping
+pub mod Sharing
 pub mod Ending

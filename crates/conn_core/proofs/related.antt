@@ -2,3 +2,4 @@ pub mod Placed
 pub mod Files
 pub mod Carried
 pub mod Inherited
+pub mod Denied

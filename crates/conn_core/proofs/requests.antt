@@ -4,3 +4,4 @@ pub mod Found
 pub mod Looks
 pub mod Unread
 pub mod Events
+pub mod Asked

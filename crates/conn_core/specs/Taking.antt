@@ -20,7 +20,7 @@ use Rattle.conn_core.specs.served.Serving.{Showing}
 use Rattle.conn_core.specs.reply_frames.Replying.{EndsAs, WalkGoes}
 use Rattle.conn_core.specs.frame_events.Dealing.{taken_records}
 use Rattle.conn_core.specs.frame_events.Written.{AreWritten}
-use Rattle.conn_core.specs.declared.frame_events.dealing.Dealt.{Dealt}
+use Rattle.conn_core.specs.declared.frame_events.handing.Dealt.{Dealt}
 use Rattle.conn_core.specs.declared.end.Ended.{Ended}
 use Rattle.conn_core.specs.declared.taking.StepNote.{StepNote}
 use Rattle.conn_core.specs.declared.taking.Taken.{Taken}

@@ -1,5 +1,9 @@
 //! The events of a frame's messages over a server (MS-SMB2 3.3.5.2).
 
+mod asking;
 mod dealing;
+mod handing;
 
-pub use dealing::{Dealt, Moment, carry_out};
+pub use asking::ask;
+pub use dealing::{Moment, carry_out};
+pub use handing::{Dealt, dealt_for, goes, hand_on, refuse};

@@ -7,23 +7,23 @@
 #![tactic(auto)]
 
 mod end;
-mod frame_events;
+pub mod frame_events;
 mod logon_state;
 mod lone_server;
 mod message_replies;
-mod related;
+pub mod related;
 mod reply_frames;
-mod requests;
+pub mod requests;
 mod served;
 mod taking;
 
 pub use crate::reply_frames::answer;
 pub use end::Ended;
-pub use frame_events::{Dealt, Moment, carry_out};
+pub use frame_events::{Dealt, Moment, ask, carry_out, dealt_for, goes, hand_on, refuse};
 pub use logon_state::Behind;
 pub use lone_server::take_own;
 pub use message_replies::{Answers, has_event, said};
-pub use related::{bare_status, inherit};
+pub use related::{Carry, bare_status, inherit};
 pub use reply_frames::{Answered, answered_with};
 pub use requests::{Told, event, told_of};
 pub use served::{Replies, Reply, Serve, ServeError};

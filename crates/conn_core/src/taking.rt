@@ -1,5 +1,5 @@
 //! A whole frame over a server (MS-SMB2 3.3.5.2).
-ghost use Rattle.std.specs.Prelude.{◌≡◌, ◌≤◌, ℕ, [], true, false, List, IfOk, length, vec_capacity, if◌then◌else◌, Some};
+ghost use Rattle.std.specs.Prelude.{◌≡◌, ◌≤◌, ℕ, [], true, false, List, length, vec_capacity, if◌then◌else◌, Some};
 ghost use Rattle.spec_exchange.specs.Status.{no_memory};
 ghost use Rattle.spec_exchange.specs.State.{Record, Server};
 ghost use Rattle.spec_crypto.specs.sessions.Nonces.{last_counter};
@@ -18,11 +18,11 @@ ghost use Rattle.conn_core.specs.reply_frames.Replying.{AreAnswers, walk_replied
 ghost use Rattle.conn_core.specs.Taking.{FrameFinishes, HaltsAt, IsEnded, FrameServes, FrameTakes};
 
 use crate::end::{Ended, at_once};
-use crate::frame_events::{Dealt, Moment, carry_out};
+use crate::frame_events::{Dealt, Moment, carry_out, dealt_for};
 use crate::reply_frames::{Answered, answered_with};
-use crate::served::{Replies, Serve};
+use crate::served::Serve;
 use conn_ends::{CheckedFrame, Conn, ConnEnd, check};
-use std::alloc::{AllocError, Global};
+use std::alloc::AllocError;
 use wire_bytes::Bytes;
 
 /// STATUS_NO_MEMORY (MS-ERREF 2.3.1)
@@ -45,18 +45,6 @@ pub struct Taken {
     pub took: bool,
     /// An event of the frame found no memory.
     pub lacked: bool,
-}
-
-/// No answers yet, with room for so many.
-fn dealt_for(alloc: Global, count: usize) -> Result<Dealt, AllocError>
-    ensures none { IfOk result (λ d. (d.replies.items.items ≡ []) × (d.took ≡ false)) }
-    ensures room { IfOk result (λ d. count ≤ vec_capacity d.replies.items) }
-{
-    let replies = Replies::with_room(alloc, count)?;
-    Ok(Dealt {
-        replies,
-        took: false,
-    })
 }
 
 fn end_of(why: ConnEnd, dealt: &Dealt) -> Ended

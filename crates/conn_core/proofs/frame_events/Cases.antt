@@ -32,8 +32,8 @@ use Rattle.conn_core.specs.served.Serving.{Showing}
 use Rattle.conn_core.specs.message_replies.Replying.{aside_status, echo_due, negotiate_due, said_aside}
 use Rattle.conn_core.proofs.requests.Events.{with_event, of_cancel, of_negotiate, of_echo}
 use Rattle.conn_core.specs.frame_events.Dealing.{GivesReply, LosesReply, takes, taken_records}
-use Rattle.conn_core.specs.frame_events.SoFar.{DealtSoFar}
-use Rattle.conn_core.specs.declared.frame_events.dealing.Dealt.{Dealt}
+use Rattle.conn_core.specs.frame_events.SoFar.{Facts}
+use Rattle.conn_core.specs.declared.frame_events.handing.Dealt.{Dealt}
 use Rattle.conn_core.proofs.frame_events.Plainly.{no_token}
 use Rattle.conn_core.proofs.frame_events.Saids as saids
 use Rattle.conn_core.proofs.frame_events.SoFar.{Behind}
@@ -146,7 +146,7 @@ pub answered : (shown : Showing) (z : ServerSettings) (k now : ℕ) (fresh : Lis
     (w : Owned) → heard_message z w.dealt.going.logons k f t ≡ Some m → has_event m.command ≡ true → n.fails ≡ None
     → e.replies.items.items ≡ d.replies.items.items ++ Ok r ∷ [] → e.took ≡ (d.took || true) → RelatedCarries y t (Some (Ok r)) b
     → GivesReply shown z k now fresh w.dealt.going.server w.dealt.going.logons records f t m r
-    → DealtSoFar z k now fresh s L f cs at from x d y more w
+    → Facts z k now fresh s L f cs at from x d y more w
     → Behind z now f cs at n t d e (Some (carry_of b))
     (more ++ (answer_to w.dealt.going.server now m m.command).records) w (behind_answer z k now fresh f w t m)
 answered shown z k now fresh s L records f cs at from x n t m r d e y b more w heard event goes items took carries gives far =
@@ -183,7 +183,7 @@ pub lacking : (z : ServerSettings) (k now : ℕ) (fresh : List ℕ) (s : model.S
     (y : Option related.Carry) (b : Carry) (more further : List model.Record) (w : Owned) (v : model.Server)
     → heard_message z w.dealt.going.logons k f t ≡ Some m → has_event m.command ≡ true → n.fails ≡ None
     → e.replies.items.items ≡ d.replies.items.items ++ Err errors.Memory ∷ [] → e.took ≡ (d.took || false)
-    → RelatedCarries y t (Some (Err errors.Memory)) b → DealtSoFar z k now fresh s L f cs at from x d y more w
+    → RelatedCarries y t (Some (Err errors.Memory)) b → Facts z k now fresh s L f cs at from x d y more w
     → Behind z now f cs at n t d e (Some (carry_of b)) (more ++ further) w (behind_lack f w t v)
 lacking z k now fresh s L f cs at from x n t m d e y b more further w v heard event goes items took carries far = record {
   goes = far.goes;
@@ -219,7 +219,7 @@ pub lost_to : (shown : Showing) (z : ServerSettings) (k now : ℕ) (fresh : List
     (m : model.Message) (acted : Bool) (d e : Dealt) (y : Option related.Carry) (more : List model.Record) (w : Owned)
     → e.replies.items.items ≡ d.replies.items.items ++ Err (errors.Unanswered acted) ∷ [] → e.took ≡ (d.took || true)
     → LosesReply shown z k now fresh w.dealt.going.server w.dealt.going.logons records f t m acted
-    → DealtSoFar z k now fresh s L f cs at from x d y more w
+    → Facts z k now fresh s L f cs at from x d y more w
     → Lost e (more ++ (answer_to w.dealt.going.server now m m.command).records) (behind_answer z k now fresh f w t m)
 lost_to shown z k now fresh s L records f cs at from x t m acted d e y more w items took loses far =
     let A = answer_to w.dealt.going.server now m m.command in
@@ -257,7 +257,7 @@ pub cancelled : (z : ServerSettings) (k now : ℕ) (fresh : List ℕ) (s : model
     (cs : List hearing.Checked) (at from : ℕ) (x : CheckedFrame) (n : Checked) (t : hearing.Checked) (d e : Dealt)
     (y : Option related.Carry) (b : Carry) (more : List model.Record) (w : Owned) → heard_message z w.dealt.going.logons k f t ≡ None
     → t.header ≡ n.header → e.replies.items.items ≡ d.replies.items.items ++ [] → e.took ≡ (d.took || takes n None)
-    → RelatedCarries y t None b → DealtSoFar z k now fresh s L f cs at from x d y more w
+    → RelatedCarries y t None b → Facts z k now fresh s L f cs at from x d y more w
     → Behind z now f cs at n t d e (Some (carry_of b)) more w (behind_none z k now fresh f w t)
 cancelled z k now fresh s L f cs at from x n t d e y b more w heard header items took carries far =
     let cancel : (t.header.command == 12) ≡ true = cancel_is z w.dealt.going.logons k f t (t.header.command == 12) refl heard in
@@ -322,7 +322,7 @@ pub beside : (z : ServerSettings) (k now : ℕ) (fresh : List ℕ) (s : model.Se
     (y : Option related.Carry) (b : Carry) (more : List model.Record) (w : Owned) → t.header ≡ n.header
     → (t.header.command == 12) ≡ false → (t.header.command == 5) ≡ false → n.fails ≡ None → aside_status t ≡ Some status
     → RelatedCarries y t None b → e.replies.items.items ≡ d.replies.items.items ++ []
-    → e.took ≡ (d.took || takes n None) → DealtSoFar z k now fresh s L f cs at from x d y more w
+    → e.took ≡ (d.took || takes n None) → Facts z k now fresh s L f cs at from x d y more w
     → Behind z now f cs at n t d e (Some (carry_of b)) more w
     (behind_answer z k now fresh f w t (heard_as u t.header (asks.Aside status)))
 beside z k now fresh s L f cs at from x n t u status d e y b more w header other no_create goes aside carries items took far =

@@ -18,10 +18,10 @@ use Rattle.conn_core.specs.declared.served.serve.Reply.{Reply}
 use Rattle.conn_core.specs.served.Replies.{some_acted, some_lacked}
 use Rattle.conn_core.specs.served.Serving.{Showing}
 use Rattle.conn_core.specs.message_replies.Replying.{AreMessagesSaid, AreMessagesShort, FailRightly, ShowsTaken}
-use Rattle.conn_core.specs.frame_events.Dealing.{Deals, SameCommands}
+use Rattle.conn_core.specs.frame_events.Dealing.{Deals, GoesThrough, SameCommands}
 use Rattle.conn_core.specs.frame_events.Written.{WriteAll}
-use Rattle.conn_core.specs.frame_events.SoFar.{DealtSoFar, SoFarSteps, so_far_with_mishaps}
-use Rattle.conn_core.specs.declared.frame_events.dealing.Dealt.{Dealt}
+use Rattle.conn_core.specs.frame_events.SoFar.{DealtSoFar, Facts, SoFarSteps, so_far_with_mishaps}
+use Rattle.conn_core.specs.declared.frame_events.handing.Dealt.{Dealt}
 use Rattle.conn_core.proofs.frame_events.Lists.{at_places, in_a_row, same_list}
 use Rattle.conn_core.proofs.frame_events.Turns.{none_left, none_written, all_done}
 
@@ -49,23 +49,25 @@ pub first : (z : ServerSettings) (k now : ℕ) (fresh : List ℕ) (s : model.Ser
     → ShowsMessages x.bytes.items x.messages.items cs → DealtSoFar z k now fresh s L f cs 0 0 x d None [] (owning s L f [])
 first z k now fresh s L f cs x d none untaken shows = record {
   begins = record { mishaps = []; is = λ later rest. refl; left = λ later rest h. h; written = λ later rest after h. h };
-  goes = refl;
-  none_missing = refl;
-  acted = none_acted d.replies.items.items none;
-  lacked = none_lacked d.replies.items.items none;
-  took = sym untaken;
-  records_are = λ lacks. refl;
-  carried_is = λ less. refl;
-  done = [];
-  taken = [];
-  long = refl;
-  also = refl;
-  same = λ i m e. absurd (none_there i m e);
-  shows = λ i m c e g. absurd (none_there i m e);
-  commands = tt;
-  fails = tt;
-  said = (none, refl, refl);
-  rest = λ i m c past e g. at_places x.bytes.items x.messages.items cs shows i m c e g;
+  facts = record {
+    goes = refl;
+    none_missing = refl;
+    acted = none_acted d.replies.items.items none;
+    lacked = none_lacked d.replies.items.items none;
+    took = sym untaken;
+    records_are = λ lacks. refl;
+    carried_is = λ less. refl;
+    done = [];
+    taken = [];
+    long = refl;
+    also = refl;
+    same = λ i m e. absurd (none_there i m e);
+    shows = λ i m c e g. absurd (none_there i m e);
+    commands = tt;
+    fails = tt;
+    said = (none, refl, refl);
+    rest = λ i m c past e g. at_places x.bytes.items x.messages.items cs shows i m c e g;
+  };
 }
 
 -- ---- behind the last
@@ -77,11 +79,31 @@ not_more (d ∷ ds) (m ∷ ms) h =
     let rest : length ds ≤ length ms = not_more ds ms (λ i n e. h (suc i) n e) in
     omega (arith, rest)
 
-take_past : (cs : List hearing.Checked) (n : ℕ) → length cs ≤ n → take n cs ≡ cs
+pub take_past : (cs : List hearing.Checked) (n : ℕ) → length cs ≤ n → take n cs ≡ cs
 take_past [] zero past = refl
 take_past [] (suc n) past = refl
 take_past (c ∷ cs) zero past = absurd (omega (arith, past))
 take_past (c ∷ cs) (suc n) past = ap (λ (l : List hearing.Checked). c ∷ l) (take_past cs n (omega (arith, past)))
+
+-- the messages that all went on
+pub through : (z : ServerSettings) (k now : ℕ) (fresh : List ℕ) (s : model.Server) (L : Logons) (f : ServerEnd)
+    (cs : List hearing.Checked) (at : ℕ) (x : CheckedFrame) (d : Dealt) (y : Option related.Carry) (more : List model.Record) (w : Owned)
+    → length x.messages.items ≡ length cs → length cs ≤ at → Facts z k now fresh s L f cs at at x d y more w
+    → GoesThrough z now f cs x d w
+through z k now fresh s L f cs at x d y more w count past far =
+    let front : take at cs ≡ cs = take_past cs at past in
+    let few : length far.done ≤ length x.messages.items = not_more far.done x.messages.items far.same in
+    let long : length far.done ≡ at = far.long in
+    let all : far.done ≡ x.messages.items = same_list far.done x.messages.items (omega (arith, count, past, few, long)) far.same in
+    record {
+      taken = far.taken;
+      shows = subst (λ (ms : List Checked). ShowsTaken x.bytes.items ms far.taken) all
+          (in_a_row x.bytes.items far.done far.taken (far.long ∙ sym far.also) far.shows);
+      commands = subst (λ (l : List hearing.Checked). SameCommands far.taken l) front far.commands;
+      fails = subst (λ (ms : List Checked). FailRightly ms) all far.fails;
+      said = subst (λ (ms : List Checked). AreMessagesSaid z now f ms far.taken d.replies.items.items f.window w.dealt.going.replies
+          w.dealt.going.window) all far.said;
+    }
 
 pub last : (shown : Showing) (z : ServerSettings) (k now : ℕ) (fresh : List ℕ) (s : model.Server) (L : Logons)
     (records : List model.Record) (f : ServerEnd) (cs : List hearing.Checked) (at : ℕ) (x : CheckedFrame) (d : Dealt)
@@ -91,11 +113,9 @@ pub last : (shown : Showing) (z : ServerSettings) (k now : ℕ) (fresh : List �
     → Deals shown z k now fresh s L records f cs x d (Ok tt)
 last shown z k now fresh s L records f cs at x d y more w count past far state =
     let v = so_far_with_mishaps w [] in
+    let on = through z k now fresh s L f cs at x d y more w count past far.facts in
     let front : take at cs ≡ cs = take_past cs at past in
-    let whole : take at cs ++ [] ≡ cs = append-nil (take at cs) ∙ front in
-    let few : length far.done ≤ length x.messages.items = not_more far.done x.messages.items far.same in
-    let long : length far.done ≡ at = far.long in
-    let all : far.done ≡ x.messages.items = same_list far.done x.messages.items (omega (arith, count, past, few, long)) far.same in (
+    let whole : take at cs ++ [] ≡ cs = append-nil (take at cs) ∙ front in (
       v,
       record {
         mishaps = far.begins.mishaps ++ [];
@@ -103,30 +123,22 @@ last shown z k now fresh s L records f cs at x d y more w count past far state =
             ∙ (far.begins.is [] [] ∙ all_done z k now fresh f v));
         left = subst (λ (ds : List hearing.Checked). LeaveAll z k now fresh f (owning s L f (far.begins.mishaps ++ [])) ds) whole
             (far.begins.left [] [] (none_left z k now fresh f v));
-        none_missing = far.none_missing;
+        none_missing = far.facts.none_missing;
         none_left = refl;
-        acted = far.acted;
-        lacked = far.lacked;
-        took = far.took;
+        acted = far.facts.acted;
+        lacked = far.facts.lacked;
+        took = far.facts.took;
       },
       record {
-        goes = far.goes;
+        goes = far.facts.goes;
         more = more;
-        records_are = far.records_are;
+        records_are = far.facts.records_are;
         written = subst (λ (ds : List hearing.Checked). WriteAll z k now fresh f (owning s L f (far.begins.mishaps ++ [])) ds more) whole
             (subst (λ (rs : List model.Record). WriteAll z k now fresh f (owning s L f (far.begins.mishaps ++ [])) (take at cs ++ []) rs)
             (append-nil more) (far.begins.written [] [] [] (none_written z k now fresh f v)));
         state = state;
       },
-      record {
-        taken = far.taken;
-        shows = subst (λ (ms : List Checked). ShowsTaken x.bytes.items ms far.taken) all
-            (in_a_row x.bytes.items far.done far.taken (far.long ∙ sym far.also) far.shows);
-        commands = subst (λ (l : List hearing.Checked). SameCommands far.taken l) front far.commands;
-        fails = subst (λ (ms : List Checked). FailRightly ms) all far.fails;
-        said = subst (λ (ms : List Checked). AreMessagesSaid z now f ms far.taken d.replies.items.items f.window w.dealt.going.replies
-            w.dealt.going.window) all far.said;
-      },
+      record { taken = on.taken; shows = on.shows; commands = on.commands; fails = on.fails; said = on.said },
     )
 
 pub deals_err : (shown : Showing) (z : ServerSettings) (k now : ℕ) (fresh : List ℕ) (s : model.Server) (L : Logons)

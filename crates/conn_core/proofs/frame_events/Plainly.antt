@@ -33,7 +33,7 @@ use Rattle.conn_core.proofs.message_replies.Parts.{signs_on}
 use Rattle.conn_core.proofs.requests.Plain.{plain_event}
 use Rattle.conn_core.specs.frame_events.Dealing.{GivesBy, GivesIf, GivesReply, LosesReply}
 
-plain_stays : (c : asks.Command) (r : model.Reply) → IsServerPlain c → logon.progress c r ≡ logon.Stays
+pub plain_stays : (c : asks.Command) (r : model.Reply) → IsServerPlain c → logon.progress c r ≡ logon.Stays
 plain_stays (asks.Unreadable status) r p = refl
 plain_stays (asks.Aside status) r p = absurd p
 plain_stays (asks.Setup request) r p = absurd p

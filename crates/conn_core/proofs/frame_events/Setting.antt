@@ -177,13 +177,13 @@ comes_to z s t L k f fresh c q status (logon.Final binding number seals) (Final 
 
 -- ---- its reply
 
-kind_alone : (token : List ℕ) (a b : asks.SetupRequest) (r : model.Reply)
+pub kind_alone : (token : List ℕ) (a b : asks.SetupRequest) (r : model.Reply)
     → reply_body token (asks.Setup a) r ≡ reply_body token (asks.Setup b) r
 unfolding reply_body
 kind_alone token a b r = refl
 
 -- the server's answer over the definitions' message
-abbrev Over : Showing → Users → model.Server → Logons → List model.Record → ℕ → SetupHeard → Reply → model.Message → model.Answer
+abbrev pub Over : Showing → Users → model.Server → Logons → List model.Record → ℕ → SetupHeard → Reply → model.Message → model.Answer
     → Type 0
 Over shown users s L records now q r m A =
     let p = logon.setup_progress q.form.binding A.reply in
@@ -226,7 +226,7 @@ setup_over shown z k now fresh s L records f c q r negotiate is own token over =
     }
 
 -- the same, where the reply is lost
-abbrev LostOver : Showing → Users → Logons → List model.Record → ℕ → SetupHeard → Bool → model.Answer → Type 0
+abbrev pub LostOver : Showing → Users → Logons → List model.Record → ℕ → SetupHeard → Bool → model.Answer → Type 0
 LostOver shown users L records now q acted A =
     (acted ≡ A.acted) × shown A.server (setup_logons users L q now (logon.setup_progress q.form.binding A.reply)) (records ++ A.records)
 
@@ -259,7 +259,7 @@ is_same users L f k fresh c t q x same random told heard = record {
   setup = heard.setup;
 }
 
-has_token : (z : ServerSettings) (s : model.Server) (now : ℕ) (L : Logons) (c : hearing.Checked) (t : Told) (q : SetupHeard)
+pub has_token : (z : ServerSettings) (s : model.Server) (now : ℕ) (L : Logons) (c : hearing.Checked) (t : Told) (q : SetupHeard)
     (x : model.Message) (b : Bool) → q.form.readable ≡ b → IsDenied q.fault → IsRequestHeard z.users L t c q x
     → HasToken c q (logon.setup_progress q.form.binding (answer_to s now (message_for z.users L q) (message_for z.users L q).command).reply)
 has_token z s now L c t q x true e denied heard = inr (heard.token e)
@@ -274,7 +274,7 @@ is_long bytes m c q shows setup raw =
     let text : q.bytes.now ≡ message_in bytes m = raw ∙ shows.raw (none_named m.header.command number) in
     subst (λ (b : List ℕ). 64 ≤ length b) (sym text) (part_long m.span.start m.span.end bytes shows.whole shows.inside)
 
-left_same : (users : Users) (L : Logons) (s : model.Server) (now : ℕ) (q : SetupHeard) (t : model.Server)
+pub left_same : (users : Users) (L : Logons) (s : model.Server) (now : ℕ) (q : SetupHeard) (t : model.Server)
     (more : List model.Record) → LeftBy s now (model.Heard (setup_message users L s q)) t more
     → LeftBy s now (model.Heard (message_for users L q)) t more
 left_same users L s now q t more (inl p) = inl p

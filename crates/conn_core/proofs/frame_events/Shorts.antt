@@ -1,7 +1,11 @@
 -- Bodies that fit, of one answer and of one more.
-use Rattle.std.proofs.Common.{◌≡◌, ◌+◌, ◌≤◌, List, [], ◌∷◌, ◌++◌, length, Result, Ok, Err, Some, None, IfOk, ◌⊎◌, inl}
+use Rattle.std.proofs.Common.{◌≡◌, ℕ, ◌+◌, ◌≤◌, List, [], ◌∷◌, ◌++◌, length, Result, Ok, Err, Some, None, IfOk, ◌⊎◌, inl}
 use Rattle.std.proofs.Common.{inr, sym, ap, subst, ◌∙◌}
 use Rattle.std.proofs.Common.{length-append, arith}
+use Rattle.spec_wire.specs.messages.Error.{error_response_spelling, error_response_table}
+use Rattle.spec_commands.proofs.Lengths.{total, length_fields}
+use Rattle.conn_ends.specs.declared.frame_messages.checked.Checked.{Checked}
+use Rattle.conn_core.specs.served.Refusing.{IsMessageRefused}
 use Rattle.conn_core.specs.declared.served.error.ServeError.{ServeError}
 use Rattle.conn_core.specs.declared.served.serve.Reply.{Reply}
 use Rattle.conn_core.specs.served.Serving.{IsServerShort}
@@ -10,7 +14,7 @@ use Rattle.conn_ends.specs.declared.end.ConnEnd.TheVariants as ends
 use Rattle.conn_core.specs.declared.related.related.Carry.{Carry}
 use Rattle.conn_core.specs.message_replies.Replying.{AreMessagesShort}
 use Rattle.conn_core.specs.frame_events.Dealing.{AddsTo, EventAnswer, AreShortIf, event_listed}
-use Rattle.conn_core.specs.declared.frame_events.dealing.Dealt.{Dealt}
+use Rattle.conn_core.specs.declared.frame_events.handing.Dealt.{Dealt}
 
 pub short_lack : (e : ServeError) → AreMessagesShort (Err e ∷ [])
 unfolding AreMessagesShort
@@ -87,3 +91,13 @@ kept_by given d e (inr is) short old = kept_ok given d e is short old
 pub kept_err : (given : EventAnswer) (d e : Dealt) (why : ConnEnd) → AddsTo {A = Carry} given d e (Err why) → AreShortIf given
     → AreMessagesShort d.replies.items.items → AreMessagesShort e.replies.items.items
 kept_err given d e why p short old = kept_by given d e (added_err given d e why p) short old
+
+-- ---- of a message that is refused without an event
+
+error_few : length (error_response_spelling (record { error_context_count = 0; byte_count = 0 })) ≤ 1113984
+unfolding total
+error_few = omega (arith, length_fields (error_response_table (record { error_context_count = 0; byte_count = 0 })) [])
+
+pub short_refused : (m : Checked) (status : ℕ) (r : Reply) → IsMessageRefused m status r → IsServerShort r
+short_refused m status r is =
+    subst (λ (b : List ℕ). length b ≤ 1113984) (sym is.body) error_few

@@ -24,10 +24,10 @@ use Rattle.conn_core.specs.declared.served.serve.Reply.{Reply}
 use Rattle.conn_core.specs.served.Replies.{some_acted, some_lacked}
 use Rattle.conn_core.specs.message_replies.Replying.{AreMessagesSaid, FailsAt}
 use Rattle.conn_core.specs.frame_events.Dealing.{SameCommands, taken_records}
-use Rattle.conn_core.specs.declared.frame_events.dealing.Dealt.{Dealt}
+use Rattle.conn_core.specs.declared.frame_events.handing.Dealt.{Dealt}
 use Rattle.conn_core.proofs.frame_events.Lists.{checked_within, going_on, last_checked, last_message, was_there}
 use Rattle.conn_core.proofs.frame_events.Saids.{OneSaid, commands_more, fails_more, of_failed, said_more}
-use Rattle.conn_core.specs.frame_events.SoFar.{DealtSoFar}
+use Rattle.conn_core.specs.frame_events.SoFar.{DealtSoFar, Facts}
 use Rattle.conn_core.proofs.frame_events.Keeping.{fails_no_cancel}
 use Rattle.conn_core.proofs.frame_events.Turns.{Turns, begins_on, behind_failed, take_more}
 
@@ -38,12 +38,11 @@ done_within ds at i m long e same =
     let within : i < length ds = slice_get_within ds i m e in
     absurd (omega (arith, within, long, same))
 
-pub moved : (z : ServerSettings) (k now : ℕ) (fresh : List ℕ) (s : model.Server) (L : Logons) (f : ServerEnd)
+pub facts_moved : (z : ServerSettings) (k now : ℕ) (fresh : List ℕ) (s : model.Server) (L : Logons) (f : ServerEnd)
     (cs : List hearing.Checked) (at : ℕ) (x v : CheckedFrame) (o : Checked) (d : Dealt) (y : Option related.Carry)
     (more : List model.Record) (w : Owned) → AreInOrder x → SameOthers at x v → slice_get x.messages.items at ≡ Some o
-    → DealtSoFar z k now fresh s L f cs at at x d y more w → DealtSoFar z k now fresh s L f cs at (at + 1) v d y more w
-moved z k now fresh s L f cs at x v o d y more w order others here far = record {
-  begins = far.begins;
+    → Facts z k now fresh s L f cs at at x d y more w → Facts z k now fresh s L f cs at (at + 1) v d y more w
+facts_moved z k now fresh s L f cs at x v o d y more w order others here far = record {
   goes = far.goes;
   none_missing = far.none_missing;
   acted = far.acted;
@@ -68,6 +67,15 @@ moved z k now fresh s L f cs at x v o d y more w order others here far = record 
       (going_on x v at i o m c order others differs here was old.0, old.1);
 }
 
+pub moved : (z : ServerSettings) (k now : ℕ) (fresh : List ℕ) (s : model.Server) (L : Logons) (f : ServerEnd)
+    (cs : List hearing.Checked) (at : ℕ) (x v : CheckedFrame) (o : Checked) (d : Dealt) (y : Option related.Carry)
+    (more : List model.Record) (w : Owned) → AreInOrder x → SameOthers at x v → slice_get x.messages.items at ≡ Some o
+    → DealtSoFar z k now fresh s L f cs at at x d y more w → DealtSoFar z k now fresh s L f cs at (at + 1) v d y more w
+moved z k now fresh s L f cs at x v o d y more w order others here far = record {
+  begins = far.begins;
+  facts = facts_moved z k now fresh s L f cs at x v o d y more w order others here far.facts;
+}
+
 -- ---- one more message
 
 -- what is behind it: v in the definitions, e and u in code
@@ -86,15 +94,14 @@ pub record Behind (z : ServerSettings) (now : ℕ) (f : ServerEnd) (cs : List he
   pub replies_are : v.dealt.going.replies ≡ w.dealt.going.replies ++ replies
   pub said : OneSaid z now f n t answers w.dealt.going.window replies v.dealt.going.window
 
-pub one_more : (z : ServerSettings) (k now : ℕ) (fresh : List ℕ) (s : model.Server) (L : Logons) (f : ServerEnd)
+pub facts_more : (z : ServerSettings) (k now : ℕ) (fresh : List ℕ) (s : model.Server) (L : Logons) (f : ServerEnd)
     (cs : List hearing.Checked) (at : ℕ) (x : CheckedFrame) (n : Checked) (c t : hearing.Checked) (d e : Dealt)
-    (y u : Option related.Carry) (more one now_more : List model.Record) (xs : List (Option Mishap)) (w v : Owned)
+    (y u : Option related.Carry) (more now_more : List model.Record) (w v : Owned)
     → slice_get cs at ≡ Some c → slice_get x.messages.items at ≡ Some n → ShowsGoing x.bytes.items n t
-    → t.header.command ≡ c.header.command → FailsAt n.fails → more ++ one ≡ now_more → Turns z k now fresh f w c xs one v
-    → Behind z now f cs at n t d e u now_more w v → DealtSoFar z k now fresh s L f cs at (at + 1) x d y more w
-    → DealtSoFar z k now fresh s L f cs (at + 1) (at + 1) x e u now_more v
-one_more z k now fresh s L f cs at x n c t d e y u more one now_more xs w v is_c is_n shows command fails sum turns deals far = record {
-  begins = begins_on z k now fresh s L f cs at c w v xs more one now_more is_c far.goes sum far.begins turns;
+    → t.header.command ≡ c.header.command → FailsAt n.fails
+    → Behind z now f cs at n t d e u now_more w v → Facts z k now fresh s L f cs at (at + 1) x d y more w
+    → Facts z k now fresh s L f cs (at + 1) (at + 1) x e u now_more v
+facts_more z k now fresh s L f cs at x n c t d e y u more now_more w v is_c is_n shows command fails deals far = record {
   goes = deals.goes;
   none_missing = deals.none_missing;
   acted = deals.acted;
@@ -140,6 +147,18 @@ one_more z k now fresh s L f cs at x n c t d e y u more one now_more xs w v is_c
         subst (λ (q : Checked). ShowsGoing x.bytes.items q b) is
         (subst (λ (q : hearing.Checked). ShowsGoing x.bytes.items n q) alike shows)
 
+pub one_more : (z : ServerSettings) (k now : ℕ) (fresh : List ℕ) (s : model.Server) (L : Logons) (f : ServerEnd)
+    (cs : List hearing.Checked) (at : ℕ) (x : CheckedFrame) (n : Checked) (c t : hearing.Checked) (d e : Dealt)
+    (y u : Option related.Carry) (more one now_more : List model.Record) (xs : List (Option Mishap)) (w v : Owned)
+    → slice_get cs at ≡ Some c → slice_get x.messages.items at ≡ Some n → ShowsGoing x.bytes.items n t
+    → t.header.command ≡ c.header.command → FailsAt n.fails → more ++ one ≡ now_more → Turns z k now fresh f w c xs one v
+    → Behind z now f cs at n t d e u now_more w v → DealtSoFar z k now fresh s L f cs at (at + 1) x d y more w
+    → DealtSoFar z k now fresh s L f cs (at + 1) (at + 1) x e u now_more v
+one_more z k now fresh s L f cs at x n c t d e y u more one now_more xs w v is_c is_n shows command fails sum turns deals far = record {
+  begins = begins_on z k now fresh s L f cs at c w v xs more one now_more is_c far.facts.goes sum far.begins turns;
+  facts = facts_more z k now fresh s L f cs at x n c t d e y u more now_more w v is_c is_n shows command fails deals far.facts;
+}
+
 -- ---- a message that fails with the one before it
 
 failed_command : (o : Option related.Carry) (c : hearing.Checked) → (failed_as o c).header.command ≡ c.header.command
@@ -149,7 +168,7 @@ failed_command (Some y) c = refl
 pub failed : (z : ServerSettings) (k now : ℕ) (fresh : List ℕ) (s : model.Server) (L : Logons) (f : ServerEnd)
     (cs : List hearing.Checked) (at from : ℕ) (x : CheckedFrame) (n : Checked) (c : hearing.Checked) (d : Dealt)
     (y : Option related.Carry) (more : List model.Record) (w : Owned) (status : ℕ) → turn_of w.dealt.going.carried c ≡ related.Fails status
-    → n.fails ≡ Some status → DealtSoFar z k now fresh s L f cs at from x d y more w
+    → n.fails ≡ Some status → Facts z k now fresh s L f cs at from x d y more w
     → Behind z now f cs at n (failed_as w.dealt.going.carried c) d d y more w (behind_failed z k now fresh f w c status)
 failed z k now fresh s L f cs at from x n c d y more w status turn fails far =
     let off : hearing.is_cancel (failed_as w.dealt.going.carried c).header ≡ false =

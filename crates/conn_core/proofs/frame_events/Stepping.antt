@@ -34,8 +34,8 @@ use Rattle.conn_core.proofs.requests.Events.{of_negotiate, of_echo, with_event}
 use Rattle.conn_core.specs.frame_events.Dealing.{AddsTo, Alone, EventAnswer, GivesFor, GivesIf, LosesOne, LosesReply}
 use Rattle.conn_core.specs.frame_events.Dealing.{event_listed, lost_in, stop_in, takes}
 use Rattle.conn_core.specs.frame_events.Written.{WriteAll}
-use Rattle.conn_core.specs.frame_events.SoFar.{SoFarBegins, DealtSoFar, SoFarSteps, so_far_with_mishaps}
-use Rattle.conn_core.specs.declared.frame_events.dealing.Dealt.{Dealt}
+use Rattle.conn_core.specs.frame_events.SoFar.{SoFarBegins, DealtSoFar, Facts, SoFarSteps, so_far_with_mishaps}
+use Rattle.conn_core.specs.declared.frame_events.handing.Dealt.{Dealt}
 use Rattle.conn_core.proofs.frame_events.Cases.{answered, beside, cancelled, lacking, lost_to, no_cancel, one_heard}
 use Rattle.conn_core.proofs.frame_events.Keeping.{failed_keeps, fails_as, goes_as, goes_keeps, no_success, shows_new}
 use Rattle.conn_core.proofs.frame_events.Lists.{checked_within}
@@ -53,7 +53,7 @@ pub record Place (f : ServerEnd) (cs : List hearing.Checked) (at : ℕ) (x : Che
   pub shows : ShowsGoing x.bytes.items n t
   pub command : t.header.command ≡ c.header.command
 
-no_failure : (o : Option ℕ) → o ≡ None → FailsAt o
+pub no_failure : (o : Option ℕ) → o ≡ None → FailsAt o
 no_failure None e = tt
 no_failure (Some k) e = absurd cc
 
@@ -76,7 +76,7 @@ aside_by shown z k now fresh s L records f cs at x n c t u status d e y b more w
       one_more z k now fresh s L f cs at x n c t d e y (Some (carry_of b)) more [] more [] w v p.checked p.here p.shows p.command
           (no_failure n.fails none) (append-nil more) (turn_aside z k now fresh f w c t M goes heard refl)
           (beside z k now fresh s L f cs at (at + 1) x n t u status d e y b more w p.shows.header
-          (no_cancel z w.dealt.going.logons k f t M heard) no_create none aside carries items took far) far,
+          (no_cancel z w.dealt.going.logons k f t M heard) no_create none aside carries items took far.facts) far,
       state,
     )
 
@@ -140,7 +140,7 @@ went_by shown z k now fresh s L records f cs at x n c t None None d e y b more w
       one_more z k now fresh s L f cs at x n c t d e y (Some (carry_of b)) more [] more [] w
           (behind_none z k now fresh f w t) p.checked p.here
           p.shows p.command (no_failure n.fails none) (append-nil more) (turn_none z k now fresh f w c t goes heard)
-          (cancelled z k now fresh s L f cs at (at + 1) x n t d e y b more w heard p.shows.header items took carries far) far,
+          (cancelled z k now fresh s L f cs at (at + 1) x n t d e y b more w heard p.shows.header items took carries far.facts) far,
       gives,
     )
 went_by shown z k now fresh s L records f cs at x n c t None (Some r) d e y b more w p goes none alone heard gives stop kept items took
@@ -163,7 +163,7 @@ went_by shown z k now fresh s L records f cs at x n c t (Some m) (Some (Ok r)) d
           p.shows p.command (no_failure n.fails none) refl (turn_answered z k now fresh f w c t m goes heard gives.0)
           (answered shown z k now fresh s L (records ++ more) f cs at (at + 1) x n t m r d e y b more w heard gives.0 none items took
           carries gives.1
-          far) far,
+          far.facts) far,
       subst (λ (l : List model.Record). shown v.dealt.going.server v.dealt.going.logons l) (append_assoc records more A.records)
           gives.1.state,
     )
@@ -177,7 +177,7 @@ went_by shown z k now fresh s L records f cs at x n c t (Some m) (Some (Err erro
       one_more z k now fresh s L f cs at x n c t d e y (Some (carry_of b)) more q.1 (more ++ q.1)
           (Some (Lacks q.0) ∷ []) w v p.checked p.here
           p.shows p.command (no_failure n.fails none) refl (turn_lacks z k now fresh f w c t m q.0 q.1 goes heard gives.0 q.2)
-          (lacking z k now fresh s L f cs at (at + 1) x n t m d e y b more q.1 w q.0 heard gives.0 none items took carries far) far,
+          (lacking z k now fresh s L f cs at (at + 1) x n t m d e y b more q.1 w q.0 heard gives.0 none items took carries far.facts) far,
       subst (λ (l : List model.Record). shown q.0 w.dealt.going.logons l) (append_assoc records more q.1) q.3,
     )
 went_by shown z k now fresh s L records f cs at x n c t (Some m) (Some (Err (errors.Unanswered acted))) d e y b more w p goes none alone
@@ -218,7 +218,7 @@ halted_at : (shown : Showing) (z : ServerSettings) (k now : ℕ) (fresh : List �
 halted_at shown z k now fresh s L records f cs at x n c t m count d e y more w p goes heard event items took far =
     let v = behind_stop w count in
     let begins : SoFarBegins z k now fresh s L f cs (at + 1) (more ++ []) v =
-    begins_on z k now fresh s L f cs at c w v (Some (Halts count) ∷ []) more [] (more ++ []) p.checked far.goes refl far.begins
+    begins_on z k now fresh s L f cs at c w v (Some (Halts count) ∷ []) more [] (more ++ []) p.checked far.facts.goes refl far.begins
     (turn_stops z k now fresh f w c t m count goes heard event) in
     let whole : take (at + 1) cs ++ drop (at + 1) cs ≡ cs = take-append-drop (at + 1) cs in (
       so_far_with_mishaps v [],
@@ -228,11 +228,11 @@ halted_at shown z k now fresh s L records f cs at x n c t m count d e y more w p
             ∙ (begins.is [] (drop (at + 1) cs) ∙ halts z k now fresh f (so_far_with_mishaps v []) count (drop (at + 1) cs) refl));
         left = subst (λ (ds : List hearing.Checked). LeaveAll z k now fresh f (owning s L f (begins.mishaps ++ [])) ds) whole
             (begins.left [] (drop (at + 1) cs) (all_left z k now fresh f (so_far_with_mishaps v []) (drop (at + 1) cs) refl));
-        none_missing = far.none_missing;
+        none_missing = far.facts.none_missing;
         none_left = refl;
-        acted = far.acted ∙ ap (λ (l : List (Result Reply ServeError)). some_acted l) (sym items);
-        lacked = far.lacked ∙ ap (λ (l : List (Result Reply ServeError)). some_lacked l) (sym items);
-        took = far.took ∙ sym (took ∙ or_none d.took);
+        acted = far.facts.acted ∙ ap (λ (l : List (Result Reply ServeError)). some_acted l) (sym items);
+        lacked = far.facts.lacked ∙ ap (λ (l : List (Result Reply ServeError)). some_lacked l) (sym items);
+        took = far.facts.took ∙ sym (took ∙ or_none d.took);
       },
       refl,
     )
@@ -291,9 +291,9 @@ lost_at shown z k now fresh s L records f cs at x n c t m acted d e y more w p g
     let all = more ++ A.records in
     let ds = take (at + 1) cs in
     let begins : SoFarBegins z k now fresh s L f cs (at + 1) all v =
-    begins_on z k now fresh s L f cs at c w v (None ∷ []) more A.records all p.checked far.goes refl far.begins
+    begins_on z k now fresh s L f cs at c w v (None ∷ []) more A.records all p.checked far.facts.goes refl far.begins
     (turn_answered z k now fresh f w c t m goes heard event) in
-    let facts = lost_to shown z k now fresh s L (records ++ more) f cs at (at + 1) x t m acted d e y more w items took loses far in
+    let facts = lost_to shown z k now fresh s L (records ++ more) f cs at (at + 1) x t m acted d e y more w items took loses far.facts in
     let within : at < length cs = checked_within cs at c p.checked in
     let whole : ds ++ [] ≡ ds = append-nil ds in
     record {
@@ -306,14 +306,14 @@ lost_at shown z k now fresh s L records f cs at x n c t m acted d e y more w p g
             ∙ (begins.is [] [] ∙ all_done z k now fresh f (so_far_with_mishaps v [])));
         left = subst (λ (l : List hearing.Checked). LeaveAll z k now fresh f (owning s L f (begins.mishaps ++ [])) l) whole
             (begins.left [] [] (none_left z k now fresh f (so_far_with_mishaps v [])));
-        none_missing = far.none_missing;
+        none_missing = far.facts.none_missing;
         none_left = refl;
         acted = facts.acted;
         lacked = facts.lacked;
         took = facts.took;
       };
       leaves = record {
-        goes = far.goes;
+        goes = far.facts.goes;
         more = all;
         records_are = facts.records_are;
         written = subst (λ (l : List hearing.Checked). WriteAll z k now fresh f (owning s L f (begins.mishaps ++ [])) l all) whole
@@ -373,7 +373,7 @@ halted_err shown z k now fresh s L records f cs at x n c t given d e y ends.Memo
 
 -- ---- it fails with a CREATE before it
 
-failing : (status k : ℕ) (o : Option ℕ) → o ≡ Some status → (status ≡ 0 → ⊥) → FailsAt o
+pub failing : (status k : ℕ) (o : Option ℕ) → o ≡ Some status → (status ≡ 0 → ⊥) → FailsAt o
 failing status k o e h = subst (λ (q : Option ℕ). FailsAt q) (sym e) h
 
 pub failed_on : (shown : Showing) (z : ServerSettings) (k now : ℕ) (fresh : List ℕ) (s : model.Server) (L : Logons)
@@ -391,7 +391,7 @@ failed_on shown z k now fresh s L records f cs at x n c status d y more w p fail
       one_more z k now fresh s L f cs at x n c t d d y y more [] more [] w v p.checked p.here p.shows p.command
           (failing status k n.fails is (no_success w.dealt.going.carried c status fails)) (append-nil more)
           (turn_failed z k now fresh f w c status fails)
-          (failed z k now fresh s L f cs at (at + 1) x n c d y more w status fails is far) far,
+          (failed z k now fresh s L f cs at (at + 1) x n c d y more w status fails is far.facts) far,
       state,
     )
 
@@ -411,7 +411,7 @@ pub ready_goes : (z : ServerSettings) (k now : ℕ) (fresh : List ℕ) (s : mode
     (y : Option related.Carry) (more : List model.Record) (w : Owned) → SameOthers at old x → slice_get x.messages.items at ≡ Some n
     → slice_get cs at ≡ Some c → ShowsGoing old.bytes.items m c
     → Inherits (turn_of y c) true (failed_as y c) n (message_in x.bytes.items n) → n.span ≡ m.span → n.related ≡ m.related
-    → DealtSoFar z k now fresh s L f cs at at old d y more w
+    → Facts z k now fresh s L f cs at at old d y more w
     → (t : hearing.Checked) × Place f cs at x n c t × (turn_of w.dealt.going.carried c ≡ Goes t) × IsCarried n (message_in
     x.bytes.items n) t
     × (n.fails ≡ None)
@@ -436,7 +436,7 @@ pub ready_fails : (z : ServerSettings) (k now : ℕ) (fresh : List ℕ) (s : mod
     (y : Option related.Carry) (more : List model.Record) (w : Owned) → SameOthers at old x → slice_get x.messages.items at ≡ Some n
     → slice_get cs at ≡ Some c → ShowsGoing old.bytes.items m c
     → Inherits (turn_of y c) false (failed_as y c) n (message_in x.bytes.items n) → n.span ≡ m.span → n.related ≡ m.related
-    → DealtSoFar z k now fresh s L f cs at at old d y more w
+    → Facts z k now fresh s L f cs at at old d y more w
     → (status : ℕ) × Place f cs at x n c (failed_as w.dealt.going.carried c) × (turn_of w.dealt.going.carried c ≡ Fails status)
     × (n.fails ≡ Some status)
 ready_fails z k now fresh s L f cs at old x m n c d y more w others here is_c shows turn span link far =

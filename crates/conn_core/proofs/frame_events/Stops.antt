@@ -4,9 +4,10 @@ use Rattle.conn_ends.specs.declared.end.ConnEnd.{ConnEnd}
 use Rattle.conn_ends.specs.declared.end.ConnEnd.TheVariants as ends
 use Rattle.conn_core.specs.declared.served.error.ServeError.{ServeError}
 use Rattle.conn_core.specs.declared.served.error.ServeError.TheVariants as errors
+use Rattle.conn_core.specs.declared.related.related.Carry.{Carry}
 use Rattle.conn_core.specs.declared.served.serve.Reply.{Reply}
 use Rattle.conn_core.specs.frame_events.Dealing.{AddsTo, EventAnswer, stop_in, stopped_by}
-use Rattle.conn_core.specs.declared.frame_events.dealing.Dealt.{Dealt}
+use Rattle.conn_core.specs.declared.frame_events.handing.Dealt.{Dealt}
 
 or_zero : Option ℕ → ℕ
 or_zero None = 0
@@ -38,3 +39,7 @@ unfolding end_in
 add_stops A B given old new why count adds e =
     let same : why ≡ ends.Stopped count = ap (λ (r : Result B ConnEnd). end_in why r) e in
     (subst (λ (w : ConnEnd). AddsTo {A = A} given old new (Err w)) same adds).0
+
+pub adds_stop : (given : EventAnswer) (old new : Dealt) (r : Result Carry ConnEnd) (count : ℕ) → AddsTo given old new r
+    → r ≡ Err (ends.Stopped count) → stop_in given ≡ Some count
+adds_stop given old new r count adds e = (subst (λ (q : Result Carry ConnEnd). AddsTo given old new q) e adds).0

@@ -33,7 +33,7 @@ use Rattle.conn_ends.proofs.frame_messages.Headers.{one_number, true_is_not_fals
 use Rattle.conn_core.specs.related.Carrying.{IsCarried, breaks_form, is_broken}
 use Rattle.conn_core.specs.served.Serving.{IsServerPlain}
 use Rattle.conn_core.specs.declared.requests.hearing.Told.{Told as Tells}
-use Rattle.conn_core.specs.requests.Asking.{IsRequestTold, IsFormed, IsRequestHeard, IsRequestEvent, message_for}
+use Rattle.conn_core.specs.requests.Asking.{IsGreetingTold, IsFormed, IsRequestHeard, IsRequestEvent, message_for}
 use Rattle.conn_core.proofs.requests.Plain.{one, two, verified_in, named_plain, named_not_zero, setup_number}
 
 abbrev or_this : asks.Command → Option asks.Command → asks.Command
@@ -133,7 +133,7 @@ client_if true c k e = absurd cc
 client_if false c k e = refl
 
 client_is : (f : ServerEnd) (m : Checked) (c : hearing.Checked) (t : Tells) → c.header ≡ m.header → (m.header.command == 0) ≡ false
-    → IsRequestTold f c t → connection.client_by f c ≡ t.client_guid
+    → IsGreetingTold f t → connection.client_by f c ≡ t.client_guid
 client_is f m c t header other told =
     client_if (hearing.is_negotiate c.header) c (client_on f.greeting) (ap (λ (h : Header). h.command == 0) header
     ∙ other) ∙ sym told.client
@@ -145,7 +145,7 @@ plain_if true x p = tt
 plain_if false x p = p
 
 pub heard_plain : (z : ServerSettings) (L : Logons) (f : ServerEnd) (m : Checked) (bytes : List ℕ) (c : hearing.Checked) (t : Tells)
-    (x : asks.Command) (message : Message) → IsCarried m bytes c → IsRequestTold f c t → Finds m.header bytes (λ u. x)
+    (x : asks.Command) (message : Message) → IsCarried m bytes c → IsGreetingTold f t → Finds m.header bytes (λ u. x)
     → ((u : Told) → u.connection ≡ t.connection → u.client ≡ t.client_guid → u.fault ≡ m.fault
     → meant message ≡ heard_as u m.header (if breaks_form m then asks.Unreadable invalid_parameter else x))
     → IsRequestEvent z.users L t c (heard_message z L t.connection f c) (Some (events.Message message))
@@ -255,7 +255,7 @@ not_zero : (n : ℕ) → n ≡ 1 → (n == 0) ≡ false
 not_zero n e = ap (λ (k : ℕ). k == 0) e
 
 message_is : (z : ServerSettings) (L : Logons) (f : ServerEnd) (m : Checked) (bytes : List ℕ) (c : hearing.Checked) (t : Tells)
-    (form : SetupForm) (q : SetupHeard) → IsCarried m bytes c → c.raw ≡ bytes → IsRequestTold f c t → IsFormed t m form bytes q
+    (form : SetupForm) (q : SetupHeard) → IsCarried m bytes c → c.raw ≡ bytes → IsGreetingTold f t → IsFormed t m form bytes q
     → (m.header.command == 0) ≡ false → form.signed ≡ has_bit m.header.flags 8
     → message_for z.users L q ≡ heard_as (connection.told_of z L t.connection f c) c.header
     (asks.Setup (setup_told (connection.told_of z L t.connection f c) form))
@@ -314,7 +314,7 @@ token_placed false form token e reads = e reads
 
 pub heard_setup : (z : ServerSettings) (L : Logons) (f : ServerEnd) (m : Checked) (bytes : List ℕ) (c : hearing.Checked) (t : Tells)
     (form : SetupForm) (q : SetupHeard) → IsCarried m bytes c → (file_place m.header.command ≡ None → c.raw ≡ bytes) → IsDenied m.fault
-    → IsRequestTold f c t → Finds m.header bytes (λ u. asks.Setup (setup_told u form))
+    → IsGreetingTold f t → Finds m.header bytes (λ u. asks.Setup (setup_told u form))
     → IsFormed t m (form_placed (breaks_form m) form) bytes q
     → IsRequestEvent z.users L t c (heard_message z L t.connection f c) (Some (events.Setup q))
 heard_setup z L f m bytes c t form q is raw denied told e formed =

@@ -337,7 +337,7 @@ behind_echo n paid m = picked (last_rows n paid m) (requests.other_of n)
 abbrev behind_rows : ℕ → ℕ → List ℕ → Told → asks.Command
 behind_rows n paid m t = if n == 13 then asks.Aside (requests.echo_status t.fault (bare_fault m)) else behind_echo n paid m
 
-abbrev behind_setup : ℕ → ℕ → List ℕ → Told → asks.Command
+abbrev pub behind_setup : ℕ → ℕ → List ℕ → Told → asks.Command
 behind_setup n paid m t = picked (rows n paid m) (behind_rows n paid m t)
 
 abbrev behind_negotiate : ℕ → Header → List ℕ → Told → asks.Command
@@ -426,6 +426,35 @@ setup_number n h m due differs is_one e =
     setup_if_met (n == 1) n h m due differs is_one
     (not_met (n == 0) (λ t. asks.Aside t.negotiated) (behind_negotiate n h m) due
     (aside_no_setup (λ t. asks.Aside t.negotiated) due (λ t. refl) is_one) e)
+
+-- and no other command has it
+
+no_setup_plain : (c : asks.Command) → IsServerPlain c → is_setup_command c ≡ false
+no_setup_plain (asks.Setup r) p = absurd p
+no_setup_plain c p = refl
+
+no_setup_if : (b : Bool) (x y : asks.Command) → is_setup_command x ≡ false → is_setup_command y ≡ false
+    → is_setup_command (if b then x else y) ≡ false
+no_setup_if true x y p q = p
+no_setup_if false x y p q = q
+
+no_setup_picked : (rs : List Row) (rest : asks.Command) → AllPlain rs → is_setup_command rest ≡ false
+    → is_setup_command (picked rs rest) ≡ false
+no_setup_picked [] rest a p = p
+no_setup_picked (r ∷ rs) rest a p =
+    no_setup_if r.0 r.1 (picked rs rest) (no_setup_plain r.1 a.0) (no_setup_picked rs rest a.1 p)
+
+pub other_number : (n : ℕ) (t : Told) (h : Header) (m : List ℕ) → (n == 1) ≡ false → is_setup_command (named_command n t h m) ≡ false
+other_number n t h m other =
+    let last : is_setup_command (behind_echo n h.charge m) ≡ false =
+    no_setup_plain (behind_echo n h.charge m)
+    (plain_picked (last_rows n h.charge m) (requests.other_of n) (last_plain n h.charge m) (other_plain n)) in
+    let rest : is_setup_command (behind_rows n h.charge m t) ≡ false =
+    no_setup_if (n == 13) (asks.Aside (requests.echo_status t.fault (bare_fault m))) (behind_echo n h.charge m) refl last in
+    let first : is_setup_command (behind_setup n h.charge m t) ≡ false =
+    no_setup_picked (rows n h.charge m) (behind_rows n h.charge m t) (rows_plain n h.charge m) rest in
+    no_setup_if (n == 0) (asks.Aside t.negotiated) (behind_negotiate n h m t) refl
+    (ap (λ (b : Bool). is_setup_command (if b then requests.setup_in t h m else behind_setup n h.charge m t)) other ∙ first)
 
 -- ---- which commands have an event
 

@@ -22,11 +22,12 @@ use Rattle.conn_ends.specs.declared.frame_messages.checked.CheckedFrame.{Checked
 use Rattle.conn_core.specs.related.Carrying.{RelatedCarries, IsCarried}
 use Rattle.conn_core.specs.declared.related.related.Carry.{Carry}
 use Rattle.conn_core.specs.declared.served.serve.Reply.{Reply}
+use Rattle.conn_core.specs.served.Refusing.{IsMessageRefused}
 use Rattle.conn_core.specs.served.Replies.{some_acted, some_lacked}
 use Rattle.conn_core.specs.served.Serving.{IsNamed, LeftBy, Showing}
 use Rattle.conn_core.specs.message_replies.Replying.{AreMessagesSaid, AreMessagesShort, FailRightly, IsSaidTo, ShowsTaken}
 use Rattle.conn_core.specs.frame_events.Written.{WriteAll}
-use Rattle.conn_core.specs.declared.frame_events.dealing.Dealt.{Dealt}
+use Rattle.conn_core.specs.declared.frame_events.handing.Dealt.{Dealt}
 
 -- the answer to an event, of a message that has one
 abbrev pub EventAnswer : Type 0
@@ -137,6 +138,14 @@ pub record DealsOne (m : Checked) (bytes : List ℕ) (before : Option related.Ca
   pub adds : AddsTo given old new result
   pub took : new.took ≡ (old.took || takes m given)
   pub carries : IfOk result (λ y. (c : hearing.Checked) → IsCarried m bytes c → RelatedCarries before c given y)
+
+-- it has no event, but is refused with this status; or no memory was found for that
+abbrev pub RefusesOne : Checked → List ℕ → Option related.Carry → ℕ → Dealt → Dealt → Result Carry ConnEnd → Type 0
+RefusesOne m bytes before status old new (Ok y) = (r : Reply) × IsMessageRefused m status r
+    × (new.replies.items.items ≡ old.replies.items.items ++ Ok r ∷ []) × (new.took ≡ old.took)
+    × ((c : hearing.Checked) → IsCarried m bytes c → RelatedCarries before c (Some (Ok r)) y)
+RefusesOne m bytes before status old new (Err Memory) = new ≡ old
+RefusesOne m bytes before status old new (Err e) = ⊥
 
 -- ---- all events of a frame
 

@@ -20,7 +20,7 @@ use Rattle.conn_core.specs.served.Serving.{Showing}
 use Rattle.conn_core.specs.message_replies.Replying.{AreMessagesSaid, FailRightly}
 use Rattle.conn_core.specs.frame_events.Dealing.{Dealing, LosesOne, SameCommands, taken_records}
 use Rattle.conn_core.specs.frame_events.Written.{WriteAll}
-use Rattle.conn_core.specs.declared.frame_events.dealing.Dealt.{Dealt}
+use Rattle.conn_core.specs.declared.frame_events.handing.Dealt.{Dealt}
 
 abbrev pub so_far_with_mishaps : Owned → List (Option Mishap) → Owned
 so_far_with_mishaps w later = record w { mishaps = later }
@@ -40,11 +40,10 @@ pub record SoFarBegins (z : ServerSettings) (k now : ℕ) (fresh : List ℕ) (s 
       → WriteAll z k now fresh f (owning s L f (mishaps ++ later)) (take at cs ++ rest) (more ++ after)
 
 -- Behind the messages in front of `at`; those from `from` on stand as they were checked. w is what the definitions make of it, y what
--- the last message handed on, more the records.
-pub record DealtSoFar (z : ServerSettings) (k now : ℕ) (fresh : List ℕ) (s : model.Server) (L : Logons) (f : ServerEnd)
+-- the last message handed on, more the records. Nothing here looks at the server's state, nor at its logons.
+pub record Facts (z : ServerSettings) (k now : ℕ) (fresh : List ℕ) (s : model.Server) (L : Logons) (f : ServerEnd)
     (cs : List hearing.Checked) (at from : ℕ) (x : CheckedFrame) (d : Dealt) (y : Option related.Carry) (more : List model.Record)
     (w : Owned) : Type 0 where
-  pub begins : SoFarBegins z k now fresh s L f cs at more w
   pub goes : w.dealt.stopped ≡ None
   pub none_missing : w.dealt.missing ≡ false
   pub acted : has_acted w.dealt.going.taken ≡ some_acted d.replies.items.items
@@ -64,6 +63,13 @@ pub record DealtSoFar (z : ServerSettings) (k now : ℕ) (fresh : List ℕ) (s :
   pub said : AreMessagesSaid z now f done taken d.replies.items.items f.window w.dealt.going.replies w.dealt.going.window
   pub rest : (i : ℕ) (m : Checked) (c : hearing.Checked) → from ≤ i → slice_get x.messages.items i ≡ Some m → slice_get cs i ≡ Some c
       → ShowsGoing x.bytes.items m c × (m.fails ≡ None)
+
+-- over a server that no one else uses
+pub record DealtSoFar (z : ServerSettings) (k now : ℕ) (fresh : List ℕ) (s : model.Server) (L : Logons) (f : ServerEnd)
+    (cs : List hearing.Checked) (at from : ℕ) (x : CheckedFrame) (d : Dealt) (y : Option related.Carry) (more : List model.Record)
+    (w : Owned) : Type 0 where
+  pub begins : SoFarBegins z k now fresh s L f cs at more w
+  pub facts : Facts z k now fresh s L f cs at from x d y more w
 
 -- behind one more of them
 abbrev pub SoFarSteps : Showing → ServerSettings → ℕ → ℕ → List ℕ → model.Server → Logons → List model.Record → ServerEnd

@@ -18,7 +18,12 @@ use Rattle.spec_crypto.specs.sessions.Signing.{verifies}
 use Rattle.conn_core.specs.declared.requests.hearing.Told.{Told}
 use Rattle.conn_core.specs.served.Serving.{IsServerServed}
 
--- what the connection tells of a message
+-- what the connection tells of each message
+pub record IsGreetingTold (f : ServerEnd) (t : Told) : Type 0 where
+  pub client : t.client_guid ≡ client_on f.greeting
+  pub chosen : t.chosen ≡ chosen_on f.greeting
+
+-- and of this one
 pub record IsRequestTold (f : ServerEnd) (c : hearing.Checked) (t : Told) : Type 0 where
   pub client : t.client_guid ≡ client_on f.greeting
   pub chosen : t.chosen ≡ chosen_on f.greeting

@@ -3,7 +3,7 @@ ghost use Rattle.std.specs.Prelude.{◌≡◌, ◌≤◌, ◌<◌, ◌++◌, Non
 ghost use Rattle.spec_world.specs.Hearing as hearing;
 ghost use Rattle.spec_world.specs.Related.{failed_as, turn_of, with_file};
 ghost use Rattle.conn_ends.specs.declared.frame_messages.checked.Checked.{Checked};
-ghost use Rattle.conn_ends.specs.frame_messages.Checking.{AreInOrder, HasMessage, bytes_of, message_in};
+ghost use Rattle.conn_ends.specs.frame_messages.Checking.{AreDenied, AreInOrder, HasMessage, bytes_of, message_in};
 ghost use Rattle.conn_core.specs.related.Carrying.{carry_of, IsCarried, RelatedCarries, Inherits, SameOthers, TakesOver};
 
 use crate::related::related::{Carry, behind_answer, behind_none, can_follow, put_file};
@@ -90,6 +90,7 @@ pub fn inherit(frame: &mut CheckedFrame, at: usize, before: &Carry) -> bool
         → slice_get frame.new.messages.items at ≡ Some n → (n.span ≡ m.span) × (n.related ≡ m.related) }
     ensures others { SameOthers at frame.old frame.new }
     ensures order { AreInOrder frame.old → AreInOrder frame.new }
+    ensures denied { AreDenied frame.old → AreDenied frame.new }
 {
     let mut checked = *frame.checked(at);
     let is_related = checked.related;

@@ -14,7 +14,7 @@ ghost use Rattle.spec_world.specs.Connection.{heard_message};
 ghost use Rattle.conn_ends.specs.declared.frame_messages.checked.Checked.{Checked};
 ghost use Rattle.conn_ends.specs.Shown.{ShowsEnd, ShowsGreeting, ShowsMaking};
 ghost use Rattle.conn_ends.specs.frame_messages.Checking.{HasMessage, IsDenied, ShowsGoing};
-ghost use Rattle.conn_core.specs.requests.Asking.{IsRequestEvent, IsFormed, IsRequestTold};
+ghost use Rattle.conn_core.specs.requests.Asking.{IsGreetingTold, IsRequestEvent, IsFormed, IsRequestTold};
 ghost use Rattle.conn_core.specs.related.Carrying as carrying;
 ghost use Rattle.conn_core.specs.related.Carrying.{IsCarried};
 
@@ -108,7 +108,7 @@ fn event_of<'a>(
     found: Request<'a>,
 ) -> Option<ServerEvent<'a>>
     ensures { (z : ServerSettings) (L : Logons) (f : ServerEnd) (c : hearing.Checked) → IsCarried checked.now message.now c
-        → (file_place checked.now.header.command ≡ None → c.raw ≡ message.now) → IsDenied checked.now.fault → IsRequestTold f c told.now
+        → (file_place checked.now.header.command ≡ None → c.raw ≡ message.now) → IsDenied checked.now.fault → IsGreetingTold f told.now
         → ((t : CommandOf.Told) → CommandOf.command_of t checked.now.header message.now ≡ Some (Meaning.request_of t found.entry))
         → IsRequestEvent z.users L told.now c (heard_message z L told.now.connection f c) result }
 {
@@ -138,7 +138,7 @@ fn event_if<'a>(
     found: Option<Request<'a>>,
 ) -> Option<ServerEvent<'a>>
     ensures { (z : ServerSettings) (L : Logons) (f : ServerEnd) (c : hearing.Checked) → IsCarried checked.now message.now c
-        → (file_place checked.now.header.command ≡ None → c.raw ≡ message.now) → IsDenied checked.now.fault → IsRequestTold f c told.now
+        → (file_place checked.now.header.command ≡ None → c.raw ≡ message.now) → IsDenied checked.now.fault → IsGreetingTold f told.now
         → ((t : CommandOf.Told) → CommandOf.command_of t checked.now.header message.now
         ≡ option_map (Meaning.request_of t) found.entry)
         → IsRequestEvent z.users L told.now c (heard_message z L told.now.connection f c) result }
@@ -159,7 +159,7 @@ pub fn event<'a>(
 ) -> Result<Option<ServerEvent<'a>>, AllocError>
     requires { HasMessage frame.now at }
     ensures { (z : ServerSettings) (L : Logons) (f : ServerEnd) (m : Checked) (c : hearing.Checked)
-        → slice_get frame.now.messages.items at ≡ Some m → ShowsGoing frame.now.bytes.items m c → IsRequestTold f c told.now
+        → slice_get frame.now.messages.items at ≡ Some m → ShowsGoing frame.now.bytes.items m c → IsGreetingTold f told.now
         → IfOk result (λ event. IsRequestEvent z.users L told.now c (heard_message z L told.now.connection f c) event) }
 {
     let checked = frame.checked(at);

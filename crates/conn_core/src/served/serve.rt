@@ -1,5 +1,6 @@
 //! The server as its connections see it.
 use crate::served::error::ServeError;
+use base_outside::Standing;
 use conn_ends::{Checked, Progress};
 use server_checks::ServerEvent;
 use std::alloc::{AllocError, Global};
@@ -72,4 +73,11 @@ pub trait Serve {
         ensures halted { (count : ℕ) → stopped self.old ≡ Some count
             → (result ≡ Err (errors.Stopped count)) × (stopped self.new ≡ Some count) }
         ensures stops { (count : ℕ) → result ≡ Err (errors.Stopped count) → stopped self.new ≡ Some count };
+
+    /// The count of the disk's faults at which it stopped.
+    fn stop_count(&self) -> Option<u64>
+        ensures { result ≡ stopped self.now };
+
+    /// What a connection has at the server, for its link alone.
+    fn standing(&self, connection: u32) -> Standing;
 }

@@ -2,6 +2,7 @@
 use Rattle.std.specs.Prelude.{◌≡◌, ℕ, ◌+◌, ◌-◌, ◌≤◌, List, [], ◌∷◌, Option, Some, None, Result, Ok, Err, take, drop}
 use Rattle.std.specs.Prelude.{Bool, false, if◌then◌else◌}
 use Rattle.std.specs.Prelude.{true, length, map, Vec, ⊤, ◌<◌, slice_get}
+use Rattle.std.specs.List.{All}
 use Rattle.spec_exchange.specs.Status.{access_denied}
 use Rattle.spec_world.specs.Ends as ends
 use Rattle.spec_world.specs.Hearing as hearing
@@ -23,6 +24,13 @@ message_in bytes m = take (m.span.end - m.span.start) (drop m.span.start bytes)
 abbrev pub IsDenied : Option ℕ → Type 0
 IsDenied None = ⊤
 IsDenied (Some status) = status ≡ access_denied
+
+-- and so is that of each of these messages
+abbrev pub AllDenied : List Checked → Type 0
+AllDenied ms = All (λ m. IsDenied m.fault) ms
+
+abbrev pub AreDenied : CheckedFrame → Type 0
+AreDenied x = AllDenied x.messages.items
 
 -- A message that goes its way: its bytes as they stand, and where no FileId can have been put into them, as it was heard.
 pub record ShowsGoing (bytes : List ℕ) (m : Checked) (c : hearing.Checked) : Type 0 where

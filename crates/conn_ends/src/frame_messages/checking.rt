@@ -8,7 +8,7 @@ ghost use Rattle.spec_world.specs.Messages.{has_header, header_in, heard_in, mes
 ghost use Rattle.conn_ends.specs.Shown.{AreKnown, ShowsEnd};
 ghost use Rattle.conn_ends.specs.frame_messages.Checking.{CheckAdmits, AreMessages, Checks, ChecksAll, ChecksOne};
 ghost use Rattle.conn_ends.specs.frame_messages.Checking.{HeardBy, SplitBy, TextBy, bytes_of, heard_at};
-ghost use Rattle.conn_ends.specs.frame_messages.Checking.{AreInOrder, InOrder, places_of};
+ghost use Rattle.conn_ends.specs.frame_messages.Checking.{AllDenied, AreDenied, AreInOrder, InOrder, IsDenied, places_of};
 
 use crate::frame_messages::checked::{Checked, CheckedFrame};
 use crate::{Conn, ConnEnd};
@@ -233,7 +233,8 @@ fn owes_nothing(header: &Header, message: &[u8]) -> bool
 /// ACCESS_DENIED to what isn't protected and owes it, and to what stands behind a message that bars the rest of its frame.
 fn fault_of(conn: &Conn, place: Place, header: &Header, message: &[u8]) -> Option<u32>
     requires { (64 ≤ length message.now) × (length message.now < 2 ^ 60) }
-    ensures { (k : ℕ) (guid : List ℕ) (f : ServerEnd) → ShowsEnd k guid conn.now f
+    ensures denied { IsDenied result }
+    ensures fault { (k : ℕ) (guid : List ℕ) (f : ServerEnd) → ShowsEnd k guid conn.now f
         → result ≡ hearing.fault_of f place.sealed place.barred (record { header = header.now; bytes = message.now }) }
 {
     if place.barred {
@@ -257,6 +258,7 @@ fn check_one(conn: &mut Conn, place: Place, message: &[u8], span: Span) -> Resul
         → ChecksOne k guid (hearing.turn_end f (header_in message.now)) (hearing.behind_turn f (header_in message.now)) conn.new
         (hearing.checked_as f place.sealed place.barred place.first (heard_in message.now)) span result }
     ensures place { IfOk result (λ m. m.span ≡ span) }
+    ensures denied { IfOk result (λ m. IsDenied m.fault) }
 {
     let header = match read_header(message) {
         Ok(header) => header,
@@ -297,6 +299,7 @@ fn check_each(
     requires order { InOrder 0 (length (drop from bytes.now)) spans.now }
     requires short { length bytes.now < 2 ^ 60 }
     ensures places { IfOk result (λ ms. InOrder 0 (length bytes.now) (places_of ms.items)) }
+    ensures denied { IfOk result (λ ms. AllDenied ms.items) }
     ensures checks { (k : ℕ) (guid : List ℕ) (f : ServerEnd) → ShowsEnd k guid conn.old f
         → ChecksAll k guid bytes.now (hearing.checked_in f sealed (heard_at (drop from bytes.now) spans.now)) conn.new result }
 {
@@ -332,6 +335,7 @@ fn check_all(
     requires text { from ≤ length bytes.now }
     requires short { length bytes.now < 2 ^ 60 }
     ensures places { IfOk result (λ ms. InOrder 0 (length bytes.now) (places_of ms.items)) }
+    ensures denied { IfOk result (λ ms. AllDenied ms.items) }
     ensures checks { (k : ℕ) (guid : List ℕ) (f : ServerEnd) → ShowsEnd k guid conn.old f
         → ChecksAll k guid bytes.now (hearing.checked_text f (hearing.split_text sealed (messages_in (drop from bytes.now)))) conn.new
         result }
@@ -359,6 +363,7 @@ fn is_too_long(conn: &Conn, frame: &[u8]) -> bool
 /// then nothing of the frame is carried out. `now` is kept for a NEGOTIATE's response. The frame is copied once.
 pub fn check(conn: &mut Conn, frame: &[u8], now: u64) -> Result<CheckedFrame, ConnEnd>
     ensures order { IfOk result (λ x. AreInOrder x) }
+    ensures denied { IfOk result (λ x. AreDenied x) }
     ensures checks { (k : ℕ) (guid : List ℕ) (f : ServerEnd) → ShowsEnd k guid conn.old f
         → Checks k guid (hearing.check_frame f frame.now) now conn.new result }
 {

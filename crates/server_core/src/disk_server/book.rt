@@ -6,7 +6,7 @@ ghost use Rattle.server_core.specs.Shown.{stopped_of};
 use crate::Server;
 use crate::disk_server::asked::{logon_in, shape_in};
 use crate::event_replies::{Logon, Reply, Serve, ServeError, reply_from};
-use base_outside::Disk;
+use base_outside::{Disk, Standing};
 use server_checks::ServerEvent;
 use server_effects::Answer;
 use std::alloc::Global;
@@ -145,5 +145,13 @@ impl<D: Disk> Serve for Book<D> {
             Some(count) => Err(ServeError::Stopped(count)),
             None => self.go_on(now, event),
         }
+    }
+
+    fn stop_count(&self) -> Option<u64> {
+        self.server.stopped()
+    }
+
+    fn standing(&self, connection: u32) -> Standing {
+        self.server.standing(connection)
     }
 }

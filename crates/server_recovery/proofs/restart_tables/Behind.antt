@@ -253,6 +253,7 @@ module _ {D : Type 0} (told : Type 0) (seen : D → List ℕ) (may_leave : D →
               settled = subst (λ (v : List ℕ). JournalSettled seen may_leave new (s.0 ++ v ∷ [])) same (written y s.0 q.settled).1;
               more = q.more;
             },
+        (let room = a.0.1 in omega (arith, long, more, room)),
       )
 
   -- ---- the refusals
@@ -301,7 +302,7 @@ module _ {D : Type 0} (told : Type 0) (seen : D → List ℕ) (may_leave : D →
       let more : entry_bytes (recovery_records f.records) ≡ 5 + length body = f.adds in
       let size : j.used + 5 + length m ≡ length (front s.0) + 1 + entry_bytes (recovery_records f.records) =
       omega (arith, long, uses, more) in
-      (s.0, f.records, s.1, q.spelled, a.1 ∙ ap (λ (n : ℕ). journal_capped n) size, a.2, a.3)
+      (s.0, f.records, s.1, q.spelled, f.sound, a.1 ∙ ap (λ (n : ℕ). journal_capped n) size, a.2, a.3)
 
   pub unwritten : (disk : D) (first j new : JournalState D) (d : Durable) (body m : List ℕ) (x : JournalError)
       → IsOf told seen may_leave faults disk first → Found told seen may_leave faults first j d body → m ≡ body

@@ -70,4 +70,5 @@ begun told seen may_leave faults z disk j t r =
         );
       },
       λ tells. let b = r.6 tells in (b.bodies, b.stood, b.spelled, b.bytes_are),
+      r.7,
     )

@@ -1,12 +1,14 @@
 -- The state of a server that begins, by what its disk stands for.
-use Rattle.std.proofs.Common.{◌≡◌, inl, inr, ℕ, ◌+◌, ◌≤◌, min, Bool, List, [], ◌++◌, length, None, refl, sym, ap, subst, ◌∙◌}
+use Rattle.std.proofs.Common.{◌≡◌, inl, inr, ⊎_elim, ℕ, ◌+◌, ◌-◌, ◌^◌, ◌≤◌, ◌<◌, min, Bool, true, List, [], ◌++◌, length, None, refl, sym, ap, subst}
+use Rattle.std.proofs.Common.{◌∙◌, arith}
+use Rattle.std.proofs.Math.Nat.{min-le_left}
 use Rattle.wire_commands.specs.values.Meaning.{address_of}
 use Rattle.spec_exchange.specs.Fold.{Configuration, full_room, recovered, recovered_from, recovery_records}
 use Rattle.spec_exchange.specs.Fold.{configuration_of as configuration_behind}
 use Rattle.spec_exchange.specs.State as model
 use Rattle.spec_exchange.specs.State.{Address}
-use Rattle.spec_wire.specs.journal.Grammar.{StandsFor, front}
-use Rattle.journal.specs.disk_journal.Journal.{JournalState, JournalSettled}
+use Rattle.spec_wire.specs.journal.Grammar.{BreaksAt, StandsFor, front}
+use Rattle.journal.specs.disk_journal.Journal.{JournalState, JournalSettled, journal_capped}
 use Rattle.server_recovery.specs.server_start.Begun.{ServerBegins}
 use Rattle.server_checks.specs.Shown.{TablesShown}
 use Rattle.server_checks.specs.declared.tables.Config.{Config}
@@ -14,7 +16,10 @@ use Rattle.server_checks.specs.declared.tables.Tables.{Tables}
 use Rattle.server_recovery.specs.journaled_tables.Holds.{JournaledHolds}
 use Rattle.server_recovery.specs.declared.journaled_tables.state.ServerState.{ServerState}
 use Rattle.server_recovery.specs.Reading.{BodiesSpell}
-use Rattle.server_recovery.specs.restart_tables.Restart.{configuration_of}
+use Rattle.server_recovery.specs.restart_tables.Restart.{IsFull, IsNoBody, RestartRefused, configuration_of}
+use Rattle.law_server.specs.tables.Fits.{all_sound}
+use Rattle.spec_exchange.specs.Records.{entry_bytes}
+use Rattle.journal.specs.declared.disk_journal.journal.JournalError.TheVariants as causes
 use Rattle.spec_world.specs.Ends.{Logons}
 
 abbrev pub MeansOne : Type 0
@@ -23,6 +28,10 @@ MeansOne = (bytes : List ℕ) (a b : List (List ℕ)) → StandsFor bytes a → 
 abbrev pub SameRecords : Type 0
 SameRecords = (bytes : List ℕ) (bodies others : List (List ℕ)) (records more : List model.Record) → StandsFor bytes bodies
     → BodiesSpell bodies records → StandsFor bytes others → BodiesSpell others more → records ≡ more
+
+abbrev pub Taken : Type 0
+Taken = (bytes : List ℕ) (bodies : List (List ℕ)) (records : List model.Record) (at : ℕ) → StandsFor bytes bodies
+    → BodiesSpell bodies records → all_sound records ≡ true → (BreaksAt bytes at → ⊥) × (IsNoBody bytes at → ⊥)
 
 -- ---- a configuration by its parts
 
@@ -77,3 +86,31 @@ module _ {D : Type 0} (told : Type 0) (seen : D → List ℕ) (may_leave : D →
       subst (λ (n : ℕ). JournaledHolds told seen may_leave new (recovered z n []) L (recovery_records [])) count
       (subst (λ (rs : List model.Record). JournaledHolds told seen may_leave new (recovered z b.2 rs) L (rs ++ recovery_records rs)) records
       (b.4 L))
+
+  -- a journal without the room for what a recovery adds
+  too_much : (bytes limit would size : ℕ) → would ≡ journal_capped size → limit ≡ 1073741824 → limit < would → size ≡ bytes
+      → bytes ≤ 1073741824 → ⊥
+  too_much bytes limit would size capped at less same room =
+      let small : min size (2 ^ 64 - 1) ≤ size = min-le_left size (2 ^ 64 - 1) in
+      let is : would ≤ size = subst (λ (n : ℕ). n ≤ size) (sym capped) small in
+      absurd (omega (arith, is, at, less, same, room))
+
+  none_begins : MeansOne → SameRecords → told → (disk : D) (config : Config) (new : ServerState D) (would limit : ℕ)
+      → IsFull (seen disk) would limit → ServerBegins told seen may_leave faults config disk new → ⊥
+  none_begins one same tells disk config new would limit f b =
+      let t = b.5 tells in
+      let records : f.1 ≡ b.3 = same (seen disk) f.0 t.0 f.1 b.3 f.2 f.3 t.1 t.2 in
+      let bodies : f.0 ≡ t.0 = one (seen disk) f.0 t.0 f.2 t.1 in
+      let size : length (front f.0) + 1 + entry_bytes (recovery_records f.1) ≡ b.2 + entry_bytes (recovery_records b.3) =
+      ap (λ (bs : List (List ℕ)). length (front bs) + 1 + entry_bytes (recovery_records f.1)) bodies
+      ∙ (ap (λ (n : ℕ). n + entry_bytes (recovery_records f.1)) (sym t.3)
+      ∙ ap (λ (rs : List model.Record). b.2 + entry_bytes (recovery_records rs)) records) in
+      too_much (b.2 + entry_bytes (recovery_records b.3)) limit would (length (front f.0) + 1 + entry_bytes (recovery_records f.1))
+      f.5 f.6 f.7 size b.6
+
+  pub full : MeansOne → SameRecords → Taken → told → (disk : D) (config : Config) (new : ServerState D) (would limit at : ℕ)
+      → IsFull (seen disk) would limit → (ServerBegins told seen may_leave faults config disk new → ⊥)
+      × (RestartRefused told seen faults disk (causes.NotAJournal at) → ⊥)
+  full one same taken tells disk config new would limit at f =
+      let is = taken (seen disk) f.0 f.1 at f.2 f.3 f.4 in
+      (none_begins one same tells disk config new would limit f, λ refused. ⊎_elim is.0 is.1 (refused tells))

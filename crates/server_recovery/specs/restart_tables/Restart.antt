@@ -1,5 +1,5 @@
 -- What a restart answers of a disk.
-use Rattle.std.specs.Prelude.{◌≡◌, ◌⊎◌, ℕ, ◌+◌, ◌<◌, min, List, [], ◌∷◌, ◌++◌, length, take, slice_get, Some, true, Result, Ok, Err, ⊤}
+use Rattle.std.specs.Prelude.{◌≡◌, ◌⊎◌, ℕ, ◌+◌, ◌<◌, ◌≤◌, min, List, [], ◌∷◌, ◌++◌, length, take, slice_get, Some, true, Result, Ok, Err, ⊤}
 use Rattle.std.specs.Prelude.{None}
 use Rattle.wire_commands.specs.values.Meaning.{address_of}
 use Rattle.spec_exchange.specs.Fold.{Configuration, fold, full_room, recovered, recovery_records}
@@ -63,14 +63,19 @@ pub record StandsBehind {D : Type 0} (seen : D → List ℕ) (may_leave : D → 
 
 -- ---- the answers
 
+-- behind so many bytes a journal has room for what a recovery adds
+abbrev pub HasEpochRoom : ℕ → List model.Record → Type 0
+HasEpochRoom bytes records = bytes + entry_bytes (recovery_records records) ≤ 1073741824
+
 -- No call of the disk has failed: its count of faults is what it was. So the records that the recovery adds stand on it, and the
--- journal uses their bytes behind those that it used. Where the disk tells its bytes, the records are all of its records.
+-- journal uses their bytes behind those that it used, within its upper limit. Where the disk tells its bytes, the records are all of its
+-- records.
 abbrev pub ServerRestarts : {D : Type 0} → Type 0 → (D → List ℕ) → (D → List ℕ → Type 0) → (D → ℕ) → Config → D → JournalState D → Tables
     → Type 0
 ServerRestarts told seen may_leave faults z disk journal t = (journal.stopped ≡ None) × (faults journal.disk ≡ faults disk)
     × (bytes : ℕ) × (records : List model.Record) × IsRecovered z t bytes records
     × (bytes + entry_bytes (recovery_records records) ≡ journal.used)
-    × (told → StandsBehind seen may_leave disk journal bytes records)
+    × (told → StandsBehind seen may_leave disk journal bytes records) × HasEpochRoom bytes records
 
 -- the body that begins at this gate is the first that no server writes
 abbrev pub IsNoBody : List ℕ → ℕ → Type 0
@@ -78,10 +83,10 @@ IsNoBody bytes gate = (bodies : List (List ℕ)) × (k : ℕ) × (body : List �
     × StandsFor bytes bodies × (slice_get bodies k ≡ Some body) × (gate ≡ length (front (take k bodies)))
     × BodiesSpell (take k bodies) records × (all_sound records ≡ true) × NoServerWrites (fold records).version body
 
--- the journal would pass its upper limit by the records that a recovery adds
+-- A journal, all of whose bodies a server writes, would pass its upper limit by the records that a recovery adds.
 abbrev pub IsFull : List ℕ → ℕ → ℕ → Type 0
 IsFull bytes would limit = (bodies : List (List ℕ)) × (records : List model.Record) × StandsFor bytes bodies × BodiesSpell bodies records
-    × (would ≡ journal_capped (length (front bodies) + 1 + entry_bytes (recovery_records records))) × (limit ≡ 1073741824) × (limit < would)
+    × (all_sound records ≡ true) × (would ≡ journal_capped (length (front bodies) + 1 + entry_bytes (recovery_records records))) × (limit ≡ 1073741824) × (limit < would)
 
 abbrev pub RestartRefused : {D : Type 0} → Type 0 → (D → List ℕ) → (D → ℕ) → D → JournalError → Type 0
 RestartRefused told seen faults disk causes.Memory = ⊤

@@ -30,7 +30,7 @@ returns-then-not-goes-clause-steps g c = λ z before s L records more f cs w con
     let m = each_has old c.requires.order at less in
     let n = each_has x (c.goes.ensures.order c.requires.order) at (omega (arith, count, less)) in
     let b = there_checked cs at (omega (arith, less, long)) in
-    let was = far.rest at m.0 b.0 (omega arith) m.1 b.1 in
+    let was = far.facts.rest at m.0 b.0 (omega arith) m.1 b.1 in
     let turn = c.goes.ensures.turn m.0 n.0 b.0 m.1 n.1 (carried_so old.bytes.items m.0 b.0 was.0) was.0.related was.1 in
     let mine = subst (λ v. Inherits (turn_of y b.0) v (failed_as y b.0) n.0 (message_in x.bytes.items n.0)) c.if-not-goes.true turn in
     let placed = c.goes.ensures.place m.0 n.0 m.1 n.1 in
@@ -39,7 +39,7 @@ returns-then-not-goes-clause-steps g c = λ z before s L records more f cs w con
     let fresh = c.args.moment.now.fresh in
     let d = c.args.dealt.now in
     let r = ready_fails z k now fresh s L f cs at old x m.0 n.0 b.0 d y more w c.goes.ensures.others n.1 b.1 was.0 mine placed.0
-    placed.1 far in
+    placed.1 far.facts in
     let here = moved z k now fresh s L f cs at old x m.0 d y more w c.requires.order c.goes.ensures.others m.1 far in
     failed_on (Onward (g.S.Serve.shows c.args.server.now z.users) before (g.S.Serve.stopped c.args.server.now)) z k now
     fresh s L records f cs at x n.0 b.0 r.0 d y more w r.1 r.2 r.3 state here
@@ -55,7 +55,7 @@ returns-in-Ok-clause-steps g c = λ z before s L records more f cs w conn alone 
     let m = each_has old c.requires.order at less in
     let n = each_has x (c.goes.ensures.order c.requires.order) at (omega (arith, count, less)) in
     let b = there_checked cs at (omega (arith, less, long)) in
-    let was = far.rest at m.0 b.0 (omega arith) m.1 b.1 in
+    let was = far.facts.rest at m.0 b.0 (omega arith) m.1 b.1 in
     let turn = c.goes.ensures.turn m.0 n.0 b.0 m.1 n.1 (carried_so old.bytes.items m.0 b.0 was.0) was.0.related was.1 in
     let mine = subst (λ v. Inherits (turn_of y b.0) v (failed_as y b.0) n.0 (message_in x.bytes.items n.0)) c.if-not-goes.false turn in
     let placed = c.goes.ensures.place m.0 n.0 m.1 n.1 in
@@ -64,7 +64,7 @@ returns-in-Ok-clause-steps g c = λ z before s L records more f cs w conn alone 
     let fresh = c.args.moment.now.fresh in
     let d = c.args.dealt.now in
     let r = ready_goes z k now fresh s L f cs at old x m.0 n.0 b.0 d y more w c.goes.ensures.others n.1 b.1 was.0 mine placed.0
-    placed.1 far in
+    placed.1 far.facts in
     let here = moved z k now fresh s L f cs at old x m.0 d y more w c.requires.order c.goes.ensures.others m.1 far in
     let q = c.in-Ok.ensures.deals n.0 n.1 in
     went_on (Onward (g.S.Serve.shows c.deal.new.server z.users) before (g.S.Serve.stopped c.deal.new.server)) z k now
@@ -85,7 +85,7 @@ returns-in-Err-clause-steps g c = λ z before s L records more f cs w conn alone
     let m = each_has old c.requires.order at less in
     let n = each_has x (c.goes.ensures.order c.requires.order) at (omega (arith, count, less)) in
     let b = there_checked cs at (omega (arith, less, long)) in
-    let was = far.rest at m.0 b.0 (omega arith) m.1 b.1 in
+    let was = far.facts.rest at m.0 b.0 (omega arith) m.1 b.1 in
     let turn = c.goes.ensures.turn m.0 n.0 b.0 m.1 n.1 (carried_so old.bytes.items m.0 b.0 was.0) was.0.related was.1 in
     let mine = subst (λ v. Inherits (turn_of y b.0) v (failed_as y b.0) n.0 (message_in x.bytes.items n.0)) c.if-not-goes.false turn in
     let placed = c.goes.ensures.place m.0 n.0 m.1 n.1 in
@@ -94,7 +94,7 @@ returns-in-Err-clause-steps g c = λ z before s L records more f cs w conn alone
     let fresh = c.args.moment.now.fresh in
     let d = c.args.dealt.now in
     let r = ready_goes z k now fresh s L f cs at old x m.0 n.0 b.0 d y more w c.goes.ensures.others n.1 b.1 was.0 mine placed.0
-    placed.1 far in
+    placed.1 far.facts in
     let here = moved z k now fresh s L f cs at old x m.0 d y more w c.requires.order c.goes.ensures.others m.1 far in
     let q = c.in-Err.ensures.deals n.0 n.1 in
     halted_err (Onward (g.S.Serve.shows c.deal.new.server z.users) before (g.S.Serve.stopped c.deal.new.server)) z k now

@@ -1,8 +1,9 @@
-use Rattle.std.proofs.Common.{◌<◌, false, true, Bool, length, subst}
+use Rattle.std.proofs.Common.{◌<◌, false, true, Bool, length, subst, ◌∙◌}
 use Rattle.std.proofs.lemmas.Option.{slice_get_within}
 use Rattle.spec_world.specs.Related.{with_file}
 use Rattle.conn_ends.specs.frame_messages.Checking.{bytes_of}
 use Rattle.conn_core.specs.related.Carrying.{TakesOver}
+use Rattle.conn_core.proofs.related.Denied.{set_denied}
 use Rattle.conn_core.proofs.related.Inherited.{nothing, changed, put_into, ends_apart, ends_failed, ends_well}
 use Rattle.conn_core.proofs.related.Inherited.{stays_there, stays_same, others_of, order_of, inside_of}
 use Rattle.conn_core.proofs.related.carrying.inherit.Goals as goal
@@ -141,3 +142,14 @@ returns-clause-order c =
     (put_into c.args.at x y w a b (with_file b.header.command c.args.before.now.file (bytes_of y.bytes.items b.span)) first
     c.put_message.ensures.rest.0 c.put_file_in.ensures.rest.0 c.put_file_in.ensures.rest.1 c.put_file_in.ensures.rest.2
     c.put_file_in.ensures.bytes c.put_file_in.ensures.long inside.0 inside.1)
+
+pub returns-then-not-goes-clause-denied : goal.returns-then-not-goes-clause-denied
+returns-then-not-goes-clause-denied c =
+    set_denied c.args.frame.now.messages.items c.put_message.new.frame.messages.items c.args.at c.checked.result.now
+    c.take_over-goes.new.checked c.checked.ensures c.put_message.ensures.list c.take_over-goes.ensures.fault
+
+pub returns-clause-denied : goal.returns-clause-denied
+returns-clause-denied c =
+    set_denied c.args.frame.now.messages.items c.put_file_in.new.frame.messages.items c.args.at c.checked.result.now
+    c.take_over-goes.new.checked c.checked.ensures (c.put_file_in.ensures.rest.0 ∙ c.put_message.ensures.list)
+    c.take_over-goes.ensures.fault

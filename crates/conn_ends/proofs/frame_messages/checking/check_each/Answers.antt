@@ -1,10 +1,11 @@
 use Rattle.std.proofs.Common.{◌≡◌, ℕ, ◌+◌, ◌==◌, ◌||◌, Bool, false, List, drop, length, vec_len, slice_index_or, refl}
 use Rattle.std.proofs.Common.{sym, ap, subst, ◌∙◌, Ok, Err, is_some}
-use Rattle.std.proofs.Common.{arith}
+use Rattle.std.proofs.Common.{arith, [], ◌∷◌}
+use Rattle.std.proofs.lemmas.List.Elements.{All-append, All-cons, All-nil}
 use Rattle.spec_wire.specs.declared.messages.header.Span.{Span}
 use Rattle.spec_world.specs.Messages.{has_header}
 use Rattle.conn_ends.specs.declared.frame_messages.checked.Checked.{Checked}
-use Rattle.conn_ends.specs.frame_messages.Checking.{bytes_of}
+use Rattle.conn_ends.specs.frame_messages.Checking.{AllDenied, IsDenied, bytes_of}
 use Rattle.conn_ends.proofs.frame_messages.Steps.{Loops, Places, loops_first, loops_next, loops_ends, loops_whole}
 use Rattle.conn_ends.proofs.frame_messages.Steps.{place_fits, place_heads, as_placed}
 use Rattle.conn_ends.proofs.frame_messages.Steps.{places_first, places_next, places_whole}
@@ -20,7 +21,9 @@ loop-part-init c =
     (loops_first c.args.conn.now c.args.sealed c.args.bytes.now (drop c.args.from c.args.bytes.now) c.args.spans.now) in
     let placed = places_first c.args.bytes.now c.args.from c.args.spans.now c.in_ok-messages.messages.items c.in_ok-messages.ensures.items
     c.requires.text c.requires.order in
-    (checked, placed)
+    let denied = subst (λ (ms : List Checked). AllDenied ms) (sym c.in_ok-messages.ensures.items)
+    (All-nil (λ (n : Checked). IsDenied n.fault)) in
+    (checked, placed, denied)
 
 pub moved-span-requires : goal.moved-span-requires
 moved-span-requires c =
@@ -82,6 +85,9 @@ loop-part-preserved c =
     (slice_index_or c.args.spans.now c.loop-part.part-index none) none c.moved-span.result m
     (let t = c.loop-part-test.true in omega (arith, t)) refl c.moved-span.ensures.0 c.moved-span.ensures.1 c.in-Ok.ensures.place
     c.loop-part.invariant.1 in
+    let denied = subst (λ (ms : List Checked). AllDenied ms) (sym c.in-Ok-push.ensures.items)
+    (All-append (λ (n : Checked). IsDenied n.fault) c.loop-part.messages.items (m ∷ []) c.loop-part.invariant.2
+    (All-cons (λ (n : Checked). IsDenied n.fault) m [] c.in-Ok.ensures.denied (All-nil (λ (n : Checked). IsDenied n.fault)))) in
     let shown = subst (λ (b : Bool). Loops c.args.conn.now c.check_one.new.conn c.args.sealed c.args.bytes.now
     (drop c.args.from c.args.bytes.now) c.args.spans.now (c.loop-part.part-index + 1) b c.push.new.self.items) setup
     (subst (λ (ms : List Checked). Loops c.args.conn.now c.check_one.new.conn c.args.sealed c.args.bytes.now
@@ -90,12 +96,15 @@ loop-part-preserved c =
     let stands = subst (λ (ms : List Checked). Places c.args.from (length c.args.bytes.now) c.args.spans.now
     (c.loop-part.part-index + 1) ms)
     (sym c.in-Ok-push.ensures.items) placed in
-    (shown, stands)
+    (shown, stands, denied)
 
 pub returns-clause-places : goal.returns-clause-places
 returns-clause-places c =
     places_whole c.args.from (length c.args.bytes.now) c.args.spans.now c.loop-part.part-index c.loop-part.messages.items
     (let t = c.loop-part-test.false in omega (arith, t)) c.loop-part.invariant.1
+
+pub returns-clause-denied : goal.returns-clause-denied
+returns-clause-denied c = c.loop-part.invariant.2
 
 pub returns-clause-checks : goal.returns-clause-checks
 returns-clause-checks c = λ k guid f shown.

@@ -17,7 +17,7 @@ returns-in-Ok-admit-clause-turn c = λ k guid f s.
       fails = None;
       span = c.args.span;
     }) tt c.in-Ok.ensures (c.in-Ok-admit.ensures k guid f s) refl c.is_related-related.ensures
-    (c.fault_of-fault.ensures k guid f s) refl refl
+    (c.fault_of-fault.ensures.fault k guid f s) refl refl
 
 pub returns-in-Err-admit-clause-turn : goal.returns-in-Err-admit-clause-turn
 returns-in-Err-admit-clause-turn c = λ k guid f s.
