@@ -1,5 +1,12 @@
 pub mod Chains
 pub mod Going
+pub mod Steps
 pub mod Linking
 pub mod Calls
 pub mod Served
+pub mod Taking
+pub mod Unstopped
+pub mod Watching
+pub mod Stepping
+pub mod Wholes
+pub mod Framing

@@ -1,4 +1,7 @@
 pub mod Ending
-pub mod Turns
+pub mod Turning
+pub mod Frames
+pub mod Messages
 pub mod Passing
 pub mod Serving
+pub mod Due

@@ -1,11 +1,14 @@
-//! Connections that take turns at one shared server: a turn for each frame that a link gives, and the answer on the link.
+//! Connections that take turns at one shared server: a turn for each message that asks something of it, and the answer on the link.
 
 mod connections;
 mod ending;
 mod frames;
+mod messages;
 mod news;
-mod turn;
+mod onlooking;
+mod state;
+mod turning;
 mod writing;
 
-pub use connections::{Connections, serve_connection};
-pub use turn::{Told, Turn, What};
+pub use connections::{Connections, serve_before, serve_connection};
+pub use onlooking::{Begun, Nobody, Onlooker};

@@ -3,11 +3,13 @@
 #![tactic(auto)]
 
 mod connection_turns;
+pub mod event_book;
 mod link_serving;
 mod link_threads;
 pub mod shared_book;
 
-pub use connection_turns::{Connections, Told, Turn, What, serve_connection};
+pub use connection_turns::{Begun, Connections, Nobody, Onlooker, serve_before, serve_connection};
+pub use event_book::{Answer, Asks, EventBook, Turn, What};
 pub use link_serving::{
     ConnEnd, Ended, Roll, Service, SharedClock, entered, push_lines, serve_briefly,
 };

@@ -4,6 +4,7 @@
 //! the reply. All events stand in one list, and each seat knows a beginning of it, in which it finds its
 //! own calls, each once.
 
+mod bells;
 pub mod book;
 pub mod shared;
 mod turns;

@@ -12,6 +12,10 @@ mod book;
 #[cfg(test)]
 mod files;
 #[cfg(test)]
+mod logons;
+#[cfg(test)]
 mod net;
+#[cfg(test)]
+mod onlookers;
 #[cfg(test)]
 mod turns;

@@ -8,7 +8,7 @@ use Rattle.std.proofs.Math.Seq.{take-add}
 use Rattle.conn_ends.specs.Shown.{IsFrontEnd}
 use Rattle.conn_ends.specs.declared.end.ConnEnd.{ConnEnd}
 use Rattle.conn_ends.specs.declared.end.ConnEnd.TheVariants.{LinkFault, Memory}
-use Rattle.serve_turns.specs.connection_turns.Passing.{Feeds, HasWritten, NextTurn, Passed, PutFails}
+use Rattle.serve_turns.specs.connection_turns.Passing.{Feeds, HasWritten, NextFrame, Passed, PutFails}
 use Rattle.wire_bytes.specs.frames.Next.{FrameNextAnswers}
 use Rattle.base_outside.specs.streams.Faults.{Rose}
 use Rattle.base_outside.specs.network.Link.{is_link_end}
@@ -17,7 +17,7 @@ use Rattle.spec_wire.specs.declared.messages.refusal.FrameError.TheVariants as f
 
 -- a stream that breaks, or memory that ran out
 pub refused : (old new : List ℕ) (refusal : FrameError) (why : ConnEnd) → FrameNextAnswers old new (Err refusal) → IsFrontEnd refusal why
-    → NextTurn old new (Err why)
+    → NextFrame old new (Err why)
 refused old new frames.Memory why h is = (h, inr is)
 refused old new (frames.BadLead lead) why h is = (h.1, inl (is, (frames.BadLead lead, h.0)))
 refused old new (frames.TooLong size) why h is = (h.1, inl (is, (frames.TooLong size, h.0)))

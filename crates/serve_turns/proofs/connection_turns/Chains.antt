@@ -1,33 +1,62 @@
--- Turns of a connection, one behind the other, and the frames that they are taken for.
+-- Frames of a connection that were answered, one behind the other.
 use Rattle.std.proofs.Common.{◌≡◌, ℕ, List, [], ◌∷◌, ◌++◌, refl, sym, ap, ◌∙◌, subst, append_assoc}
+use Rattle.std.proofs.lemmas.List.{append-nil}
 use Rattle.spec_wire.specs.messages.Frames.{Frames}
 use Rattle.law_wire.proofs.messages.Streams.{whole_stays}
-use Rattle.conn_ends.specs.declared.conn.Conn.{Conn}
-use Rattle.serve_turns.specs.connection_turns.Turns.{AreChained, AreOf, AreWell, Placed, answer_bytes, answers_of}
+use Rattle.spec_world.specs.Answering.{Seal}
+use Rattle.spec_world.specs.Ends.{ServerEnd}
+use Rattle.spec_world.specs.Settings.{ServerSettings}
+use Rattle.serve_turns.specs.connection_turns.Frames.{Answers, AnswersAll}
+use Rattle.serve_turns.specs.event_book.History.{AllMeet, Course, Placed}
 
-pub chained_on : (c d e : Conn) (xs ys : List Placed) → AreChained c xs d → AreChained d ys e → AreChained c (xs ++ ys) e
-chained_on c d e [] ys h k = subst (λ (x : Conn). AreChained x ys e) h k
-chained_on c d e (x ∷ xs) ys h k = (h.0, chained_on x.1.reply.conn d e xs ys h.1 k)
+pub meet_front : (z : ServerSettings) (h : Course) (xs ys : List Placed) → AllMeet z h (xs ++ ys) → AllMeet z h xs
+meet_front z h [] ys m = tt
+meet_front z h (x ∷ xs) ys m = (m.0, meet_front z h xs ys m.1)
 
-pub of_on : (ms ns : List (List ℕ)) (xs ys : List Placed) → AreOf ms xs → AreOf ns ys → AreOf (ms ++ ns) (xs ++ ys)
-of_on [] ns [] ys h k = k
-of_on [] ns (x ∷ xs) ys h k = absurd h
-of_on (m ∷ ms) ns [] ys h k = absurd h
-of_on (m ∷ ms) ns (x ∷ xs) ys h k = (h.0, of_on ms ns xs ys h.1 k)
+pub meet_back : (z : ServerSettings) (h : Course) (xs ys : List Placed) → AllMeet z h (xs ++ ys) → AllMeet z h ys
+meet_back z h [] ys m = m
+meet_back z h (x ∷ xs) ys m = meet_back z h xs ys m.1
 
-pub well_on : (xs ys : List Placed) → AreWell xs → AreWell ys → AreWell (xs ++ ys)
-well_on [] ys h k = k
-well_on (x ∷ xs) ys h k = (h.0, well_on xs ys h.1 k)
+joined : {A : Type 0} (a b c d : List A) → a ≡ b ++ c → a ++ d ≡ b ++ (c ++ d)
+joined a b c d e = ap (λ l. l ++ d) e ∙ append_assoc b c d
 
-answers_on : (xs ys : List Placed) → answers_of (xs ++ ys) ≡ answers_of xs ++ answers_of ys
-answers_on [] ys = refl
-answers_on (x ∷ xs) ys =
-    ap (λ (l : List ℕ). answer_bytes x.1.reply.answer ++ l) (answers_on xs ys)
-    ∙ sym (append_assoc (answer_bytes x.1.reply.answer) (answers_of xs) (answers_of ys))
+module _ (z : ServerSettings) (h : Course) (k : ℕ) where
+  pub answers_none : (f : ServerEnd) (before : ℕ) → AnswersAll z h k f before [] [] [] f before []
+  unfolding AnswersAll
+  answers_none f before = (refl, refl, refl, refl, refl)
 
-pub wrote_on : (x y : List ℕ) (xs ys : List Placed) → x ≡ answers_of xs → y ≡ answers_of ys → x ++ y ≡ answers_of (xs ++ ys)
-wrote_on x y xs ys h k =
-    ap (λ (l : List ℕ). l ++ y) h ∙ ap (λ (l : List ℕ). answers_of xs ++ l) k ∙ sym (answers_on xs ys)
+  pub answers_one : (f g : ServerEnd) (before after : ℕ) (m : List ℕ) (xs : List Placed) (x : List ℕ) (made : List Seal)
+      → Answers z h k f before m xs x g after made → AnswersAll z h k f before (m ∷ []) xs x g after made
+  unfolding AnswersAll
+  answers_one f g before after m xs x made one =
+      (xs, [], x, [], g, after, made, [], one, (refl, refl, refl, refl, refl), sym (append-nil xs), sym (append-nil x), sym (append-nil made))
+
+  pub answers_on : (f g e : ServerEnd) (before between after : ℕ) (ms ns : List (List ℕ)) (xs ys : List Placed) (x y : List ℕ)
+      (made more : List Seal) → AnswersAll z h k f before ms xs x g between made → AnswersAll z h k g between ns ys y e after more
+      → AnswersAll z h k f before (ms ++ ns) (xs ++ ys) (x ++ y) e after (made ++ more)
+  unfolding AnswersAll
+  answers_on f g e before between after [] ns xs ys x y made more (turns, bytes, end, setups, seals) b =
+      subst (λ (l : List Placed). AnswersAll z h k f before ns (l ++ ys) (x ++ y) e after (made ++ more)) (sym turns)
+      (subst (λ (l : List ℕ). AnswersAll z h k f before ns ys (l ++ y) e after (made ++ more)) (sym bytes)
+      (subst (λ (l : List Seal). AnswersAll z h k f before ns ys y e after (l ++ more)) (sym seals)
+      (subst (λ (n : ℕ). AnswersAll z h k f n ns ys y e after more) setups
+      (subst (λ (u : ServerEnd). AnswersAll z h k u between ns ys y e after more) end b))))
+  answers_on f g e before between after (m ∷ ms) ns xs ys x y made more
+      (own, later, said, rest, u, setups, one_made, rest_made, one, tail, turns, bytes, seals) b = (
+        own,
+        later ++ ys,
+        said,
+        rest ++ y,
+        u,
+        setups,
+        one_made,
+        rest_made ++ more,
+        one,
+        answers_on u g e setups between after ms ns later ys rest y rest_made more tail b,
+        joined xs own later ys turns,
+        joined x said rest y bytes,
+        joined made one_made rest_made more seals,
+      )
 
 -- more bytes behind a stream leave its frames
 frames_more : (s more : List ℕ) (ms : List (List ℕ)) (r : List ℕ) → Frames s ms r → Frames (s ++ more) ms (r ++ more)

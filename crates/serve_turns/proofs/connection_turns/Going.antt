@@ -1,218 +1,286 @@
--- Frames of a connection that were taken, one run of them behind another, and how they end.
-use Rattle.std.proofs.Common.{◌≡◌, ℕ, Bool, true, List, [], ◌∷◌, ◌++◌, Option, None, Some, Ok, Err, refl, sym, ap, ◌∙◌, append_assoc}
+-- Frames of a connection that were answered, one run of them behind another, and how they end.
+use Rattle.std.proofs.Common.{◌≡◌, ◌≤◌, ℕ, Bool, true, List, [], ◌∷◌, ◌++◌, Option, None, Some, inl, inr, refl, sym, ap, subst, ◌∙◌}
+use Rattle.std.proofs.Common.{append_assoc}
 use Rattle.std.proofs.lemmas.List.{append-nil}
-use Rattle.serve_turns.specs.declared.shared_book.view.View.{View}
 use Rattle.base_outside.specs.streams.Faults.{Rose}
-use Rattle.spec_wire.specs.messages.Frames.{Waits, Whole, front}
-use Rattle.conn_ends.specs.declared.conn.Conn.{Conn}
+use Rattle.spec_crypto.specs.sessions.Nonces.{last_counter}
+use Rattle.spec_wire.specs.messages.Frames.{Frames, Waits, Whole, front}
+use Rattle.spec_world.specs.Answering.{Seal}
+use Rattle.spec_world.specs.Ends as world
+use Rattle.spec_world.specs.Ends.{ServerEnd}
+use Rattle.spec_world.specs.Settings.{ServerSettings}
+use Rattle.conn_ends.specs.Shown.{ShowsEnd}
 use Rattle.conn_ends.specs.declared.end.ConnEnd.{ConnEnd}
-use Rattle.conn_ends.specs.declared.end.ConnEnd.TheVariants.{LinkFault}
-use Rattle.serve_turns.proofs.connection_turns.Chains.{chained_on, frames_on, of_on, well_on, wrote_on}
-use Rattle.serve_turns.specs.connection_turns.Passing.{CannotRead, TurnEndsBy, Goes, HasEnded, PeerClosed, LinkFailed, ServerEnded, Unread}
-use Rattle.serve_turns.specs.connection_turns.Turns.{AddsTurn, AreWell, Placed, answer_bytes, answers_of}
-use Rattle.serve_turns.specs.declared.connection_turns.turn.Told.{Told}
-use Rattle.serve_turns.specs.declared.connection_turns.turn.Turn.{Turn}
-use Rattle.serve_turns.specs.declared.connection_turns.turn.What.{What}
-use Rattle.serve_turns.specs.declared.connection_turns.turn.What.TheVariants.{Frame}
+use Rattle.conn_ends.specs.declared.end.ConnEnd.TheVariants as ends
+use Rattle.conn_core.specs.reply_frames.Replying.{EndsAs}
+use Rattle.serve_turns.specs.connection_turns.Frames.{Answers, StopsFrame}
+use Rattle.serve_turns.specs.connection_turns.Passing.{CannotRead, FramesGo, FramesStop, StopsBy}
+use Rattle.serve_turns.specs.declared.connection_turns.state.ConnectionState.{ConnectionState}
+use Rattle.serve_turns.specs.event_book.History.{Course, Placed}
+use Rattle.serve_turns.proofs.connection_turns.Chains.{answers_none, answers_on, answers_one, frames_on}
 
--- an end behind further turns
-by_on : (xs ys : List Placed) (rest x y : List ℕ) (f g : ℕ) (ended : Bool) (why : Option ConnEnd) → AreWell xs → x ≡ answers_of xs
-    → TurnEndsBy ys rest y f g ended why → TurnEndsBy (xs ++ ys) rest (x ++ y) f g ended why
-by_on xs ys rest x y f g ended why well wrote (PeerClosed h) =
-    PeerClosed (record {
-      is = h.is;
-      ends = h.ends;
-      waits = h.waits;
-      well = well_on xs ys well h.well;
-      wrote_is = wrote_on x y xs ys wrote h.wrote_is;
-      calm = h.calm;
-    })
-by_on xs ys rest x y f g ended why well wrote (LinkFailed h) =
-    LinkFailed (record {
-      is = h.is;
-      rose = h.rose;
-      well = well_on xs ys well h.well;
-      lost = h.lost;
-      front_is = append_assoc x y h.lost ∙ wrote_on x (y ++ h.lost) xs ys wrote h.front_is;
-    })
-by_on xs ys rest x y f g ended why well wrote (ServerEnded h) =
-    ServerEnded (record {
-      end = h.end;
-      is = h.is;
-      before = xs ++ h.before;
-      last = h.last;
-      turns_are = ap (λ (l : List Placed). xs ++ l) h.turns_are ∙ sym (append_assoc xs h.before (h.last ∷ []));
-      well = well_on xs h.before well h.well;
-      said = h.said;
-      wrote_is = wrote_on x y xs ys wrote h.wrote_is;
-      calm = h.calm;
-    })
-by_on xs ys rest x y f g ended why well wrote (Unread h) =
-    Unread (record {
-      end = h.end;
-      is = h.is;
-      cause = h.cause;
-      well = well_on xs ys well h.well;
-      wrote_is = wrote_on x y xs ys wrote h.wrote_is;
-      calm = h.calm;
-    })
+module _ (z : ServerSettings) (h : Course) (k : ℕ) where
+  -- ---- an end behind further answers
 
-own_on : {A : Type 0} (u v w xs ys : List A) → v ≡ u ++ xs → w ≡ v ++ ys → w ≡ u ++ (xs ++ ys)
-own_on u v w xs ys h k = k ∙ ap (λ l. l ++ ys) h ∙ append_assoc u xs ys
+  abbrev By : ServerEnd → ℕ → (rest wrote said : List ℕ) → List Placed → (faults faults' : ℕ) → Bool → Option ConnEnd → Type 0
+  By = StopsBy z h k
 
-module _ {B : Type 0} where
-  pub goes_on : (u v w : View B Turn Told) (c d e : Conn) (s a b r q x y : List ℕ) → Goes u c s a v d r x → Goes v d r b w e q y
-      → Goes u c s (a ++ b) w e q (x ++ y)
-  goes_on u v w c d e s a b r q x y h k =
-      record {
-        turns = h.turns ++ k.turns;
-        messages = h.messages ++ k.messages;
-        own = own_on u.own v.own w.own h.turns k.turns h.own k.own;
-        chained = chained_on c d e h.turns k.turns h.chained k.chained;
-        framed = frames_on s a b h.messages k.messages r q h.framed k.framed;
-        asked = of_on h.messages k.messages h.turns k.turns h.asked k.asked;
-        well = well_on h.turns k.turns h.well k.well;
-        wrote_is = wrote_on x y h.turns k.turns h.wrote_is k.wrote_is;
-      }
+  by_on : (f : ServerEnd) (before : ℕ) (rest x y said : List ℕ) (last : List Placed) (p q : ℕ) (ended : Bool) (why : Option ConnEnd)
+      → By f before rest y said last p q ended why → By f before rest (x ++ y) (x ++ said) last p q ended why
+  by_on f before rest x y said last p q ended None b = record {
+    ends = b.ends;
+    waits = b.waits;
+    wrote_is = ap (λ l. x ++ l) b.wrote_is;
+    none_more = b.none_more;
+    calm = b.calm;
+  }
+  by_on f before rest x y said last p q ended (Some (ends.LinkFault count)) b = (
+    b.0,
+    record {
+      rose = b.1.rose;
+      lost = b.1.lost;
+      front_is = append_assoc x y b.1.lost ∙ ap (λ l. x ++ l) b.1.front_is;
+      none_more = b.1.none_more;
+    },
+  )
+  by_on f before rest x y said last p q ended (Some ends.Memory) b = record {
+    here = b.here;
+    wrote_is = ap (λ l. x ++ l) b.wrote_is;
+    calm = b.calm;
+  }
+  by_on f before rest x y said last p q ended (Some ends.Full) b = record {
+    frame = b.frame;
+    later = b.later;
+    here = b.here;
+    ends = b.ends;
+    wrote_is = ap (λ l. x ++ l) b.wrote_is;
+    calm = b.calm;
+  }
+  by_on f before rest x y said last p q ended (Some ends.BadFrame) (inl b) = inl (record {
+    refusal = b.refusal;
+    breaks = b.breaks;
+    wrote_is = ap (λ l. x ++ l) b.wrote_is;
+    none_more = b.none_more;
+    calm = b.calm;
+  })
+  by_on f before rest x y said last p q ended (Some ends.BadFrame) (inr b) = inr (record {
+    frame = b.frame;
+    later = b.later;
+    here = b.here;
+    ends = b.ends;
+    wrote_is = ap (λ l. x ++ l) b.wrote_is;
+    calm = b.calm;
+  })
+  by_on f before rest x y said last p q ended (Some (ends.OutsideWindow id)) b = record {
+    frame = b.frame;
+    later = b.later;
+    here = b.here;
+    ends = b.ends;
+    wrote_is = ap (λ l. x ++ l) b.wrote_is;
+    calm = b.calm;
+  }
+  by_on f before rest x y said last p q ended (Some ends.SecondNegotiate) b = record {
+    frame = b.frame;
+    later = b.later;
+    here = b.here;
+    ends = b.ends;
+    wrote_is = ap (λ l. x ++ l) b.wrote_is;
+    calm = b.calm;
+  }
+  by_on f before rest x y said last p q ended (Some ends.Unsealable) b = record {
+    frame = b.frame;
+    later = b.later;
+    here = b.here;
+    ends = b.ends;
+    wrote_is = ap (λ l. x ++ l) b.wrote_is;
+    calm = b.calm;
+  }
+  by_on f before rest x y said last p q ended (Some ends.Spent) b = record {
+    frame = b.frame;
+    later = b.later;
+    here = b.here;
+    ends = b.ends;
+    wrote_is = ap (λ l. x ++ l) b.wrote_is;
+    calm = b.calm;
+  }
+  by_on f before rest x y said last p q ended (Some (ends.Stopped count)) b = record {
+    frame = b.frame;
+    later = b.later;
+    here = b.here;
+    ends = b.ends;
+    wrote_is = ap (λ l. x ++ l) b.wrote_is;
+    calm = b.calm;
+  }
 
-  pub ended_on : (u v w : View B Turn Told) (c d e : Conn) (s a b r x y : List ℕ) (f g : ℕ) (ended : Bool) (why : Option ConnEnd)
-      → Goes u c s a v d r x → HasEnded v d r b w e y f g ended why → HasEnded u c s (a ++ b) w e (x ++ y) f g ended why
-  ended_on u v w c d e s a b r x y f g ended why h k =
-      record {
-        turns = h.turns ++ k.turns;
-        messages = h.messages ++ k.messages;
-        rest = k.rest;
-        own = own_on u.own v.own w.own h.turns k.turns h.own k.own;
-        chained = chained_on c d e h.turns k.turns h.chained k.chained;
-        framed = frames_on s a b h.messages k.messages r k.rest h.framed k.framed;
-        asked = of_on h.messages k.messages h.turns k.turns h.asked k.asked;
-        by = by_on h.turns k.turns k.rest x y f g ended why h.well h.wrote_is k.by;
-      }
+  -- ---- one run behind another
+
+  pub goes_on : (f : ServerEnd) (before : ℕ) (xs ys : List Placed) (s a b r q x y : List ℕ) (v w : ConnectionState)
+      (m : FramesGo z h k f before xs s a x r v) → FramesGo z h k m.behind v.setups ys r b y q w
+      → FramesGo z h k f before (xs ++ ys) s (a ++ b) (x ++ y) q w
+  goes_on f before xs ys s a b r q x y v w m n = record {
+    frames = m.frames ++ n.frames;
+    framed = frames_on s a b m.frames n.frames r q m.framed n.framed;
+    behind = n.behind;
+    seals = m.seals ++ n.seals;
+    answers = answers_on z h k f m.behind n.behind before v.setups w.setups m.frames n.frames xs ys x y m.seals n.seals m.answers n.answers;
+    shows = n.shows;
+    bound = n.bound;
+  }
+
+  pub stops_on : (f : ServerEnd) (before : ℕ) (xs ys : List Placed) (s a b r x y : List ℕ) (v : ConnectionState) (p q : ℕ) (ended : Bool)
+      (why : Option ConnEnd) (more : List Seal) (m : FramesGo z h k f before xs s a x r v)
+      → FramesStop z h k m.behind v.setups ys r b y p q ended why more
+      → FramesStop z h k f before (xs ++ ys) s (a ++ b) (x ++ y) p q ended why (m.seals ++ more)
+  stops_on f before xs ys s a b r x y v p q ended why more m n = record {
+    answered = xs ++ n.answered;
+    last = n.last;
+    turns_are = ap (λ (l : List Placed). xs ++ l) n.turns_are ∙ sym (append_assoc xs n.answered n.last);
+    frames = m.frames ++ n.frames;
+    rest = n.rest;
+    framed = frames_on s a b m.frames n.frames r n.rest m.framed n.framed;
+    said = x ++ n.said;
+    behind = n.behind;
+    setups = n.setups;
+    answers = answers_on z h k f m.behind n.behind before v.setups n.setups m.frames n.frames xs n.answered x n.said m.seals more m.answers
+        n.answers;
+    stops = by_on n.behind n.setups n.rest x y n.said n.last p q ended why n.stops;
+  }
 
   -- bytes came, and nothing was taken yet
-  pub came_goes : (v : View B Turn Told) (c : Conn) (s a : List ℕ) → Goes v c s a v c (s ++ a) []
-  came_goes v c s a =
-      record {
-        turns = [];
-        messages = [];
-        own = sym (append-nil v.own);
-        chained = refl;
-        framed = refl;
-        asked = tt;
-        well = tt;
-        wrote_is = refl;
-      }
+  pub came_goes : (f : ServerEnd) (s a : List ℕ) (v : ConnectionState) → ShowsEnd k z.guid v.conn f → f.counter ≤ last_counter
+      → FramesGo z h k f v.setups [] s a [] (s ++ a) v
+  came_goes f s a v shows bound = record {
+    frames = [];
+    framed = refl;
+    behind = f;
+    seals = [];
+    answers = answers_none z h k f v.setups;
+    shows = shows;
+    bound = bound;
+  }
 
-  -- a turn that was answered
-  pub turn_goes : (v w : View B Turn Told) (c : Conn) (s r m bytes : List ℕ) (what : What) (told : Told) → what ≡ Frame m
-      → front s ≡ Whole m r → told.answer ≡ Ok bytes → AddsTurn v c what told w → Goes v c s [] w told.conn r bytes
-  turn_goes v w c s r m bytes what told is whole well a =
-      let answered : a.turn.1.reply.answer ≡ Ok bytes = ap (λ (t : Told). t.answer) a.is_turn.told_is ∙ well in
-      record {
-        turns = a.turn ∷ [];
-        messages = m ∷ [];
-        own = a.own;
-        chained = (a.is_turn.conn, sym (ap (λ (t : Told). t.conn) a.is_turn.told_is));
-        framed = (r, ap front (append-nil s) ∙ whole, refl);
-        asked = (a.is_turn.asked ∙ is, tt);
-        well = ((bytes, answered), tt);
-        wrote_is = sym (append-nil (answer_bytes a.turn.1.reply.answer) ∙ ap answer_bytes answered);
-      }
+  -- a frame that was answered
+  pub frame_goes : (f : ServerEnd) (before : ℕ) (xs : List Placed) (s r m bytes : List ℕ) (w : ConnectionState) (behind : ServerEnd)
+      (seals : List Seal) → front s ≡ Whole m r → Answers z h k f before m xs bytes behind w.setups seals
+      → ShowsEnd k z.guid w.conn behind → behind.counter ≤ last_counter → FramesGo z h k f before xs s [] bytes r w
+  frame_goes f before xs s r m bytes w behind seals whole one shows bound = record {
+    frames = m ∷ [];
+    framed = (r, ap front (append-nil s) ∙ whole, refl);
+    behind = behind;
+    seals = seals;
+    answers = answers_one z h k f behind before w.setups m xs bytes seals one;
+    shows = shows;
+    bound = bound;
+  }
 
-  -- nothing was taken, and this is the end
-  ends_here : (v : View B Turn Told) (c : Conn) (s a : List ℕ) (f g : ℕ) (ended : Bool) (why : Option ConnEnd)
-      → TurnEndsBy [] (s ++ a) [] f g ended why → HasEnded v c s a v c [] f g ended why
-  ends_here v c s a f g ended why by =
-      record {
-        turns = [];
-        messages = [];
-        rest = s ++ a;
-        own = sym (append-nil v.own);
-        chained = refl;
-        framed = refl;
-        asked = tt;
-        by = by;
-      }
+  -- ---- nothing was taken, and this is the end
 
-  pub peer_closed : (v : View B Turn Told) (c : Conn) (s : List ℕ) (f g : ℕ) (ended : Bool) → front s ≡ Waits → ended ≡ true → g ≡ f
-      → HasEnded v c s [] v c [] f g ended None
-  peer_closed v c s f g ended waits end calm =
-      ends_here v c s [] f g ended None (PeerClosed (record {
-        is = refl;
+  ends_here : (f : ServerEnd) (before : ℕ) (s a : List ℕ) (p q : ℕ) (ended : Bool) (why : Option ConnEnd)
+      → By f before (s ++ a) [] [] [] p q ended why → FramesStop z h k f before [] s a [] p q ended why []
+  ends_here f before s a p q ended why by = record {
+    answered = [];
+    last = [];
+    turns_are = refl;
+    frames = [];
+    rest = s ++ a;
+    framed = refl;
+    said = [];
+    behind = f;
+    setups = before;
+    answers = answers_none z h k f before;
+    stops = by;
+  }
+
+  pub peer_closed : (f : ServerEnd) (before : ℕ) (s : List ℕ) (p q : ℕ) (ended : Bool) → front s ≡ Waits → ended ≡ true → q ≡ p
+      → FramesStop z h k f before [] s [] [] p q ended None []
+  peer_closed f before s p q ended waits end calm =
+      ends_here f before s [] p q ended None (record {
         ends = end;
         waits = ap front (append-nil s) ∙ waits;
-        well = tt;
         wrote_is = refl;
+        none_more = refl;
         calm = calm;
-      }))
+      })
 
-  pub link_failed : (v : View B Turn Told) (c : Conn) (s a : List ℕ) (f g : ℕ) (ended : Bool) (why : ConnEnd) → why ≡ LinkFault g
-      → Rose f g → HasEnded v c s a v c [] f g ended (Some why)
-  link_failed v c s a f g ended why is rose =
-      ends_here v c s a f g ended (Some why) (LinkFailed (record {
-        is = ap Some is;
-        rose = rose;
-        well = tt;
-        lost = [];
-        front_is = refl;
-      }))
+  pub link_failed : (f : ServerEnd) (before : ℕ) (s a : List ℕ) (p q : ℕ) (ended : Bool) (why : ConnEnd) → why ≡ ends.LinkFault q → Rose p q
+      → FramesStop z h k f before [] s a [] p q ended (Some why) []
+  link_failed f before s a p q ended why is rose =
+      subst (λ (e : ConnEnd). FramesStop z h k f before [] s a [] p q ended (Some e) []) (sym is)
+      (ends_here f before s a p q ended (Some (ends.LinkFault q))
+      (refl, record { rose = rose; lost = []; front_is = refl; none_more = refl }))
 
-  pub not_read : (v : View B Turn Told) (c : Conn) (s a : List ℕ) (f g : ℕ) (ended : Bool) (why : ConnEnd) → CannotRead (s ++ a) why
-      → g ≡ f → HasEnded v c s a v c [] f g ended (Some why)
-  not_read v c s a f g ended why cause calm =
-      ends_here v c s a f g ended (Some why) (Unread (record {
-        end = why;
-        is = refl;
-        cause = cause;
-        well = tt;
+  pub lacked : (f : ServerEnd) (before : ℕ) (s a : List ℕ) (p q : ℕ) (ended : Bool) → q ≡ p
+      → FramesStop z h k f before [] s a [] p q ended (Some ends.Memory) []
+  lacked f before s a p q ended calm =
+      ends_here f before s a p q ended (Some ends.Memory) (record { here = inl refl; wrote_is = refl; calm = calm })
+
+  pub not_read : (f : ServerEnd) (before : ℕ) (s a : List ℕ) (p q : ℕ) (ended : Bool) (why : ConnEnd) → CannotRead (s ++ a) why → q ≡ p
+      → FramesStop z h k f before [] s a [] p q ended (Some why) []
+  not_read f before s a p q ended why (inl (bad, (refusal, breaks))) calm =
+      subst (λ (e : ConnEnd). FramesStop z h k f before [] s a [] p q ended (Some e) []) (sym bad)
+      (ends_here f before s a p q ended (Some ends.BadFrame) (inl (record {
+        refusal = refusal;
+        breaks = breaks;
         wrote_is = refl;
+        none_more = refl;
         calm = calm;
-      }))
+      })))
+  not_read f before s a p q ended why (inr memory) calm =
+      subst (λ (e : ConnEnd). FramesStop z h k f before [] s a [] p q ended (Some e) []) (sym memory) (lacked f before s a p q ended calm)
 
-  -- a turn whose answer was not written whole
-  pub turn_lost : (v w : View B Turn Told) (c d : Conn) (s r wrote lost : List ℕ) (f g : ℕ) (ended : Bool) (why : ConnEnd)
-      → Goes v c s [] w d r (wrote ++ lost) → why ≡ LinkFault g → Rose f g → HasEnded v c s [] w d wrote f g ended (Some why)
-  turn_lost v w c d s r wrote lost f g ended why h is rose =
-      record {
-        turns = h.turns;
-        messages = h.messages;
-        rest = r;
-        own = h.own;
-        chained = h.chained;
-        framed = h.framed;
-        asked = h.asked;
-        by = LinkFailed (record {
-          is = ap Some is;
-          rose = rose;
-          well = h.well;
-          lost = lost;
-          front_is = h.wrote_is;
-        });
-      }
+  -- ---- a frame whose answer was not written whole
 
-  -- a turn in which the server ended the connection
-  pub turn_ended : (v w : View B Turn Told) (c : Conn) (s r m : List ℕ) (f : ℕ) (ended : Bool) (what : What) (told : Told)
-      (why : ConnEnd) → what ≡ Frame m → front s ≡ Whole m r → told.answer ≡ Err why → AddsTurn v c what told w
-      → HasEnded v c s [] w told.conn [] f f ended (Some why)
-  turn_ended v w c s r m f ended what told why is whole refused a =
-      let said : a.turn.1.reply.answer ≡ Err why = ap (λ (t : Told). t.answer) a.is_turn.told_is ∙ refused in
-      record {
-        turns = a.turn ∷ [];
-        messages = m ∷ [];
+  pub frame_lost : (f : ServerEnd) (before : ℕ) (xs : List Placed) (s r wrote lost : List ℕ) (w : ConnectionState) (p q : ℕ) (ended : Bool)
+      (why : ConnEnd) (m : FramesGo z h k f before xs s [] (wrote ++ lost) r w) → why ≡ ends.LinkFault q → Rose p q
+      → FramesStop z h k f before xs s [] wrote p q ended (Some why) m.seals
+  frame_lost f before xs s r wrote lost w p q ended why m is rose =
+      subst (λ (e : ConnEnd). FramesStop z h k f before xs s [] wrote p q ended (Some e) m.seals) (sym is) (record {
+        answered = xs;
+        last = [];
+        turns_are = sym (append-nil xs);
+        frames = m.frames;
         rest = r;
-        own = a.own;
-        chained = (a.is_turn.conn, sym (ap (λ (t : Told). t.conn) a.is_turn.told_is));
-        framed = (r, ap front (append-nil s) ∙ whole, refl);
-        asked = (a.is_turn.asked ∙ is, tt);
-        by = ServerEnded (record {
-          end = why;
-          is = refl;
-          before = [];
-          last = a.turn;
-          turns_are = refl;
-          well = tt;
-          said = said;
-          wrote_is = sym (append-nil (answer_bytes a.turn.1.reply.answer) ∙ ap answer_bytes said);
-          calm = refl;
-        });
-      }
+        framed = m.framed;
+        said = wrote ++ lost;
+        behind = m.behind;
+        setups = w.setups;
+        answers = m.answers;
+        stops = (refl, record { rose = rose; lost = lost; front_is = refl; none_more = refl });
+      })
+
+  -- ---- a frame that was not answered
+
+  pub frame_ends : (f : ServerEnd) (before : ℕ) (xs : List Placed) (s r m : List ℕ) (p : ℕ) (ended : Bool) (why : ConnEnd)
+      → front s ≡ Whole m r → StopsFrame z h k f before m xs why → FramesStop z h k f before xs s [] [] p p ended (Some why) []
+  frame_ends f before xs s r m p ended why whole stops = record {
+    answered = [];
+    last = xs;
+    turns_are = refl;
+    frames = [];
+    rest = s ++ [];
+    framed = refl;
+    said = [];
+    behind = f;
+    setups = before;
+    answers = answers_none z h k f before;
+    stops = by why stops;
+  }
+    where
+      here : Frames (s ++ []) (m ∷ []) r
+      here = (r, ap front (append-nil s) ∙ whole, refl)
+
+      -- no frame ends its connection so
+      no_fault : (count : ℕ) (o : Option world.ConnEnd) → EndsAs (ends.LinkFault count) o → ⊥
+      no_fault count None is = is
+      no_fault count (Some e) is = is
+
+      by : (e : ConnEnd) → StopsFrame z h k f before m xs e → By f before (s ++ []) [] [] xs p p ended (Some e)
+      by ends.Memory b = record { here = inr (m, r, here, b); wrote_is = refl; calm = refl }
+      by (ends.LinkFault count) b = absurd (no_fault count b.step.step.ends b.cause)
+      by ends.Full b = record { frame = m; later = r; here = here; ends = b; wrote_is = refl; calm = refl }
+      by ends.BadFrame b = inr (record { frame = m; later = r; here = here; ends = b; wrote_is = refl; calm = refl })
+      by (ends.OutsideWindow id) b = record { frame = m; later = r; here = here; ends = b; wrote_is = refl; calm = refl }
+      by ends.SecondNegotiate b = record { frame = m; later = r; here = here; ends = b; wrote_is = refl; calm = refl }
+      by ends.Unsealable b = record { frame = m; later = r; here = here; ends = b; wrote_is = refl; calm = refl }
+      by ends.Spent b = record { frame = m; later = r; here = here; ends = b; wrote_is = refl; calm = refl }
+      by (ends.Stopped count) b = record { frame = m; later = r; here = here; ends = b; wrote_is = refl; calm = refl }

@@ -1,103 +1,221 @@
 -- A connection that was served, from its parts.
-use Rattle.std.proofs.Common.{◌≡◌, ℕ, Bool, false, List, [], Option, Ok, Err, inl, inr, refl}
-use Rattle.serve_turns.specs.declared.shared_book.view.View.{View}
+use Rattle.std.proofs.Common.{◌≡◌, ℕ, Bool, true, false, List, [], ◌∷◌, ◌++◌, Option, Some, None, inl, inr, refl, sym, ap, ◌∙◌, append_assoc}
+use Rattle.std.proofs.Common.{subst, arith}
+use Rattle.std.proofs.lemmas.List.{append-nil}
+use Rattle.spec_world.specs.Ends.{first_server_end}
 use Rattle.conn_ends.specs.Shown.{ShowsEnd}
-use Rattle.conn_ends.specs.declared.conn.Conn.{Conn}
 use Rattle.conn_ends.specs.declared.end.ConnEnd.{ConnEnd}
 use Rattle.conn_ends.specs.declared.end.ConnEnd.TheVariants.{Memory}
-use Rattle.serve_turns.proofs.connection_turns.Linking.{passed_none}
-use Rattle.serve_turns.specs.connection_turns.Ending.{ended_by, ended_of}
-use Rattle.serve_turns.specs.connection_turns.Passing.{Stops}
-use Rattle.serve_turns.specs.connection_turns.Serving.{IsTurnIdle, OnLink, OnLinkMade, OnLinkRest, Serves}
-use Rattle.serve_turns.specs.connection_turns.Turns.{AddsTurn}
-use Rattle.serve_turns.specs.declared.connection_turns.turn.Told.{Told}
-use Rattle.serve_turns.specs.declared.connection_turns.turn.Turn.{Turn}
-use Rattle.serve_turns.specs.declared.connection_turns.turn.What.TheVariants.{Accept, End}
+use Rattle.conn_core.specs.frame_events.Dealing.{EventAnswer}
+use Rattle.serve_turns.specs.connection_turns.Ending.{ended_by, ended_of, has_lost, refusal_of}
+use Rattle.serve_turns.specs.connection_turns.Passing.{FramesStop, Stops}
+use Rattle.serve_turns.specs.connection_turns.Serving.{IsTurnIdle, LetsGo, LetsGoBy, OnLink, OnLinkFrames, OnLinkTaken, Serves}
+use Rattle.serve_turns.specs.connection_turns.Turning.{HearsOnce}
+use Rattle.serve_turns.specs.declared.connection_turns.state.ConnectionState.{ConnectionState}
+use Rattle.serve_turns.specs.declared.event_book.turn.Answer.{Answer}
+use Rattle.serve_turns.specs.declared.event_book.turn.Turn.{Turn}
+use Rattle.serve_turns.specs.declared.event_book.turn.What.TheVariants.{Accept, End}
 use Rattle.serve_turns.specs.declared.link_serving.ended.Ended.{Ended}
-use Rattle.spec_world.specs.Ends.{first_server_end}
+use Rattle.serve_turns.specs.declared.shared_book.view.View.{View}
+use Rattle.serve_turns.specs.event_book.History.{Placed}
+use Rattle.serve_turns.proofs.connection_turns.Chains.{meet_front}
+use Rattle.serve_turns.proofs.connection_turns.Linking.{passed_none}
 
 idle : (f : ℕ) → IsTurnIdle [] [] f f
 idle f = record { nothing_came = refl; nothing_written = refl; calm = refl }
 
 module _ {B K : Type 0} (told : Type 0) (given written : K → List ℕ) (faults : K → ℕ) (ended : K → Bool) where
-  pub rest_added : (v u w : View B Turn Told) (c d : Conn) (l n : K) (why : Option ConnEnd) (t : Told) (end : Ended)
-      → Stops told given written faults ended v c [] l u d n why → AddsTurn u d End t w → end ≡ ended_of why t.answer
-      → OnLinkRest told given written faults ended v c l end w n
-  rest_added v u w c d l n why t end stops last is =
+  -- its frames, and the turn in which it was lost
+  pub rest_served : (guid : List ℕ) (number : ℕ) (v u w : View B Turn Answer) (c : ConnectionState) (salt : List ℕ) (l n : K)
+      (why : Option ConnEnd) (last : EventAnswer) (end : Ended) → ShowsEnd number guid c.conn (first_server_end salt) → c.setups ≡ 0
+      → Stops told given written faults ended v c [] l u n why → HearsOnce u (End number) last w → end ≡ ended_of why last
+      → OnLinkTaken told given written faults ended guid number v l end w n
+  rest_served guid number v u w c salt l n why last end shows none stops hears is =
       record {
         came = stops.came;
         wrote = stops.wrote;
         passed = stops.passed;
         rest = record {
-          between = u;
-          d = d;
-          why = why;
-          frames = stops.ends;
-          told = t;
-          last = last;
-          end_is = is;
+          turns = stops.turns ++ hears.turn ∷ [];
+          own = hears.own ∙ ap (λ (l : List Placed). l ++ hears.turn ∷ []) stops.own
+              ∙ append_assoc v.own stops.turns (hears.turn ∷ []);
+          by = λ z h made server is_made taken meets.
+              let guided : ShowsEnd c.conn.id z.guid c.conn (first_server_end salt) =
+              subst (λ (g : List ℕ). ShowsEnd c.conn.id g c.conn (first_server_end salt)) (sym server)
+              (subst (λ (i : ℕ). ShowsEnd i guid c.conn (first_server_end salt)) (sym shows.number) shows) in
+              let frames = stops.stops z h (first_server_end salt) (meet_front z h stops.turns (hears.turn ∷ []) meets) guided
+              (omega arith) in
+              let own = subst (λ (i : ℕ). FramesStop z h i (first_server_end salt) 0 stops.turns [] stops.came stops.wrote (faults l)
+              (faults n) (ended n) why frames.0) shows.number
+              (subst (λ (i : ℕ). FramesStop z h c.conn.id (first_server_end salt) i stops.turns [] stops.came stops.wrote (faults l)
+              (faults n) (ended n) why frames.0) none frames.1) in (
+                frames.0,
+                inl (record {
+                  salt = salt;
+                  made = made;
+                  turns = stops.turns;
+                  lost = hears.turn;
+                  own_are = refl;
+                  is_made = is_made;
+                  taken_in = taken;
+                  is_lost = hears.is;
+                  why = why;
+                  frames = own;
+                  end_is = is ∙ ap (λ (o : EventAnswer). ended_of why o) (sym hears.replied);
+                }),
+              );
         };
       }
 
-  pub all_made : (v u w : View B Turn Told) (c : Conn) (l n : K) (t : Told) (bytes : List ℕ) (end : Ended) → AddsTurn v c Accept t u
-      → t.answer ≡ Ok bytes → OnLinkRest told given written faults ended u t.conn l end w n
-      → OnLinkMade told given written faults ended v c l end w n
-  all_made v u w c l n t bytes end first is h =
-      record {
-        came = h.came;
-        wrote = h.wrote;
-        passed = h.passed;
-        made = inl (record {
-          between = u;
-          told = t;
-          first = first;
-          bytes = bytes;
-          taken_in = is;
-          rest = h.rest;
-        });
-      }
-
-  pub one_made : (v w : View B Turn Told) (c : Conn) (l : K) (t : Told) (why : ConnEnd) (end : Ended) → AddsTurn v c Accept t w
-      → t.answer ≡ Err why → end ≡ ended_by why → OnLinkMade told given written faults ended v c l end w l
-  one_made v w c l t why end first is end_is =
+  -- there was no room for its state
+  pub rest_lacked : (guid : List ℕ) (number : ℕ) (v w : View B Turn Answer) (l : K) (last : EventAnswer) (end : Ended)
+      → HearsOnce v (End number) last w → end ≡ ended_of (Some Memory) last
+      → OnLinkTaken told given written faults ended guid number v l end w l
+  rest_lacked guid number v w l last end hears is =
       record {
         came = [];
         wrote = [];
         passed = passed_none told given written l;
-        made = inr (record {
-          told = t;
-          first = first;
-          why = why;
-          refused = is;
-          idle = idle (faults l);
-          end_is = end_is;
-        });
+        rest = record {
+          turns = hears.turn ∷ [];
+          own = hears.own;
+          by = λ z h made server is_made taken meets. (
+            [],
+            inr (inl (record {
+              made = made;
+              lost = hears.turn;
+              own_are = refl;
+              is_made = is_made;
+              taken_in = taken;
+              is_lost = hears.is;
+              idle = idle (faults l);
+              end_is = is;
+              none_sealed = refl;
+            })),
+          );
+        };
       }
 
-  pub made_served : (number : ℕ) (v w : View B Turn Told) (c : Conn) (guid salt : List ℕ) (l n : K) (end : Ended)
-      → ShowsEnd number guid c (first_server_end salt) → OnLinkMade told given written faults ended v c l end w n
-      → OnLink told given written faults ended number v l end w n
-  made_served number v w c guid salt l n end shows h =
+  -- either of both
+  pub rest_by : (guid : List ℕ) (number : ℕ) (v u w : View B Turn Answer) (l n : K) (why : Option ConnEnd) (last : EventAnswer)
+      (end : Ended) → OnLinkFrames told given written faults ended guid number v l why u n → HearsOnce u (End number) last w
+      → end ≡ ended_of why last → OnLinkTaken told given written faults ended guid number v l end w n
+  rest_by guid number v u w l n why last end (inl (c, salt, shows, none, stops)) hears is =
+      rest_served guid number v u w c salt l n why last end shows none stops hears is
+  rest_by guid number v u w l n why last end (inr (lacks, seat, link)) hears is =
+      subst (λ (x : K). OnLinkTaken told given written faults ended guid number v l end w x) (sym link)
+      (rest_lacked guid number v w l last end (subst (λ (x : View B Turn Answer). HearsOnce x (End number) last w) seat hears)
+      (is ∙ ap (λ (o : Option ConnEnd). ended_of o last) lacks))
+
+  -- behind the turn that took it in
+  pub taken_served : (guid : List ℕ) (number : ℕ) (v u w : View B Turn Answer) (l n : K) (first : EventAnswer) (end : Ended)
+      → HearsOnce v (Accept number) first u → refusal_of first ≡ None
+      → OnLinkTaken told given written faults ended guid number u l end w n
+      → OnLink told given written faults ended guid number v l end w n
+  taken_served guid number v u w l n first end hears taken h =
       record {
         came = h.came;
         wrote = h.wrote;
         passed = h.passed;
-        served = inr (c, guid, salt, shows, h.made);
+        served = record {
+          turns = hears.turn ∷ h.rest.turns;
+          own = h.rest.own ∙ ap (λ (l : List Placed). l ++ h.rest.turns) hears.own
+              ∙ append_assoc v.own (hears.turn ∷ []) h.rest.turns;
+          by = λ z p server meets. h.rest.by z p hears.turn server hears.is
+              (ap (λ (o : EventAnswer). refusal_of o) hears.replied ∙ taken) meets.1;
+        };
       }
 
-  pub none_served : (number : ℕ) (v : View B Turn Told) (l : K) (end : Ended) → end ≡ ended_by Memory
-      → OnLink told given written faults ended number v l end v l
-  none_served number v l end is =
+  -- it was not taken in
+  pub refused_served : (guid : List ℕ) (number : ℕ) (v w : View B Turn Answer) (l : K) (first : EventAnswer) (why : ConnEnd) (end : Ended)
+      → HearsOnce v (Accept number) first w → refusal_of first ≡ Some why → has_lost first ≡ false → end ≡ ended_by why
+      → OnLink told given written faults ended guid number v l end w l
+  refused_served guid number v w l first why end hears refused kept is =
       record {
         came = [];
         wrote = [];
         passed = passed_none told given written l;
-        served = inl (record { same = refl; idle = idle (faults l); end_is = is });
+        served = record {
+          turns = hears.turn ∷ [];
+          own = hears.own;
+          by = λ z p server meets. (
+            [],
+            inr (inr (inl (record {
+              made = hears.turn;
+              behind = [];
+              own_are = refl;
+              is_made = hears.is;
+              why = why;
+              refused = ap (λ (o : EventAnswer). refusal_of o) hears.replied ∙ refused;
+              none_behind = λ none. refl;
+              one_behind = λ lost. absurd (not_both (has_lost hears.turn.1.reply.reply) lost
+                  (ap (λ (o : EventAnswer). has_lost o) hears.replied ∙ kept));
+              idle = idle (faults l);
+              end_is = is;
+              none_sealed = refl;
+            }))),
+          );
+        };
       }
+    where
+      not_both : (b : Bool) → b ≡ true → b ≡ false → ⊥
+      not_both true p q = absurd cc
+      not_both false p q = absurd cc
 
-  pub serves_by : (number : ℕ) (v w : View B Turn Told) (l n : K) (end : Ended)
-      → OnLink told given written faults ended number v l end w n → Serves number v end w
-  serves_by number v w l n end h =
+  pub lost_served : (guid : List ℕ) (number : ℕ) (v u w : View B Turn Answer) (l : K) (first last : EventAnswer) (why : ConnEnd)
+      (end : Ended) → HearsOnce v (Accept number) first u → refusal_of first ≡ Some why → has_lost first ≡ true
+      → HearsOnce u (End number) last w → end ≡ ended_by why → OnLink told given written faults ended guid number v l end w l
+  lost_served guid number v u w l first last why end hears refused lost gone is =
+      record {
+        came = [];
+        wrote = [];
+        passed = passed_none told given written l;
+        served = record {
+          turns = hears.turn ∷ (gone.turn ∷ []);
+          own = gone.own ∙ ap (λ (l : List Placed). l ++ gone.turn ∷ []) hears.own
+              ∙ append_assoc v.own (hears.turn ∷ []) (gone.turn ∷ []);
+          by = λ z p server meets. (
+            [],
+            inr (inr (inl (record {
+              made = hears.turn;
+              behind = gone.turn ∷ [];
+              own_are = refl;
+              is_made = hears.is;
+              why = why;
+              refused = ap (λ (o : EventAnswer). refusal_of o) hears.replied ∙ refused;
+              none_behind = λ none. absurd (not_both (has_lost hears.turn.1.reply.reply)
+                  (ap (λ (o : EventAnswer). has_lost o) hears.replied ∙ lost) none);
+              one_behind = λ yes. (gone.turn, refl, gone.is);
+              idle = idle (faults l);
+              end_is = is;
+              none_sealed = refl;
+            }))),
+          );
+        };
+      }
+    where
+      not_both : (b : Bool) → b ≡ true → b ≡ false → ⊥
+      not_both true p q = absurd cc
+      not_both false p q = absurd cc
+
+  let_go_by : (guid : List ℕ) (number : ℕ) (v u w : View B Turn Answer) (l : K) (first : EventAnswer) (why : ConnEnd) (end : Ended)
+      (lost : Bool) → has_lost first ≡ lost → HearsOnce v (Accept number) first u → refusal_of first ≡ Some why → LetsGoBy lost number u w
+      → end ≡ ended_by why → OnLink told given written faults ended guid number v l end w l
+  let_go_by guid number v u w l first why end true lost hears refused goes is =
+      lost_served guid number v u w l first goes.0 why end hears refused lost goes.1 is
+  let_go_by guid number v u w l first why end false kept hears refused goes is =
+      refused_served guid number v w l first why end
+      (subst (λ (x : View B Turn Answer). HearsOnce v (Accept number) first x) (sym goes) hears) refused kept is
+
+  pub let_go : (guid : List ℕ) (number : ℕ) (v u w : View B Turn Answer) (l : K) (first : EventAnswer) (why : ConnEnd) (end : Ended)
+      → HearsOnce v (Accept number) first u → refusal_of first ≡ Some why → LetsGo number first u w → end ≡ ended_by why
+      → OnLink told given written faults ended guid number v l end w l
+  let_go guid number v u w l first why end hears refused goes is =
+      let_go_by guid number v u w l first why end (has_lost first) refl hears refused goes is
+
+  pub serves_by : (guid : List ℕ) (number : ℕ) (v w : View B Turn Answer) (l n : K) (end : Ended)
+      → OnLink told given written faults ended guid number v l end w n → Serves guid number v end w
+  serves_by guid number v w l n end h =
       record {
         came = h.came;
         wrote = h.wrote;
@@ -109,13 +227,25 @@ module _ {B K : Type 0} (told : Type 0) (given written : K → List ℕ) (faults
 
 module _ {B : Type 0} where
   -- a link that was let go with no turn
-  pub serves_none : (number : ℕ) (v : View B Turn Told) (end : Ended) → end ≡ ended_by Memory → Serves number v end v
-  serves_none number v end is =
+  pub serves_none : (guid : List ℕ) (number : ℕ) (v : View B Turn Answer) (end : Ended) → end ≡ ended_by Memory → Serves guid number v end v
+  serves_none guid number v end is =
       record {
         came = [];
         wrote = [];
         faults = 0;
         faults' = 0;
         ended = false;
-        served = inl (record { same = refl; idle = idle 0; end_is = is });
+        served = record {
+          turns = [];
+          own = sym (append-nil v.own);
+          by = λ z h server meets. (
+            [],
+            inr (inr (inr (record {
+              none = refl;
+              idle = idle 0;
+              end_is = is;
+              none_sealed = refl;
+            }))),
+          );
+        };
       }

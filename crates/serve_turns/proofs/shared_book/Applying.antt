@@ -12,13 +12,24 @@ use Rattle.serve_turns.specs.declared.shared_book.view.Slot.{Slot}
 use Rattle.serve_turns.specs.shared_book.Histories.{Replays, entry_of, entries_of, AllPrefix}
 use Rattle.serve_turns.specs.shared_book.Turns.{HasBook, noted, Kept, Sat, staged, holding, grown, noted_in, BookTaken}
 use Rattle.serve_turns.specs.shared_book.Turns.{front_advanced, turn_passed, Works}
-use Rattle.serve_turns.specs.shared_book.Seats.{is_opened, Applied}
+use Rattle.serve_turns.specs.shared_book.Seats.{is_opened, Applied, EndsWithOwn}
 use Rattle.serve_turns.proofs.shared_book.Histories.{entries_of-mine, Replays-append}
 use Rattle.serve_turns.proofs.shared_book.Turning.{advances, passes}
 
 pub opened_by : {B : Type 0} (x : Perhaps B) → is_opened x ≡ true → (o : B) × (x ≡ Some o)
 opened_by (Some o) e = (o, refl)
 opened_by None e = absurd (cc e)
+
+abbrev last_or : {X : Type 0} → X → List X → X
+last_or d [] = d
+last_or d (x ∷ xs) = last_or x xs
+
+last_is : {X : Type 0} (d : X) (xs : List X) (x : X) → last_or d (xs ++ x ∷ []) ≡ x
+last_is d [] x = refl
+last_is d (y ∷ ys) x = last_is y ys x
+
+same_last : {X : Type 0} (xs ys : List X) (x y : X) → xs ++ x ∷ [] ≡ ys ++ y ∷ [] → x ≡ y
+same_last xs ys x y e = sym (last_is x xs x) ∙ ap (λ l. last_or x l) e ∙ last_is x ys y
 
 module _ {B E R : Type 0} (steps : B → E → R → B → Type 0) where
   -- A seat that had the view v was called, has the whole history, and the book has taken its step.
@@ -119,3 +130,12 @@ module _ {B E R : Type 0} (steps : B → E → R → B → Type 0) where
         same_number = refl;
         same_kept = refl;
       }
+
+  -- what it knows ends with this event
+  pub ends_with : (v : View B E R) (event : E) (reply : R) (place : ℕ) (w : View B E R) → Applied steps v event reply place w → EndsWithOwn w
+  ends_with v event reply place w a = λ before last is.
+      let same : (place, entry_of v.number event reply) ≡ last = same_last v.own before (place, entry_of v.number event reply) last
+      (sym a.own ∙ is) in (
+        a.own_are ∙ ap (λ n. entries_of n 0 w.history) (sym a.same_number),
+        a.long ∙ ap (λ (x : ℕ × Entry E R). x.0 + 1) same,
+      )

@@ -1,6 +1,7 @@
 -- Histories that grow by one entry.
 use Rattle.std.proofs.Common.{◌≡◌, ◌≢◌, ℕ, suc, ◌+◌, ◌==◌, List, [], ◌∷◌, ◌++◌, length, refl, ap, sym, ◌∙◌, subst}
-use Rattle.std.proofs.Common.{arith, append_assoc, append-nil, eq-eqb, ne_eqb}
+use Rattle.std.proofs.Common.{arith, append_assoc, append-nil, eq-eqb, ne_eqb, Some, Bool, true, false, zero}
+use Rattle.std.specs.Prelude.{slice_get}
 use mathlib.Core.List.{IsPrefix}
 use Rattle.serve_turns.specs.declared.shared_book.view.Entry.{Entry}
 use Rattle.serve_turns.specs.shared_book.Histories.{Replays, entry_if, entries_of, AllPrefix}
@@ -50,6 +51,27 @@ module _ {E R : Type 0} where
       ∙ ap (λ b. entries_of n 0 xs ++ (entry_if b (0 + length xs) e ++ [])) (eq-eqb e.seat n mine)
       ∙ ap (λ (j : ℕ). entries_of n 0 xs ++ (j, e) ∷ []) place
 
+  -- a history that has an entry of the number has entries of it
+  pub entry_there : (n k : ℕ) (log : List (Entry E R)) (place : ℕ) (e : Entry E R) → slice_get log place ≡ Some e → e.seat ≡ n
+      → entries_of n k log ≡ [] → ⊥
+  entry_there n k [] place e here is none = absurd (cc here)
+  entry_there n k (x ∷ xs) zero e here is none =
+      let same : x ≡ e = one_entry x e here in
+      let mine : (x.seat == n) ≡ true = eq-eqb x.seat n (ap (λ (y : Entry E R). y.seat) same ∙ is) in
+      not_empty (k, x) (entries_of n (k + 1) xs) (sym (ap (λ b. entry_if b k x ++ entries_of n (k + 1) xs) mine) ∙ none)
+    where
+      one_entry : (x y : Entry E R) → Some x ≡ Some y → x ≡ y
+      one_entry x y q = cc
+
+      not_empty : (y : ℕ × Entry E R) (ys : List (ℕ × Entry E R)) → y ∷ ys ≡ [] → ⊥
+      not_empty y ys q = absurd (cc q)
+  entry_there n k (x ∷ xs) (suc place) e here is none =
+      entry_there n (k + 1) xs place e here is (rest (x.seat == n) (entries_of n (k + 1) xs) none)
+    where
+      rest : (b : Bool) (ys : List (ℕ × Entry E R)) → entry_if b k x ++ ys ≡ [] → ys ≡ []
+      rest true ys q = absurd (cc q)
+      rest false ys q = q
+
 module _ {B E R : Type 0} (steps : B → E → R → B → Type 0) where
   pub Replays-append : (from mid to : B) (es : List (Entry E R)) (e : Entry E R) → Replays steps from es mid
       → steps mid e.event e.reply to → Replays steps from (es ++ e ∷ []) to
@@ -57,3 +79,9 @@ module _ {B E R : Type 0} (steps : B → E → R → B → Type 0) where
       (to, subst (λ z. steps z e.event e.reply to) (sym before) one, refl)
   Replays-append from mid to (x ∷ es) e before one =
       (before.0, before.1, Replays-append before.0 mid to es e before.2 one)
+
+  -- a front of a history leads somewhere
+  pub Replays-front : (from to : B) (xs ys : List (Entry E R)) → Replays steps from (xs ++ ys) to → (mid : B) × Replays steps from xs mid
+  Replays-front from to [] ys all = (from, refl)
+  Replays-front from to (x ∷ xs) ys all =
+      let rest = Replays-front all.0 to xs ys all.2 in (rest.0, (all.0, all.1, rest.1))

@@ -16,14 +16,16 @@ use Rattle.serve_turns.specs.declared.shared_book.view.Stage.TheVariants.{Idle, 
 use Rattle.serve_turns.specs.declared.shared_book.view.View.{View}
 use Rattle.serve_turns.specs.declared.shared_book.view.Slot.{Slot}
 use Rattle.serve_turns.specs.shared_book.Histories.{Replays, entry_of}
-use Rattle.serve_turns.specs.shared_book.Turns.{InTurn, HasWhole, HasBook, Knows, AtHome, SeatWith, HoldsTicket, HadNumber, Kept}
+use Rattle.serve_turns.specs.shared_book.Numbers.{IsOneOf, held_numbers}
+use Rattle.serve_turns.specs.shared_book.Turns.{InTurn, HasWhole, HasBook, Knows, AtHome, SeatWith, HoldsTicket, HoldsNumber, Kept}
 use Rattle.serve_turns.specs.shared_book.Turns.{ticket_of, held_ticket, called_if, called_by, Sat, placed, staged, holding, grown}
 use Rattle.serve_turns.specs.shared_book.Turns.{noted_in, drawn_if, ticket_drawn, turn_looked_for, book_taken, front_advanced}
 use Rattle.serve_turns.specs.shared_book.Turns.{turn_passed}
 use Rattle.serve_turns.proofs.shared_book.Histories.{IsPrefix-self, IsPrefix-append, AllPrefix-append, entries_of-other}
 use Rattle.serve_turns.proofs.shared_book.Histories.{entries_of-mine, Replays-append}
+use Rattle.serve_turns.proofs.shared_book.Numbers.{HaveAll-grown, drawn_apart, drawn_held, ended_held, own_apart, own_seated}
 use Rattle.serve_turns.proofs.shared_book.Views.{point, point-here, point-else, stages_apart, has_out, has_advanced, not_both}
-use Rattle.serve_turns.proofs.shared_book.Views.{called_by-held, at_here, seats_stay, some_stays, home_stays, unmoved}
+use Rattle.serve_turns.proofs.shared_book.Views.{called_by-held, at_here, seats_stay, some_stays, made_stays, home_stays, unmoved}
 
 -- another seat draws a ticket
 turn_grows : (ticket ticket' serving : ℕ) (owner owner' : ℕ → ℕ) (j : ℕ) (st : Stage) → ticket ≤ ticket'
@@ -126,6 +128,10 @@ module _ {B E R : Type 0} (steps : B → E → R → B → Type 0) (opened : B) 
     keeps = k.keeps;
     mine = k.mine;
     unnumbered = k.unnumbered;
+    drawn = k.drawn;
+    ended = k.ended;
+    held = k.held;
+    apart = k.apart;
   }
 
   pub draws : (slots id old new : ℕ) (me : M) → me.0.stage ≡ Idle → new ≡ old + 1 → Allows Rule slots id me 0
@@ -172,6 +178,10 @@ module _ {B E R : Type 0} (steps : B → E → R → B → Type 0) (opened : B) 
                 keeps = k.keeps;
                 mine = k.mine;
                 unnumbered = k.unnumbered;
+                drawn = k.drawn;
+                ended = k.ended;
+                held = k.held;
+                apart = k.apart;
               }
               (λ j d _ e. knows_drawn r.ticket new r.serving r.seats r.log r.owner owner' r.seat_of j d (omega arith)
               same (r.each_seat j d e));
@@ -186,7 +196,9 @@ module _ {B E R : Type 0} (steps : B → E → R → B → Type 0) (opened : B) 
               subst (λ j. SeatWith (HoldsTicket t) (set s.views id w) j) (sym (same t below))
               (some_stays (HoldsTicket t) s.views id (r.owner t) me.0 w at (λ h. absurd (cc (no_ticket, h)))
               (r.all_held t le below)));
-          all_seated = λ m lt. some_stays (HadNumber m) s.views id (r.seat_of m) me.0 w at (λ h. h) (r.all_seated m lt);
+          all_seated = λ m lt. some_stays (HoldsNumber m) s.views id (r.seat_of m) me.0 w at (λ h. h) (r.all_seated m lt);
+          maker = r.maker;
+          all_made = made_stays r.seats r.maker r.seat_of s.views id me.0 w at (λ n p h. h) r.all_made;
           none_later = r.none_later;
         },
         subst (λ b. (w, me.1) ≡ drawn_if b old me) (sym (eq-eqb n old hit)) refl,
@@ -197,7 +209,7 @@ module _ {B E R : Type 0} (steps : B → E → R → B → Type 0) (opened : B) 
         tt,
         subst (λ b. Rule (stepped s 0 (either b new n) id me.1 me.0 keeps)) (sym (ne_eqb n old miss))
             (unmoved steps opened s r 0 id me.1 me.0 me.0 at k (home_stays r.book r.front r.serving (r.owner r.serving)
-            s.homes s.views id me.0 me.0 at not_out r.at_home) (λ t h. h) (λ m h. h)),
+            s.homes s.views id me.0 me.0 at not_out r.at_home) (λ t h. h) (λ m h. h) (λ n p h. h)),
         subst (λ b. me ≡ drawn_if b old me) (sym (ne_eqb n old miss)) refl,
       ))
 
@@ -221,9 +233,13 @@ module _ {B E R : Type 0} (steps : B → E → R → B → Type 0) (opened : B) 
               keeps = k.keeps;
               mine = k.mine;
               unnumbered = k.unnumbered;
+              drawn = k.drawn;
+              ended = k.ended;
+              held = k.held;
+              apart = k.apart;
             }
             (home_stays r.book r.front r.serving (r.owner r.serving) s.homes s.views id me.0 w at (ap has_out is) r.at_home)
-            (λ x h. called_by-held n me.0.stage ∙ h) (λ m h. h),
+            (λ x h. called_by-held n me.0.stage ∙ h) (λ m h. h) (λ n p h. h),
         refl,
       )
 
@@ -249,6 +265,10 @@ module _ {B E R : Type 0} (steps : B → E → R → B → Type 0) (opened : B) 
         keeps = k.keeps;
         mine = k.mine;
         unnumbered = k.unnumbered;
+        drawn = k.drawn;
+        ended = k.ended;
+        held = k.held;
+        apart = k.apart;
       } in
       ⊎_elim
       (λ home. let slot : D = home.1.0 in let bound = home.0 in let at_serving = kt.1 in (
@@ -280,7 +300,9 @@ module _ {B E R : Type 0} (steps : B → E → R → B → Type 0) (opened : B) 
                   (λ j v _ e. r.each_seat j v e);
               all_held = λ x le lt. some_stays (HoldsTicket x) s.views id (r.owner x) me.0 w at (λ h. ap Some ticket_is
                   ∙ (sym (ap held_ticket is) ∙ h)) (r.all_held x le lt);
-              all_seated = λ m lt. some_stays (HadNumber m) s.views id (r.seat_of m) me.0 w at (λ h. h) (r.all_seated m lt);
+              all_seated = λ m lt. some_stays (HoldsNumber m) s.views id (r.seat_of m) me.0 w at (λ h. h) (r.all_seated m lt);
+              maker = r.maker;
+              all_made = made_stays r.seats r.maker r.seat_of s.views id me.0 w at (λ n p h. h) r.all_made;
               none_later = r.none_later;
             },
         record {
@@ -317,27 +339,37 @@ module _ {B E R : Type 0} (steps : B → E → R → B → Type 0) (opened : B) 
     keeps = k.keeps;
     mine = k.mine;
     unnumbered = k.unnumbered;
+    drawn = k.drawn;
+    ended = k.ended;
+    held = k.held;
+    apart = k.apart;
   }
 
   -- what a seat knows while another adds its entry
   knows_grown : (ticket serving seats : ℕ) (log : List (Entry E R)) (e : Entry E R) (owner seat_of : ℕ → ℕ) (id j : ℕ)
       (v : W) → owner serving ≡ id → j ≢ id → seat_of e.seat ≡ id
       → Knows opened ticket serving seats log owner seat_of j v → Knows opened ticket serving seats (log ++ e ∷ []) owner seat_of j v
-  knows_grown ticket serving seats log e owner seat_of id j v mine apart writer k = record {
-    opens = k.opens;
-    in_turn = k.in_turn;
-    whole = whole_else ticket serving id owner j (log ++ e ∷ []) v.history v.stage mine apart k.in_turn;
-    seen = let x = k.seen in omega (arith, length-append log (e ∷ []));
-    begins = IsPrefix-append v.history log (e ∷ []) k.begins;
-    keeps = AllPrefix-append v.kept log (e ∷ []) k.keeps;
-    mine = λ n. let m = k.mine n in (
-      m.0,
-      m.1,
-      m.2 ∙ sym (entries_of-other v.number log e
-          (λ same. apart (sym m.0 ∙ ap seat_of (sym same) ∙ writer))),
-    );
-    unnumbered = k.unnumbered;
-  }
+  knows_grown ticket serving seats log e owner seat_of id j v mine apart writer k =
+      let not_its : (n : ℕ) → IsOneOf n (held_numbers v) → e.seat ≢ n =
+      λ n h same. apart (sym (k.held n h).0 ∙ ap seat_of (sym same) ∙ writer) in record {
+        opens = k.opens;
+        in_turn = k.in_turn;
+        whole = whole_else ticket serving id owner j (log ++ e ∷ []) v.history v.stage mine apart k.in_turn;
+        seen = let x = k.seen in omega (arith, length-append log (e ∷ []));
+        begins = IsPrefix-append v.history log (e ∷ []) k.begins;
+        keeps = AllPrefix-append v.kept log (e ∷ []) k.keeps;
+        mine = λ n. let m = k.mine n in (
+          m.0,
+          m.1,
+          m.2 ∙ sym (entries_of-other v.number log e
+              (λ same. apart (sym m.0 ∙ ap seat_of (sym same) ∙ writer))),
+        );
+        unnumbered = k.unnumbered;
+        drawn = λ n d. entries_of-other n log e (not_its n (drawn_held v n d)) ∙ k.drawn n d;
+        ended = HaveAll-grown log e v.ended (λ n h. not_its n (ended_held v n h)) k.ended;
+        held = k.held;
+        apart = k.apart;
+      }
 
   pub advances : (slots id t new : ℕ) (me : M) (o b b' : B) (event : E) (reply : R) → me.0.stage ≡ Holding t → new
       ≡ me.0.front + 1 → me.0.front ≡ length me.0.history → me.0.numbered ≡ true
@@ -394,10 +426,16 @@ module _ {B E R : Type 0} (steps : B → E → R → B → Type 0) (opened : B) 
             keeps = AllPrefix-append me.0.kept r.log (e ∷ []) k.keeps;
             mine = λ _. (m.0, m.1, (λ i. m.2 i ++ placed (same_len i) (notes i)) ∙ sym (entries_of-mine me.0.number r.log e refl));
             unnumbered = λ e. absurd (not_both me.0.numbered numbered e);
+            drawn = λ n d. entries_of-other n r.log e (drawn_apart me.0 n me.0.number k.apart d (own_seated me.0 numbered)) ∙ k.drawn n d;
+            ended = HaveAll-grown r.log e me.0.ended (λ n h. own_apart me.0 n numbered k.apart h) k.ended;
+            held = k.held;
+            apart = k.apart;
           } (λ j v apart x. knows_grown r.ticket r.serving r.seats r.log e r.owner r.seat_of id j v mine apart m.0 (r.each_seat j v x));
           all_held = λ x le lt. some_stays (HoldsTicket x) s.views id (r.owner x) me.0 w at (λ h. ap Some ticket_is
               ∙ (sym (ap held_ticket is) ∙ h)) (r.all_held x le lt);
-          all_seated = λ n lt. some_stays (HadNumber n) s.views id (r.seat_of n) me.0 w at (λ h. h) (r.all_seated n lt);
+          all_seated = λ n lt. some_stays (HoldsNumber n) s.views id (r.seat_of n) me.0 w at (λ h. h) (r.all_seated n lt);
+          maker = r.maker;
+          all_made = made_stays r.seats r.maker r.seat_of s.views id me.0 w at (λ n p h. h) r.all_made;
           none_later = λ n le. let below = m.1 in entries_of-other n r.log e (λ same. omega arith) ∙ r.none_later n le;
         },
         refl,
@@ -446,13 +484,19 @@ module _ {B E R : Type 0} (steps : B → E → R → B → Type 0) (opened : B) 
                 keeps = k.keeps;
                 mine = k.mine;
                 unnumbered = k.unnumbered;
+                drawn = k.drawn;
+                ended = k.ended;
+                held = k.held;
+                apart = k.apart;
               }
               (λ j v apart x. subst (λ z. Knows opened r.ticket z r.seats r.log r.owner r.seat_of j v) (sym next)
               (knows_passed r.ticket r.serving r.seats r.log r.owner r.seat_of id j v mine apart
               (r.each_seat j v x)));
           all_held = λ x le lt. some_stays (HoldsTicket x) s.views id (r.owner x) me.0 w at
               (λ h. let same : t ≡ x = cc (ap held_ticket is, h) in absurd (omega arith)) (r.all_held x (omega arith) lt);
-          all_seated = λ n lt. some_stays (HadNumber n) s.views id (r.seat_of n) me.0 w at (λ h. h) (r.all_seated n lt);
+          all_seated = λ n lt. some_stays (HoldsNumber n) s.views id (r.seat_of n) me.0 w at (λ h. h) (r.all_seated n lt);
+          maker = r.maker;
+          all_made = made_stays r.seats r.maker r.seat_of s.views id me.0 w at (λ n p h. h) r.all_made;
           none_later = r.none_later;
         },
         ap (λ (c : List (ℕ × D)). (w, rest c)) out,

@@ -13,7 +13,8 @@ use Rattle.serve_turns.specs.declared.shared_book.view.Stage.{Stage}
 use Rattle.serve_turns.specs.declared.shared_book.view.Stage.TheVariants.{Idle, Waiting, Called, Holding, Advanced}
 use Rattle.serve_turns.specs.declared.shared_book.view.View.{View}
 use Rattle.serve_turns.specs.declared.shared_book.view.Slot.{Slot}
-use Rattle.serve_turns.specs.shared_book.Turns.{Knows, AtHome, SeatWith, HoldsTicket, HadNumber, Kept, held_ticket, called_if, called_by}
+use Rattle.serve_turns.specs.shared_book.Turns.{AllMade, Knows, AtHome, SeatWith, HasMade, HoldsTicket, HoldsNumber, Kept, held_ticket}
+use Rattle.serve_turns.specs.shared_book.Turns.{called_if, called_by}
 
 -- a function changed at one number
 abbrev pub point : ℕ → ℕ → (ℕ → ℕ) → ℕ → ℕ
@@ -78,6 +79,14 @@ module _ {B E R : Type 0} where
       (w, subst (λ i. get_elem? (set views me w) i ≡ some w) (sym same) (at_here views me v w at), goes_on (subst P is_v h.2)))
       (λ apart. (h.0, set_else views me j w apart ∙ h.1, h.2))
 
+  -- what was made is still known of its makers
+  pub made_stays : (seats : ℕ) (maker seat_of : ℕ → ℕ) (views : List (View B E R)) (me : ℕ) (v w : View B E R)
+      → get_elem? views me ≡ some v → ((n p : ℕ) → HasMade n p v → HasMade n p w) → AllMade seats maker seat_of views
+      → AllMade seats maker seat_of (set views me w)
+  made_stays seats maker seat_of views me v w at goes_on all = λ n low below.
+      let m = all n low below in
+      (m.0, some_stays (HasMade n (maker n)) views me (seat_of (maker n)) v w at (goes_on n (maker n)) m.1)
+
   -- the view of a seat that has not the book is changed
   pub home_stays : (book : B) (front serving holder : ℕ) (homes : List (Option (Slot B E R)))
       (views : List (View B E R)) (me : ℕ) (v w : View B E R) → get_elem? views me ≡ some v → has_out v.stage ≡ false
@@ -105,9 +114,9 @@ module _ {B E R : Type 0} (steps : B → E → R → B → Type 0) (opened : B) 
   pub with_views : (s : St) (r : Rule s) (views : List (View B E R)) → AtHome r.book r.front r.serving (r.owner r.serving) s.homes views
       → ((j : ℕ) (v : View B E R) → get_elem? views j ≡ some v → Knows opened r.ticket r.serving r.seats r.log r.owner r.seat_of j v)
       → ((t : ℕ) → r.serving ≤ t → t < r.ticket → SeatWith (HoldsTicket t) views (r.owner t))
-      → ((n : ℕ) → n < r.seats → SeatWith (HadNumber n) views (r.seat_of n))
+      → ((n : ℕ) → n < r.seats → SeatWith (HoldsNumber n) views (r.seat_of n)) → AllMade r.seats r.maker r.seat_of views
       → Rule record { words = s.words; homes = s.homes; views = views }
-  with_views s r views home each held seated = record {
+  with_views s r views home each held seated made = record {
     ticket = r.ticket;
     serving = r.serving;
     front = r.front;
@@ -125,6 +134,8 @@ module _ {B E R : Type 0} (steps : B → E → R → B → Type 0) (opened : B) 
     each_seat = each;
     all_held = held;
     all_seated = seated;
+    maker = r.maker;
+    all_made = made;
     none_later = r.none_later;
   }
 
@@ -132,11 +143,12 @@ module _ {B E R : Type 0} (steps : B → E → R → B → Type 0) (opened : B) 
   pub unmoved : (s : St) (r : Rule s) (i id : ℕ) (cs : List (ℕ × Slot B E R)) (v w : View B E R) → get_elem? s.views id ≡ some v
       → Knows opened r.ticket r.serving r.seats r.log r.owner r.seat_of id w
       → AtHome r.book r.front r.serving (r.owner r.serving) s.homes (set s.views id w)
-      → ((t : ℕ) → HoldsTicket t v → HoldsTicket t w) → ((n : ℕ) → HadNumber n v → HadNumber n w)
-      → Rule (stepped s i (get_or s.words i 0) id cs w keeps)
-  unmoved s r i id cs v w at mine home held seated =
+      → ((t : ℕ) → HoldsTicket t v → HoldsTicket t w) → ((n : ℕ) → HoldsNumber n v → HoldsNumber n w)
+      → ((n p : ℕ) → HasMade n p v → HasMade n p w) → Rule (stepped s i (get_or s.words i 0) id cs w keeps)
+  unmoved s r i id cs v w at mine home held seated made =
       subst (λ (ws : List ℕ). Rule record { words = ws; homes = s.homes; views = set s.views id w }) (sym (set-get_or s.words i 0))
       (with_views s r (set s.views id w) home
       (seats_stay (Knows opened r.ticket r.serving r.seats r.log r.owner r.seat_of) s.views id w mine (λ j d _ e. r.each_seat j d e))
       (λ t le lt. some_stays (HoldsTicket t) s.views id (r.owner t) v w at (held t) (r.all_held t le lt))
-      (λ n lt. some_stays (HadNumber n) s.views id (r.seat_of n) v w at (seated n) (r.all_seated n lt)))
+      (λ n lt. some_stays (HoldsNumber n) s.views id (r.seat_of n) v w at (seated n) (r.all_seated n lt))
+      (made_stays r.seats r.maker r.seat_of s.views id v w at made r.all_made))

@@ -1,5 +1,7 @@
 -- How a served connection's end is told.
-use Rattle.std.specs.Prelude.{Bool, true, false, List, ℕ, Option, None, Some, Result, Ok, Err}
+use Rattle.std.specs.Prelude.{◌==◌, if◌then◌else◌, Bool, true, false, Option, None, Some, Ok, Err}
+use Rattle.conn_core.specs.declared.served.error.ServeError.TheVariants as errors
+use Rattle.conn_core.specs.frame_events.Dealing.{EventAnswer}
 use Rattle.conn_ends.specs.declared.end.ConnEnd.{ConnEnd}
 use Rattle.conn_ends.specs.declared.end.ConnEnd.TheVariants as ends
 use Rattle.serve_turns.specs.declared.link_serving.ended.ConnEnd as told
@@ -21,10 +23,34 @@ told_end ends.Memory = tells.Memory
 abbrev pub ended_by : ConnEnd → Ended
 ended_by why = By (told_end why)
 
+-- Why a connection is not taken in behind its first turn. A status that isn't a success says that the server has as many as it takes.
+abbrev pub refusal_of : EventAnswer → Option ConnEnd
+refusal_of (Some (Ok r)) = if r.status == 0 then None else Some ends.Full
+refusal_of (Some (Err errors.Memory)) = Some ends.Memory
+refusal_of (Some (Err (errors.Unanswered acted))) = Some ends.Memory
+refusal_of (Some (Err (errors.Stopped count))) = Some (ends.Stopped count)
+refusal_of None = Some ends.Memory
+
+-- an event that was carried out, whose reply is lost
+abbrev pub has_lost : EventAnswer → Bool
+has_lost (Some (Err (errors.Unanswered acted))) = true
+has_lost reply = false
+
+-- the last turn finds no memory, or a server that stopped
+abbrev pub failure_of : EventAnswer → Option ConnEnd
+failure_of (Some (Ok r)) = None
+failure_of (Some (Err errors.Memory)) = Some ends.Memory
+failure_of (Some (Err (errors.Unanswered acted))) = Some ends.Memory
+failure_of (Some (Err (errors.Stopped count))) = Some (ends.Stopped count)
+failure_of None = Some ends.Memory
+
+abbrev pub closed_by : Option ConnEnd → Ended
+closed_by None = Closed
+closed_by (Some why) = ended_by why
+
 -- behind the last turn: where the peer ended it, that turn may have failed
-abbrev pub ended_of : Option ConnEnd → Result (List ℕ) ConnEnd → Ended
-ended_of None (Ok bytes) = Closed
-ended_of None (Err why) = ended_by why
+abbrev pub ended_of : Option ConnEnd → EventAnswer → Ended
+ended_of None last = closed_by (failure_of last)
 ended_of (Some why) last = ended_by why
 
 -- the server takes nothing more

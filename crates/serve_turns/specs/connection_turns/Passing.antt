@@ -1,17 +1,21 @@
--- The frames of one connection: what came, which turns were taken for it, what was written, and how that ended.
-use Rattle.std.specs.Prelude.{◌≡◌, ℕ, Bool, true, List, [], ◌∷◌, ◌++◌, Option, None, Some, Result, Ok, Err, ◌⊎◌}
-use Rattle.serve_turns.specs.declared.shared_book.view.View.{View}
+-- The link of one connection: what came, which turns were taken for it, what was written, and how that ended.
+use Rattle.std.specs.Prelude.{◌≡◌, ◌≤◌, ℕ, Bool, true, List, [], ◌∷◌, ◌++◌, Option, None, Some, Result, Ok, Err, ◌⊎◌}
 use Rattle.base_outside.specs.streams.Faults.{Rose}
+use Rattle.spec_crypto.specs.sessions.Nonces.{last_counter}
 use Rattle.spec_wire.specs.messages.Frames.{Waits, Whole, Breaks, Frames, front}
 use Rattle.spec_wire.specs.declared.messages.refusal.FrameError.{FrameError}
-use Rattle.conn_ends.specs.declared.conn.Conn.{Conn}
+use Rattle.spec_world.specs.Answering.{Seal}
+use Rattle.spec_world.specs.Ends.{ServerEnd}
+use Rattle.spec_world.specs.Settings.{ServerSettings}
+use Rattle.conn_ends.specs.Shown.{ShowsEnd}
 use Rattle.conn_ends.specs.declared.end.ConnEnd.{ConnEnd}
 use Rattle.conn_ends.specs.declared.end.ConnEnd.TheVariants.{BadFrame, LinkFault, Memory}
-use Rattle.serve_turns.specs.connection_turns.Turns.{AreChained, AreOf, AreWell, Placed, answers_of}
-use Rattle.serve_turns.specs.declared.connection_turns.turn.Told.{Told}
-use Rattle.serve_turns.specs.declared.connection_turns.turn.Turn.{Turn}
-use Rattle.serve_turns.specs.declared.connection_turns.turn.What.{What}
-use Rattle.serve_turns.specs.declared.connection_turns.turn.What.TheVariants.{Frame}
+use Rattle.serve_turns.specs.connection_turns.Frames.{Answers, AnswersAll, EndsFrame, LacksFrame, StopsFrame}
+use Rattle.serve_turns.specs.declared.connection_turns.state.ConnectionState.{ConnectionState}
+use Rattle.serve_turns.specs.declared.event_book.turn.Answer.{Answer}
+use Rattle.serve_turns.specs.declared.event_book.turn.Turn.{Turn}
+use Rattle.serve_turns.specs.declared.shared_book.view.View.{View}
+use Rattle.serve_turns.specs.event_book.History.{AllMeet, Course, Placed}
 
 -- the link gave these bytes and took those, where it tells them
 module _ {K : Type 0} (told : Type 0) (given written : K → List ℕ) where
@@ -58,105 +62,140 @@ module _ {K : Type 0} (told : Type 0) (given written : K → List ℕ) (faults :
 abbrev pub CannotRead : List ℕ → ConnEnd → Type 0
 CannotRead rest why = ((why ≡ BadFrame) × ((refusal : FrameError) × (front rest ≡ Breaks refusal))) ⊎ (why ≡ Memory)
 
--- What the next whole frame of a stream is taken for; none, where more bytes are needed; or why it can't be read. The stream stays then.
-abbrev pub NextTurn : List ℕ → List ℕ → Result (Option What) ConnEnd → Type 0
-NextTurn old new (Ok (Some what)) = (message : List ℕ) × (what ≡ Frame message) × (front old ≡ Whole message new)
-NextTurn old new (Ok None) = (front old ≡ Waits) × (new ≡ old)
-NextTurn old new (Err why) = (new ≡ old) × CannotRead old why
+-- What the next whole frame of a stream is; none, where more bytes are needed; or why it can't be read. The stream stays then.
+abbrev pub NextFrame : List ℕ → List ℕ → Result (Option (List ℕ)) ConnEnd → Type 0
+NextFrame old new (Ok (Some message)) = front old ≡ Whole message new
+NextFrame old new (Ok None) = (front old ≡ Waits) × (new ≡ old)
+NextFrame old new (Err why) = (new ≡ old) × CannotRead old why
 
--- The peer sends no more, no whole frame is left, and each answer was written. Of the link its count of faults is known before and
--- behind, and whether it gave the end.
-pub record IsTurnClosed (turns : List Placed) (rest wrote : List ℕ) (faults faults' : ℕ) (ended : Bool)
-    (why : Option ConnEnd) : Type 0 where
-  pub is : why ≡ None
+-- ---- one frame
+
+abbrev pub FrameComes : ServerSettings → Course → ℕ → ServerEnd → ℕ → List ℕ → List Placed → Result (List ℕ) ConnEnd → ConnectionState
+    → Type 0
+FrameComes z h k f before frame turns (Ok bytes) new = (behind : ServerEnd) × (seals : List Seal)
+    × Answers z h k f before frame turns bytes behind new.setups seals × ShowsEnd k z.guid new.conn behind × (behind.counter ≤ last_counter)
+FrameComes z h k f before frame turns (Err why) new = StopsFrame z h k f before frame turns why
+
+-- its turns, and what came of it, whatever the places of a history found that these turns meet
+pub record FrameTaken {B : Type 0} (v : View B Turn Answer) (old : ConnectionState) (frame : List ℕ) (result : Result (List ℕ) ConnEnd)
+    (new : ConnectionState) (w : View B Turn Answer) : Type 0 where
+  pub turns : List Placed
+  pub own : w.own ≡ v.own ++ turns
+  pub comes : (z : ServerSettings) (h : Course) (f : ServerEnd) → AllMeet z h turns → ShowsEnd old.conn.id z.guid old.conn f
+      → f.counter ≤ last_counter → FrameComes z h old.conn.id f old.setups frame turns result new
+
+-- ---- frames that were answered, one after the other
+
+-- behind the bytes of a stream further ones came; this is left of them
+pub record FramesGo (z : ServerSettings) (h : Course) (k : ℕ) (f : ServerEnd) (before : ℕ) (turns : List Placed)
+    (stream came wrote rest : List ℕ) (new : ConnectionState) : Type 0 where
+  pub frames : List (List ℕ)
+  pub framed : Frames (stream ++ came) frames rest
+  pub behind : ServerEnd
+  pub seals : List Seal
+  pub answers : AnswersAll z h k f before frames turns wrote behind new.setups seals
+  pub shows : ShowsEnd k z.guid new.conn behind
+  pub bound : behind.counter ≤ last_counter
+
+-- ---- why no further frame is answered. Of the link its count of faults is known before and behind, and whether it gave the end.
+
+-- the peer sends no more, no whole frame is left, and each answer was written
+pub record IsClosed (rest wrote said : List ℕ) (last : List Placed) (faults faults' : ℕ) (ended : Bool) : Type 0 where
   pub ends : ended ≡ true
   pub waits : front rest ≡ Waits
-  pub well : AreWell turns
-  pub wrote_is : wrote ≡ answers_of turns
+  pub wrote_is : wrote ≡ said
+  pub none_more : last ≡ []
   pub calm : faults' ≡ faults
 
--- the link failed: its count of faults rose to the number that is told, and a front of the answers was written
-pub record HasTurnFailed (turns : List Placed) (wrote : List ℕ) (faults faults' : ℕ) (why : Option ConnEnd) : Type 0 where
-  pub is : why ≡ Some (LinkFault faults')
+-- the link failed: a front of the answers was written
+pub record HasFailed (wrote said : List ℕ) (last : List Placed) (faults faults' : ℕ) : Type 0 where
   pub rose : Rose faults faults'
-  pub well : AreWell turns
   pub lost : List ℕ
-  pub front_is : wrote ++ lost ≡ answers_of turns
+  pub front_is : wrote ++ lost ≡ said
+  pub none_more : last ≡ []
 
--- the server ended the connection, at the last frame that was taken
-pub record WasEnded (turns : List Placed) (wrote : List ℕ) (faults faults' : ℕ) (why : Option ConnEnd) : Type 0 where
-  pub end : ConnEnd
-  pub is : why ≡ Some end
-  pub before : List Placed
-  pub last : Placed
-  pub turns_are : turns ≡ before ++ last ∷ []
-  pub well : AreWell before
-  pub said : last.1.reply.answer ≡ Err end
-  pub wrote_is : wrote ≡ answers_of turns
+-- the next frame ended the connection, for its own cause; its events stand
+pub record WasEnded (z : ServerSettings) (h : Course) (k : ℕ) (f : ServerEnd) (before : ℕ) (rest wrote said : List ℕ) (last : List Placed)
+    (faults faults' : ℕ) (why : ConnEnd) : Type 0 where
+  pub frame : List ℕ
+  pub later : List ℕ
+  pub here : Frames rest (frame ∷ []) later
+  pub ends : EndsFrame z h k f before frame last why
+  pub wrote_is : wrote ≡ said
   pub calm : faults' ≡ faults
 
--- what comes next is no frame, or found no memory
-pub record IsUnread (turns : List Placed) (rest wrote : List ℕ) (faults faults' : ℕ) (why : Option ConnEnd) : Type 0 where
-  pub end : ConnEnd
-  pub is : why ≡ Some end
-  pub cause : CannotRead rest end
-  pub well : AreWell turns
-  pub wrote_is : wrote ≡ answers_of turns
+-- memory ran out: the events of a front of the next frame's messages stand, and it has no answer
+pub record HasLacked (z : ServerSettings) (h : Course) (k : ℕ) (f : ServerEnd) (before : ℕ) (rest wrote said : List ℕ) (last : List Placed)
+    (faults faults' : ℕ) : Type 0 where
+  pub here : (last ≡ []) ⊎ ((frame : List ℕ) × (later : List ℕ) × Frames rest (frame ∷ []) later × LacksFrame z h k f before frame last)
+  pub wrote_is : wrote ≡ said
   pub calm : faults' ≡ faults
 
--- why no further frame is taken
-pub data TurnEndsBy (turns : List Placed) (rest wrote : List ℕ) (faults faults' : ℕ) (ended : Bool) (why : Option ConnEnd) : Type 0 where
-  PeerClosed : IsTurnClosed turns rest wrote faults faults' ended why → TurnEndsBy turns rest wrote faults faults' ended why
-  LinkFailed : HasTurnFailed turns wrote faults faults' why → TurnEndsBy turns rest wrote faults faults' ended why
-  ServerEnded : WasEnded turns wrote faults faults' why → TurnEndsBy turns rest wrote faults faults' ended why
-  Unread : IsUnread turns rest wrote faults faults' why → TurnEndsBy turns rest wrote faults faults' ended why
+-- what came next is no frame
+pub record HasBroken (rest wrote said : List ℕ) (last : List Placed) (faults faults' : ℕ) : Type 0 where
+  pub refusal : FrameError
+  pub breaks : front rest ≡ Breaks refusal
+  pub wrote_is : wrote ≡ said
+  pub none_more : last ≡ []
+  pub calm : faults' ≡ faults
 
-module _ {B : Type 0} where
-  -- Behind the bytes of a stream further ones came. The seat took a turn for each whole frame of these, in order; each was answered and its
-  -- answer written. This is left of the bytes.
-  pub record Goes (v : View B Turn Told) (c : Conn) (stream came : List ℕ) (w : View B Turn Told) (d : Conn) (rest wrote : List ℕ)
-      : Type 0 where
-    pub turns : List Placed
-    pub messages : List (List ℕ)
-    pub own : w.own ≡ v.own ++ turns
-    pub chained : AreChained c turns d
-    pub framed : Frames (stream ++ came) messages rest
-    pub asked : AreOf messages turns
-    pub well : AreWell turns
-    pub wrote_is : wrote ≡ answers_of turns
+abbrev pub StopsBy : ServerSettings → Course → ℕ → ServerEnd → ℕ → (rest wrote said : List ℕ) → List Placed → (faults faults' : ℕ) → Bool
+    → Option ConnEnd → Type 0
+StopsBy z h k f before rest wrote said last faults faults' ended None = IsClosed rest wrote said last faults faults' ended
+StopsBy z h k f before rest wrote said last faults faults' ended (Some (LinkFault count)) =
+    (count ≡ faults') × HasFailed wrote said last faults faults'
+StopsBy z h k f before rest wrote said last faults faults' ended (Some Memory) =
+    HasLacked z h k f before rest wrote said last faults faults'
+StopsBy z h k f before rest wrote said last faults faults' ended (Some BadFrame) =
+    HasBroken rest wrote said last faults faults' ⊎ WasEnded z h k f before rest wrote said last faults faults' BadFrame
+StopsBy z h k f before rest wrote said last faults faults' ended (Some why) =
+    WasEnded z h k f before rest wrote said last faults faults' why
 
-  -- the same up to where no further frame is taken, and why
-  pub record HasEnded (v : View B Turn Told) (c : Conn) (stream came : List ℕ) (w : View B Turn Told) (d : Conn) (wrote : List ℕ)
-      (faults faults' : ℕ) (ended : Bool) (why : Option ConnEnd) : Type 0 where
-    pub turns : List Placed
-    pub messages : List (List ℕ)
-    pub rest : List ℕ
-    pub own : w.own ≡ v.own ++ turns
-    pub chained : AreChained c turns d
-    pub framed : Frames (stream ++ came) messages rest
-    pub asked : AreOf messages turns
-    pub by : TurnEndsBy turns rest wrote faults faults' ended why
+-- frames were answered up to where no further one was, and why
+pub record FramesStop (z : ServerSettings) (h : Course) (k : ℕ) (f : ServerEnd) (before : ℕ) (turns : List Placed)
+    (stream came wrote : List ℕ) (faults faults' : ℕ) (ended : Bool) (why : Option ConnEnd) (seals : List Seal) : Type 0 where
+  pub answered : List Placed
+  pub last : List Placed
+  pub turns_are : turns ≡ answered ++ last
+  pub frames : List (List ℕ)
+  pub rest : List ℕ
+  pub framed : Frames (stream ++ came) frames rest
+  pub said : List ℕ
+  pub behind : ServerEnd
+  pub setups : ℕ
+  pub answers : AnswersAll z h k f before frames answered said behind setups seals
+  pub stops : StopsBy z h k behind setups rest wrote said last faults faults' ended why
+
+-- ---- over a link, in code
 
 module _ {B K : Type 0} (told : Type 0) (given written : K → List ℕ) (faults : K → ℕ) where
   -- frames were taken and answered on a link that has not failed meanwhile
-  pub record GoesOn (v : View B Turn Told) (c : Conn) (stream : List ℕ) (old : K) (w : View B Turn Told) (d : Conn) (rest : List ℕ)
-      (new : K) : Type 0 where
+  pub record GoesOn (v : View B Turn Answer) (old : ConnectionState) (stream : List ℕ) (l : K) (w : View B Turn Answer)
+      (new : ConnectionState) (rest : List ℕ) (n : K) : Type 0 where
     pub came : List ℕ
     pub wrote : List ℕ
-    pub passed : Passed told given written old new came wrote
-    pub goes : Goes v c stream came w d rest wrote
-    pub calm : faults new ≡ faults old
+    pub passed : Passed told given written l n came wrote
+    pub calm : faults n ≡ faults l
+    pub turns : List Placed
+    pub own : w.own ≡ v.own ++ turns
+    pub goes : (z : ServerSettings) (h : Course) (f : ServerEnd) → AllMeet z h turns → ShowsEnd old.conn.id z.guid old.conn f
+        → f.counter ≤ last_counter → FramesGo z h old.conn.id f old.setups turns stream came wrote rest new
 
   module _ (ended : K → Bool) where
-    -- up to where no further frame is taken
-    pub record Stops (v : View B Turn Told) (c : Conn) (stream : List ℕ) (old : K) (w : View B Turn Told) (d : Conn) (new : K)
+    -- up to where no further frame is answered
+    pub record Stops (v : View B Turn Answer) (old : ConnectionState) (stream : List ℕ) (l : K) (w : View B Turn Answer) (n : K)
         (why : Option ConnEnd) : Type 0 where
       pub came : List ℕ
       pub wrote : List ℕ
-      pub passed : Passed told given written old new came wrote
-      pub ends : HasEnded v c stream came w d wrote (faults old) (faults new) (ended new) why
+      pub passed : Passed told given written l n came wrote
+      pub turns : List Placed
+      pub own : w.own ≡ v.own ++ turns
+      pub stops : (z : ServerSettings) (h : Course) (f : ServerEnd) → AllMeet z h turns → ShowsEnd old.conn.id z.guid old.conn f
+          → f.counter ≤ last_counter → (seals : List Seal)
+          × FramesStop z h old.conn.id f old.setups turns stream came wrote (faults l) (faults n) (ended n) why seals
 
     -- all whole frames of a stream were taken, or it ended before
-    abbrev pub TakesAll : View B Turn Told → Conn → List ℕ → K → View B Turn Told → Conn → List ℕ → K → Option ConnEnd → Type 0
-    TakesAll v c stream old w d rest new None = GoesOn v c stream old w d rest new × (front rest ≡ Waits)
-    TakesAll v c stream old w d rest new (Some why) = Stops v c stream old w d new (Some why)
+    abbrev pub TakesAll : View B Turn Answer → ConnectionState → List ℕ → K → View B Turn Answer → ConnectionState → List ℕ → K
+        → Option ConnEnd → Type 0
+    TakesAll v old stream l w new rest n None = GoesOn v old stream l w new rest n × (front rest ≡ Waits)
+    TakesAll v old stream l w new rest n (Some why) = Stops v old stream l w n (Some why)

@@ -23,6 +23,11 @@ module _ {E R : Type 0} where
   entries_of number place (e ∷ es) =
       entry_if (e.seat == number) place e ++ entries_of number (place + 1) es
 
+  -- each of these numbers has these entries of the history, and no others
+  abbrev pub HaveAll : List (Entry E R) → List (ℕ × List (ℕ × Entry E R)) → Type 0
+  HaveAll log [] = Unit {0}
+  HaveAll log (x ∷ xs) = (x.1 ≡ entries_of x.0 0 log) × HaveAll log xs
+
   -- each of these histories is a beginning of the last one
   abbrev pub AllPrefix : List (List (Entry E R)) → List (Entry E R) → Type 0
   AllPrefix [] log = Unit {0}

@@ -1,5 +1,5 @@
 -- The rule that every step on the table keeps, and what each kind of step tells.
-use Rattle.std.specs.Prelude.{◌≡◌, ℕ, ◌+◌, ◌≤◌, ◌<◌, ◌==◌, Bool, true, false, List, [], ◌∷◌, ◌++◌, length, max, ◌⊎◌}
+use Rattle.std.specs.Prelude.{◌≡◌, ℕ, ◌+◌, ◌≤◌, ◌<◌, ◌==◌, Bool, true, false, List, [], ◌∷◌, ◌++◌, length, max, is_some, unwrap_or, ◌⊎◌}
 use Rattle.std.specs.Prelude.{Some, None, Option as Perhaps}
 use mathlib.Core.List.{IsPrefix}
 use mathlib.Core.Option.{Option, some}
@@ -11,7 +11,8 @@ use Rattle.serve_turns.specs.declared.shared_book.view.Stage.TheVariants.{Idle, 
 use Rattle.serve_turns.specs.declared.shared_book.view.View.{View}
 use Rattle.serve_turns.specs.declared.shared_book.view.Slot.{Slot}
 use Rattle.serve_turns.specs.declared.shared_book.view.Slot.TheVariants.{Opening, After, Away}
-use Rattle.serve_turns.specs.shared_book.Histories.{Replays, entry_of, entries_of, AllPrefix}
+use Rattle.serve_turns.specs.shared_book.Histories.{Replays, entry_of, entries_of, AllPrefix, HaveAll}
+use Rattle.serve_turns.specs.shared_book.Numbers.{AreApart, IsOneOf, held_numbers, seated_numbers}
 
 -- the ticket of a seat in a turn, else 0
 abbrev pub ticket_of : Stage → ℕ
@@ -64,7 +65,8 @@ module _ {B E R : Type 0} where
   noted_in number [] = []
   noted_in number (x ∷ xs) = noted number x.1
 
-  -- What one view knows is true. The words, the history, and which seat owns a ticket or a number are those of the rule.
+  -- What one view knows is true. The words, the history, and which seat owns a ticket or a number are those of the rule. A number that was
+  -- drawn for a further seat has no entries, and one of a seat that was joined to this one has no others than those.
   module _ (opening : B) (ticket serving seats : ℕ) (log : List (Entry E R)) (owner seat_of : ℕ → ℕ) where
     pub record Knows (j : ℕ) (v : View B E R) : Type 0 where
       pub opens : (o : B) → v.opening ≡ Some o → o ≡ opening
@@ -75,6 +77,10 @@ module _ {B E R : Type 0} where
       pub keeps : AllPrefix v.kept log
       pub mine : v.numbered ≡ true → (seat_of v.number ≡ j) × (v.number < seats) × (v.own ≡ entries_of v.number 0 log)
       pub unnumbered : v.numbered ≡ false → v.own ≡ []
+      pub drawn : (n : ℕ) → v.drawn ≡ Some n → entries_of n 0 log ≡ []
+      pub ended : HaveAll log v.ended
+      pub held : (n : ℕ) → IsOneOf n (held_numbers v) → (seat_of n ≡ j) × (n < seats)
+      pub apart : AreApart (held_numbers v)
 
   -- The book is at home, or it is out with the owner of the turn. The front is above the ticket being served only
   -- between that owner's advance and its pass.
@@ -91,11 +97,21 @@ module _ {B E R : Type 0} where
   abbrev pub HoldsTicket : ℕ → View B E R → Type 0
   HoldsTicket t v = held_ticket v.stage ≡ Some t
 
-  -- the view has this number, or it was joined to another
-  abbrev pub HadNumber : ℕ → View B E R → Type 0
-  HadNumber n v = ((v.numbered ≡ true) × (v.number ≡ n)) ⊎ (v.opening ≡ None)
+  -- the view has this number, or the seat of this number was joined to it, or it was drawn for a further seat
+  abbrev pub HoldsNumber : ℕ → View B E R → Type 0
+  HoldsNumber n v = IsOneOf n (held_numbers v)
 
--- The rule of the turns, of the four words, the one slot and all views.
+  -- the seat of number n was made by the one of number p, which is this one or was joined to it
+  abbrev pub HasMade : ℕ → ℕ → View B E R → Type 0
+  HasMade n p v = IsOneOf n v.made × IsOneOf p (seated_numbers v)
+
+  -- each number but the first was drawn by a seat of a lower number
+  abbrev pub AllMade : ℕ → (ℕ → ℕ) → (ℕ → ℕ) → List (View B E R) → Type 0
+  AllMade seats maker seat_of views =
+      (n : ℕ) → 0 < n → n < seats → (maker n < n) × SeatWith (HasMade n (maker n)) views (seat_of (maker n))
+
+-- The rule of the turns, of the four words, the one slot and all views. Each number that was drawn is held by one seat: the one that has it, or
+-- to which that one was joined, or which drew it. Each but the first was drawn by a seat of a lower number.
 module _ {B E R : Type 0} (steps : B → E → R → B → Type 0) where
   pub record Kept (opening : B) (s : State (Slot B E R) (View B E R)) : Type 0 where
     pub ticket : ℕ
@@ -114,7 +130,9 @@ module _ {B E R : Type 0} (steps : B → E → R → B → Type 0) where
     pub at_home : AtHome book front serving (owner serving) s.homes s.views
     pub each_seat : (j : ℕ) (v : View B E R) → get_elem? s.views j ≡ some v → Knows opening ticket serving seats log owner seat_of j v
     pub all_held : (t : ℕ) → serving ≤ t → t < ticket → SeatWith (HoldsTicket t) s.views (owner t)
-    pub all_seated : (n : ℕ) → n < seats → SeatWith (HadNumber n) s.views (seat_of n)
+    pub all_seated : (n : ℕ) → n < seats → SeatWith (HoldsNumber n) s.views (seat_of n)
+    pub maker : ℕ → ℕ
+    pub all_made : AllMade seats maker seat_of s.views
     pub none_later : (n : ℕ) → seats ≤ n → entries_of n 0 log ≡ []
 
 abbrev pub called_if : Bool → ℕ → Stage
@@ -142,6 +160,9 @@ module _ {B E R : Type 0} where
     history = [];
     own = [];
     kept = [];
+    ended = [];
+    drawn = None;
+    made = [];
   }
 
   -- what a seat is left with that was joined to another
@@ -155,6 +176,9 @@ module _ {B E R : Type 0} where
     history = [];
     own = [];
     kept = [];
+    ended = [];
+    drawn = None;
+    made = [];
   }
 
   abbrev pub staged : Stage → View B E R → View B E R
@@ -176,16 +200,42 @@ module _ {B E R : Type 0} where
     own = v.own ++ placed v.front es;
   }
 
-  abbrev pub with_number : ℕ → View B E R → View B E R
-  with_number n v = record v { numbered = true; number = n }
+  -- the number was drawn for a seat that is to be made
+  abbrev pub drew : ℕ → View B E R → View B E R
+  drew n v = record v { drawn = Some n; made = n ∷ v.made }
 
-  -- a new seat has seen what the old one had, and has no entries and no number
+  -- a seat of which another was made gave away the number it had drawn
+  abbrev pub parted : View B E R → View B E R
+  parted v = record v { drawn = None }
+
+  -- a new seat has seen what the old one had, and has the number that was drawn for it; it has no entries
   abbrev pub newcomer : View B E R → View B E R
-  newcomer v = record v { numbered = false; number = 0; stage = Idle; own = [] }
+  newcomer v = record v {
+    numbered = is_some v.drawn;
+    number = unwrap_or v.drawn 0;
+    stage = Idle;
+    own = [];
+    ended = [];
+    drawn = None;
+    made = [];
+  }
 
-  -- a seat that took in another's view keeps its own history and entries, and all histories of both
+  -- a seat of this number was made
+  abbrev pub with_made : ℕ → View B E R → View B E R
+  with_made n v = parted (drew n v)
+
+  -- the seat of this number that was made
+  abbrev pub made_with : ℕ → View B E R → View B E R
+  made_with n v = newcomer (drew n v)
+
+  -- A seat that took in another's view keeps its own history and entries, and all histories of both. The other has ended.
   abbrev pub rejoined : View B E R → View B E R → View B E R
-  rejoined v w = record v { front = max v.front w.front; kept = w.history ∷ (v.kept ++ w.kept) }
+  rejoined v w = record v {
+    front = max v.front w.front;
+    kept = w.history ∷ (v.kept ++ w.kept);
+    ended = v.ended ++ (w.number, w.own) ∷ w.ended;
+    made = v.made ++ w.made;
+  }
 
 -- What each kind of step tells, of the step, the seat before, the number found and the seat after.
 module _ {B E R : Type 0} where
@@ -222,15 +272,18 @@ module _ {B E R : Type 0} where
   abbrev pub turn_passed : Step (Slot B E R) → Sat B E R → ℕ → Sat B E R → Type 0
   turn_passed st m found m' = m' ≡ (staged Idle m.0, [])
 
-  abbrev pub front_peeked : Step (Slot B E R) → Sat B E R → ℕ → Sat B E R → Type 0
-  front_peeked st m found m' = (m' ≡ (fronted found m.0, m.1)) × (m.0.front ≤ found)
+  -- what the seat knows leads from the book's opening state
+  abbrev pub front_peeked : (B → E → R → B → Type 0) → Step (Slot B E R) → Sat B E R → ℕ → Sat B E R → Type 0
+  front_peeked steps st m found m' =
+      (m' ≡ (fronted found m.0, m.1)) × (m.0.front ≤ found)
+      × ((o : B) → m.0.opening ≡ Some o → (last : B) × Replays steps o m.0.history last)
 
-  abbrev pub numbered_if : Bool → ℕ → Sat B E R → Sat B E R
-  numbered_if true n m = (with_number n m.0, m.1)
-  numbered_if false n m = m
+  abbrev pub drew_if : Bool → ℕ → Sat B E R → Sat B E R
+  drew_if true n m = (drew n m.0, m.1)
+  drew_if false n m = m
 
-  abbrev pub seat_numbered : Step (Slot B E R) → Sat B E R → ℕ → Sat B E R → Type 0
-  seat_numbered st m found m' = m' ≡ numbered_if (found == st.first) st.first m
+  abbrev pub number_drawn : Step (Slot B E R) → Sat B E R → ℕ → Sat B E R → Type 0
+  number_drawn st m found m' = m' ≡ drew_if (found == st.first) st.first m
 
   -- the book that is out took a step, and the event and the reply lie beside it
   abbrev pub Works : (B → E → R → B → Type 0) → Sat B E R → E → R → Sat B E R → Type 0

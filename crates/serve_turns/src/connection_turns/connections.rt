@@ -1,16 +1,24 @@
 //! What serves connections by seats of one server.
+ghost use Rattle.std.specs.Prelude.{◌≡◌};
 ghost use Rattle.serve_turns.specs.shared_book.Words.{view_of, IsSameSeat, IsSeatOf};
-ghost use Rattle.serve_turns.specs.connection_turns.Serving.{OnLink, OnLinkMade, OnLinkRest};
+ghost use Rattle.serve_turns.specs.connection_turns.Due.{IsTakenIn};
+ghost use Rattle.serve_turns.specs.connection_turns.Ending.{ended_by};
+ghost use Rattle.serve_turns.specs.connection_turns.Serving.{LetsGo, OnLink, OnLinkFrames, OnLinkTaken};
 
-use crate::connection_turns::ending::{by, ended, stops_behind};
-use crate::connection_turns::frames::{read_frames, take_turn};
-use crate::connection_turns::turn::{Told, Turn, What};
+use crate::connection_turns::ending::{by, ended, has_lost, refusal_of, stops_behind};
+use crate::connection_turns::frames::read_frames;
+use crate::connection_turns::onlooking::{Begun, Nobody, Onlooker};
+use crate::connection_turns::state::ConnectionState;
+use crate::connection_turns::turning::hear_in_turn;
+use crate::event_book::{EventBook, What};
 use crate::link_serving::{Ended, Service, word_of};
-use crate::shared_book::{Book, BookSeat, SharedBook};
+use crate::shared_book::{BookSeat, SharedBook};
 use base_outside::{Clock, Link, News, Standing};
+use conn_core::{Reply, Serve, ServeError};
 use conn_ends::{Conn, ConnEnd};
 use rand_core::Rng;
 use std::alloc::Global;
+use std::snapshot::Snapshot;
 use std::sync::{Mutex, Wait};
 
 /// What connections share beside the server: its guid, a clock and a source of random bytes, each behind a lock.
@@ -28,7 +36,8 @@ impl<C: Clock, R: Rng> Connections<C, R> {
         self.clock.lock(rt).now()
     }
 
-    /// Random bytes for a challenge.
+    /// Random bytes for a challenge. They are drawn as they are used: 4,096 of them drawn before the connection would take 32 KiB of it, and
+    /// each event tells its own in the server's history all the same.
     pub(crate) fn fresh<W: Wait>(&self, rt: &W) -> [u8; 8] {
         let mut bytes = [0u8; 8];
         self.random.lock(rt).fill_bytes(&mut bytes);
@@ -43,93 +52,165 @@ impl<C: Clock, R: Rng> Connections<C, R> {
     }
 }
 
-/// Serves one connection until it ends: a turn when it is made, one for each frame that the link gives, in order, and one when it has
-/// ended, but where it was not taken in. Each answer goes onto the link before the next frame is taken. What was written are the answers,
-/// or a front of them where the link failed. Served briefly, it ends as soon as it was taken in, as where no memory was left to read into.
-pub fn serve_connection<W, L, B, C, R>(
+/// Serves one connection until it ends: a turn when it is made; for each frame that the link gives, in order, one for each of its messages
+/// that asks something of the server; and a turn when it has ended, but where it was not taken in. Each answer goes onto the link before the
+/// next frame is taken. What was written are the answers, or a front of them where the link failed. Served briefly, it ends as soon as it was
+/// taken in, as where no memory was left to read into.
+pub fn serve_connection<W, L, S, C, R>(
     rt: &W,
     outside: &Connections<C, R>,
     link: &mut L,
-    book: &SharedBook<B>,
-    seat: &mut BookSeat<B>,
+    book: &SharedBook<EventBook<S>>,
+    seat: &mut BookSeat<EventBook<S>>,
     number: u32,
     briefly: bool,
 ) -> Ended
 where
     W: Wait,
     L: Link,
-    B: Book<Event = Turn, Reply = Told>,
+    S: Serve,
     C: Clock,
     R: Rng,
     requires own { IsSeatOf book.now seat.old }
     ensures same { IsSameSeat seat.old seat.new }
-    ensures served { OnLink L.told L.given L.written L.faults L.ended number (view_of seat.old) link.old result (view_of seat.new)
-        link.new }
+    ensures served { OnLink L.told L.given L.written L.faults L.ended outside.now.guid number (view_of seat.old) link.old result
+        (view_of seat.new) link.new }
 {
-    // Before the server hears of the connection: where memory runs out, it hears nothing.
-    match Conn::new(outside.alloc, number, outside.guid, outside.salt(rt)) {
-        Ok(conn) => serve_made(rt, outside, link, book, seat, conn, briefly),
-        Err(_) => by(ConnEnd::Memory),
-    }
+    serve_before(rt, outside, &Nobody, link, book, seat, number, briefly)
 }
 
-/// A connection that was made, as it stands then.
-fn serve_made<W, L, B, C, R>(
+/// The same, before somebody who looks on.
+pub fn serve_before<W, L, S, C, R, V>(
     rt: &W,
     outside: &Connections<C, R>,
+    onlooker: &V,
     link: &mut L,
-    book: &SharedBook<B>,
-    seat: &mut BookSeat<B>,
-    conn: Conn,
+    book: &SharedBook<EventBook<S>>,
+    seat: &mut BookSeat<EventBook<S>>,
+    number: u32,
     briefly: bool,
 ) -> Ended
 where
     W: Wait,
     L: Link,
-    B: Book<Event = Turn, Reply = Told>,
+    S: Serve,
+    C: Clock,
+    R: Rng,
+    V: Onlooker<S>,
+    requires own { IsSeatOf book.now seat.old }
+    ensures same { IsSameSeat seat.old seat.new }
+    ensures served { OnLink L.told L.given L.written L.faults L.ended outside.now.guid number (view_of seat.old) link.old result
+        (view_of seat.new) link.new }
+{
+    let begun = Begun {
+        guid: outside.guid,
+        number,
+        seat: Snapshot::of(seat),
+        link: Snapshot::of(link),
+    };
+    // Before the connection's own state, so that the server has counted it whatever memory there is.
+    let reply = hear_in_turn(rt, outside, book, seat, What::Accept(number));
+    match refusal_of(&reply) {
+        None => serve_taken(rt, outside, onlooker, &begun, link, book, seat, briefly),
+        Some(why) => let_go(rt, outside, book, seat, number, &reply, why),
+    }
+}
+
+/// A connection that was not taken in. Where the reply to its first turn is lost it was counted, and nobody knows whether it was taken in.
+fn let_go<W, S, C, R>(
+    rt: &W,
+    outside: &Connections<C, R>,
+    book: &SharedBook<EventBook<S>>,
+    seat: &mut BookSeat<EventBook<S>>,
+    number: u32,
+    reply: &Option<Result<Reply, ServeError>>,
+    why: ConnEnd,
+) -> Ended
+where
+    W: Wait,
+    S: Serve,
     C: Clock,
     R: Rng,
     requires own { IsSeatOf book.now seat.old }
     ensures same { IsSameSeat seat.old seat.new }
-    ensures made { OnLinkMade L.told L.given L.written L.faults L.ended (view_of seat.old) conn link.old result (view_of seat.new)
-        link.new }
+    ensures end { result ≡ ended_by why }
+    ensures turns { LetsGo number reply.now (view_of seat.old) (view_of seat.new) }
 {
-    let told = take_turn(rt, outside, book, seat, conn, What::Accept);
-    match told.answer {
-        Ok(_) => serve_taken(rt, outside, link, book, seat, told.conn, briefly),
-        Err(why) => by(why),
+    if has_lost(reply) {
+        hear_in_turn(rt, outside, book, seat, What::End(number));
+        return by(why);
     }
+    by(why)
+}
+
+/// The frames of a connection that was taken in, where there is room for its state, and why it ends.
+fn serve_frames<W, L, S, C, R, V>(
+    rt: &W,
+    outside: &Connections<C, R>,
+    onlooker: &V,
+    begun: &Begun<S, L>,
+    link: &mut L,
+    book: &SharedBook<EventBook<S>>,
+    seat: &mut BookSeat<EventBook<S>>,
+    briefly: bool,
+) -> Option<ConnEnd>
+where
+    W: Wait,
+    L: Link,
+    S: Serve,
+    C: Clock,
+    R: Rng,
+    V: Onlooker<S>,
+    requires own { IsSeatOf book.now seat.old }
+    requires taken { IsTakenIn begun.now.number (view_of begun.now.seat.value) (view_of seat.old) }
+    requires link { link.old ≡ begun.now.link.value }
+    ensures same { IsSameSeat seat.old seat.new }
+    ensures frames { OnLinkFrames L.told L.given L.written L.faults L.ended begun.now.guid begun.now.number (view_of seat.old) link.old result
+        (view_of seat.new) link.new }
+{
+    let conn = match Conn::new(outside.alloc, begun.number, begun.guid, outside.salt(rt)) {
+        Ok(conn) => conn,
+        Err(_) => return Some(ConnEnd::Memory),
+    };
+    let mut state = ConnectionState::new(conn);
+    read_frames(
+        rt, outside, onlooker, begun, link, book, seat, &mut state, briefly,
+    )
 }
 
 /// The frames of a connection that was taken in, and its end.
-fn serve_taken<W, L, B, C, R>(
+fn serve_taken<W, L, S, C, R, V>(
     rt: &W,
     outside: &Connections<C, R>,
+    onlooker: &V,
+    begun: &Begun<S, L>,
     link: &mut L,
-    book: &SharedBook<B>,
-    seat: &mut BookSeat<B>,
-    conn: Conn,
+    book: &SharedBook<EventBook<S>>,
+    seat: &mut BookSeat<EventBook<S>>,
     briefly: bool,
 ) -> Ended
 where
     W: Wait,
     L: Link,
-    B: Book<Event = Turn, Reply = Told>,
+    S: Serve,
     C: Clock,
     R: Rng,
+    V: Onlooker<S>,
     requires own { IsSeatOf book.now seat.old }
+    requires taken { IsTakenIn begun.now.number (view_of begun.now.seat.value) (view_of seat.old) }
+    requires link { link.old ≡ begun.now.link.value }
     ensures same { IsSameSeat seat.old seat.new }
-    ensures rest { OnLinkRest L.told L.given L.written L.faults L.ended (view_of seat.old) conn link.old result
+    ensures rest { OnLinkTaken L.told L.given L.written L.faults L.ended begun.now.guid begun.now.number (view_of seat.old) link.old result
         (view_of seat.new) link.new }
 {
-    let (conn, why) = read_frames(rt, outside.alloc, outside, link, book, seat, conn, briefly);
-    let last = take_turn(rt, outside, book, seat, conn, What::End);
-    ended(why, &last.answer)
+    let why = serve_frames(rt, outside, onlooker, begun, link, book, seat, briefly);
+    let last = hear_in_turn(rt, outside, book, seat, What::End(begun.number));
+    ended(why, &last)
 }
 
-impl<B, C, R> Service<B> for Connections<C, R>
+impl<S, C, R> Service<EventBook<S>> for Connections<C, R>
 where
-    B: Book<Event = Turn, Reply = Told>,
+    S: Serve,
     C: Clock + Send,
     R: Rng + Send,
 {
@@ -139,7 +220,7 @@ where
     ghost use Rattle.serve_turns.specs.connection_turns.Ending.{stops_behind};
     ghost use Rattle.serve_turns.specs.connection_turns.Serving.{Serves};
 
-    ghost serves = { λ _ number from end to. Serves (number % 2 ^ 32) from end to };
+    ghost serves = { λ service number from end to. Serves service.guid (number % 2 ^ 32) from end to };
 
     ghost stops = { λ _ end. stops_behind end };
 
@@ -147,8 +228,8 @@ where
         &self,
         rt: &W,
         link: &mut L,
-        book: &SharedBook<B>,
-        seat: &mut BookSeat<B>,
+        book: &SharedBook<EventBook<S>>,
+        seat: &mut BookSeat<EventBook<S>>,
         number: u64,
         briefly: bool,
     ) -> Ended {

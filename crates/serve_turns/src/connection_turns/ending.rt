@@ -1,10 +1,13 @@
 //! How a connection ended.
 ghost use Rattle.std.specs.Prelude.{◌≡◌};
-ghost use Rattle.serve_turns.specs.connection_turns.Ending.{ended_by, ended_of, is_stop, stops_behind, told_end};
+ghost use Rattle.serve_turns.specs.connection_turns.Ending.{ended_by, ended_of, failure_of, has_lost, is_stop, refusal_of, stops_behind, told_end};
 
 use crate::link_serving::Ended;
+use conn_core::{Reply, ServeError};
 use conn_ends::ConnEnd;
-use wire_bytes::Bytes;
+
+/// STATUS_SUCCESS (MS-ERREF 2.3.1)
+const SUCCESS: u32 = 0;
 
 /// The same end, as it is told of a served connection.
 fn told_end(why: ConnEnd) -> crate::link_serving::ConnEnd
@@ -30,14 +33,48 @@ pub(crate) fn by(why: ConnEnd) -> Ended
     Ended::By(told_end(why))
 }
 
+/// Why a connection is not taken in behind its first turn.
+pub(crate) fn refusal_of(reply: &Option<Result<Reply, ServeError>>) -> Option<ConnEnd>
+    ensures { result ≡ refusal_of reply.now }
+{
+    match reply {
+        Some(Ok(reply)) if reply.status == SUCCESS => None,
+        Some(Ok(_)) => Some(ConnEnd::Full),
+        Some(Err(ServeError::Stopped(count))) => Some(ConnEnd::Stopped(*count)),
+        Some(Err(ServeError::Memory)) => Some(ConnEnd::Memory),
+        Some(Err(ServeError::Unanswered { acted: _ })) => Some(ConnEnd::Memory),
+        None => Some(ConnEnd::Memory),
+    }
+}
+
+/// Whether an event was carried out whose reply is lost.
+pub(crate) fn has_lost(reply: &Option<Result<Reply, ServeError>>) -> bool
+    ensures { result ≡ has_lost reply.now }
+{
+    matches!(reply, Some(Err(ServeError::Unanswered { acted: _ })))
+}
+
+/// What a turn fails with behind which nothing more comes.
+fn failure_of(reply: &Option<Result<Reply, ServeError>>) -> Option<ConnEnd>
+    ensures { result ≡ failure_of reply.now }
+{
+    match reply {
+        Some(Ok(_)) => None,
+        Some(Err(ServeError::Stopped(count))) => Some(ConnEnd::Stopped(*count)),
+        Some(Err(ServeError::Memory)) => Some(ConnEnd::Memory),
+        Some(Err(ServeError::Unanswered { acted: _ })) => Some(ConnEnd::Memory),
+        None => Some(ConnEnd::Memory),
+    }
+}
+
 /// Behind its last turn: where the peer ended it, that turn may have failed.
-pub(crate) fn ended(why: Option<ConnEnd>, last: &Result<Bytes, ConnEnd>) -> Ended
+pub(crate) fn ended(why: Option<ConnEnd>, last: &Option<Result<Reply, ServeError>>) -> Ended
     ensures { result ≡ ended_of why last.now }
 {
-    match (why, last) {
+    match (why, failure_of(last)) {
         (Some(why), _) => by(why),
-        (None, Err(why)) => by(*why),
-        (None, Ok(_)) => Ended::Closed,
+        (None, Some(why)) => by(why),
+        (None, None) => Ended::Closed,
     }
 }
 

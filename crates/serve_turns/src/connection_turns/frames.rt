@@ -1,16 +1,30 @@
-//! The turns of one connection.
-ghost use Rattle.std.specs.Prelude.{◌<◌, [], length, vec_len, IfOk};
+//! The frames of one connection.
+ghost use Rattle.std.specs.Prelude.{◌≡◌, ◌<◌, ℕ, List, [], Ok, length, vec_len, IfOk};
+ghost use Rattle.spec_exchange.specs.State.{Server};
+ghost use Rattle.spec_wire.specs.credits.Window.{HeldIds};
+ghost use Rattle.spec_world.specs.Answering as answering;
+ghost use Rattle.spec_world.specs.Ends.{Logons, ServerEnd};
+ghost use Rattle.spec_world.specs.Hearing as hearing;
+ghost use Rattle.spec_world.specs.Settings.{ServerSettings};
+ghost use Rattle.conn_ends.specs.Shown.{ShowsEnd};
+ghost use Rattle.conn_ends.specs.frame_messages.Checking.{AllHaveMessages};
+ghost use Rattle.conn_core.specs.message_replies.Replying.{AreMessagesShort};
+ghost use Rattle.conn_core.specs.reply_frames.Replying.{AreAnswers, WalkReplies, walk_replied};
 ghost use Rattle.serve_turns.specs.shared_book.Words.{view_of, IsSameSeat, IsSeatOf};
-ghost use Rattle.serve_turns.specs.connection_turns.Passing.{Feeds, NextTurn, Puts, Stops, TakesAll};
-ghost use Rattle.serve_turns.specs.connection_turns.Turns.{AddsTurn};
+ghost use Rattle.serve_turns.specs.connection_turns.Due.{IsUnderWay};
+ghost use Rattle.serve_turns.specs.connection_turns.Passing.{Feeds, FrameTaken, NextFrame, Puts, Stops, TakesAll};
 
 use crate::connection_turns::connections::Connections;
-use crate::connection_turns::news::{Asked, asked_by, news_of};
-use crate::connection_turns::turn::{Told, Turn, What};
+use crate::connection_turns::messages::take_messages;
+use crate::connection_turns::news::news_of;
+use crate::connection_turns::onlooking::{Begun, Onlooker, look_on};
+use crate::connection_turns::state::ConnectionState;
 use crate::connection_turns::writing::write_all;
-use crate::shared_book::{Book, BookSeat, SharedBook};
-use base_outside::{Clock, Link, Standing};
-use conn_ends::{Conn, ConnEnd};
+use crate::event_book::EventBook;
+use crate::shared_book::{BookSeat, SharedBook};
+use base_outside::{Clock, Link, News, Standing};
+use conn_core::{Dealt, Serve, answer, dealt_for};
+use conn_ends::{CheckedFrame, ConnEnd, check};
 use rand_core::Rng;
 use std::alloc::{AllocError, Global};
 use std::sync::Wait;
@@ -19,62 +33,99 @@ use wire_bytes::{Bytes, Deframer};
 /// How many bytes a read takes at most.
 const PIECE: usize = 65536;
 
-/// Gives the server one turn of a connection.
-pub(crate) fn take_turn<W, B, C, R>(
-    rt: &W,
-    outside: &Connections<C, R>,
-    book: &SharedBook<B>,
-    seat: &mut BookSeat<B>,
-    conn: Conn,
-    what: What,
-) -> Told
-where
-    W: Wait,
-    B: Book<Event = Turn, Reply = Told>,
-    C: Clock,
-    R: Rng,
-    requires own { IsSeatOf book.now seat.old }
-    ensures same { IsSameSeat seat.old seat.new }
-    ensures turn { AddsTurn (view_of seat.old) conn what result (view_of seat.new) }
-{
-    // Before the turn, so that no other lock is waited for while the server is held.
-    let now = outside.now(rt);
-    let fresh = outside.fresh(rt);
-    let turn = Turn {
-        now,
-        fresh,
-        conn,
-        what,
-    };
-    let (told, _) = book.apply(rt, seat, turn);
-    told
-}
-
-/// What the next whole frame of a stream comes to: its message, none, or why the connection ends.
-fn next_frame(stream: &mut Deframer) -> Result<Option<What>, ConnEnd>
-    ensures { NextTurn stream.old stream.new result }
+/// What the next whole frame of a stream is, none, or why the connection ends.
+fn next_frame(stream: &mut Deframer) -> Result<Option<Bytes>, ConnEnd>
+    ensures { NextFrame stream.old stream.new result }
 {
     match stream.next() {
-        Ok(Some(frame)) => Ok(Some(What::Frame(frame.bytes))),
+        Ok(Some(frame)) => Ok(Some(frame.bytes)),
         Ok(None) => Ok(None),
         Err(refusal) => Err(ConnEnd::from(refusal)),
     }
 }
 
-/// Puts a turn's answer onto the link, which first hears how its connection stands. Else it says why the connection ends.
-fn put_answer<L: Link>(
+/// The answer to a frame whose messages were all taken, by which its news is known.
+fn finish(
+    state: &mut ConnectionState,
+    asked: &CheckedFrame,
+    dealt: &Dealt,
+) -> Result<Bytes, ConnEnd>
+    requires messages { AllHaveMessages asked.now }
+    requires short { AreMessagesShort dealt.now.replies.items.items }
+    ensures setups { state.new.setups ≡ state.old.setups }
+    ensures replies { (z : ServerSettings) (s : Server) (L : Logons) (f : ServerEnd) (cs : List hearing.Checked)
+        (ss : List answering.SaidReply) (w : HeldIds) → ShowsEnd state.old.conn.id z.guid state.old.conn f
+        → AreAnswers z f cs ss w asked.now dealt.now.replies.items.items
+        → WalkReplies state.old.conn.id z.guid (walk_replied s L f asked.now.sealed w ss) state.new.conn result }
+{
+    state.news = news_of(asked, &dealt.replies);
+    answer(&mut state.conn, asked, &dealt.replies)
+}
+
+/// Takes a frame: it is opened and checked, each message that asks something of the server has a turn, and the replies are sealed or signed.
+/// Nothing of a cipher is in a turn. The clock is read once.
+fn take_frame<W, S, C, R>(
+    rt: &W,
+    outside: &Connections<C, R>,
+    book: &SharedBook<EventBook<S>>,
+    seat: &mut BookSeat<EventBook<S>>,
+    state: &mut ConnectionState,
+    frame: &[u8],
+) -> Result<Bytes, ConnEnd>
+where
+    W: Wait,
+    S: Serve,
+    C: Clock,
+    R: Rng,
+    requires own { IsSeatOf book.now seat.old }
+    ensures same { IsSameSeat seat.old seat.new }
+    ensures takes { FrameTaken (view_of seat.old) state.old frame.now result state.new (view_of seat.new) }
+{
+    state.news = None;
+    let now = outside.now(rt);
+    let mut asked = match check(&mut state.conn, frame, now) {
+        Ok(asked) => asked,
+        Err(why) => return Err(why),
+    };
+    // Before the first event, so that there is a place for the answer to each one that acts.
+    let mut dealt = match dealt_for(state.conn.alloc, asked.len()) {
+        Ok(dealt) => dealt,
+        Err(AllocError) => return Err(ConnEnd::Memory),
+    };
+    match take_messages(rt, outside, book, seat, now, state, &mut asked, &mut dealt) {
+        Ok(()) => finish(state, &asked, &dealt),
+        Err(why) => Err(why),
+    }
+}
+
+/// Tells the link what a frame brought, if the server heard anything of it, and how its connection stands. Else what was told before may be
+/// out of date, as another channel's events aren't heard of here.
+fn tell<L: Link>(link: &mut L, standing: &Standing, news: &Option<News>)
+    ensures bytes { L.told → (L.given link.new ≡ L.given link.old) × (L.written link.new ≡ L.written link.old) }
+    ensures calm { L.faults link.new ≡ L.faults link.old }
+{
+    if let Some(news) = news {
+        link.note(standing, news);
+    }
+}
+
+/// Puts the answer to a frame, of which who looks on was told, onto the link, which hears first what the frame brought. Else it says why
+/// the connection ends.
+fn put_answer<L: Link, S: Serve, V: Onlooker<S>>(
+    _onlooker: &V,
     link: &mut L,
     standing: &Standing,
-    asked: Option<Asked>,
+    news: &Option<News>,
     answer: &Result<Bytes, ConnEnd>,
 ) -> Option<ConnEnd>
+    requires { (bytes : List ℕ) → answer.now ≡ Ok bytes → V.knows _onlooker.now bytes }
     ensures { Puts L.told L.given L.written L.faults link.old answer.now link.new result }
 {
     match answer {
         Ok(bytes) => {
             let text = bytes.as_slice();
             // Before the write, so that its time-outs hold for it.
-            link.note(standing, &news_of(asked, text));
+            tell(link, standing, news);
             match write_all(link, text) {
                 Ok(()) => None,
                 Err(_) => Some(ConnEnd::LinkFault(link.fault_count())),
@@ -113,79 +164,103 @@ fn feed_from<L: Link>(
     }
 }
 
-/// A turn for each whole frame of the stream, and its answer onto the link.
-fn take_frames<W, L, B, C, R>(
+/// Each whole frame of the stream, and its answer onto the link, of which who looks on is told first.
+fn take_frames<W, L, S, C, R, V>(
     rt: &W,
     outside: &Connections<C, R>,
+    onlooker: &V,
+    begun: &Begun<S, L>,
     link: &mut L,
-    book: &SharedBook<B>,
-    seat: &mut BookSeat<B>,
+    book: &SharedBook<EventBook<S>>,
+    seat: &mut BookSeat<EventBook<S>>,
     stream: &mut Deframer,
-    mut conn: Conn,
-) -> (Conn, Option<ConnEnd>)
+    state: &mut ConnectionState,
+) -> Option<ConnEnd>
 where
     W: Wait,
     L: Link,
-    B: Book<Event = Turn, Reply = Told>,
+    S: Serve,
     C: Clock,
     R: Rng,
+    V: Onlooker<S>,
     requires own { IsSeatOf book.now seat.old }
+    requires way { IsUnderWay L.told L.given L.written begun.now.guid begun.now.number (view_of begun.now.seat.value) begun.now.link.value
+        (view_of seat.old) state.old stream.old link.old }
     ensures same { IsSameSeat seat.old seat.new }
-    ensures frames { TakesAll L.told L.given L.written L.faults L.ended (view_of seat.old) conn stream.old link.old
-        (view_of seat.new) result.0 stream.new link.new result.1 }
+    ensures frames { TakesAll L.told L.given L.written L.faults L.ended (view_of seat.old) state.old stream.old link.old
+        (view_of seat.new) state.new stream.new link.new result }
 {
     for _ in rt.forever() {
         match next_frame(stream) {
-            Ok(Some(what)) => {
-                let asked = asked_by(&what);
-                let told = take_turn(rt, outside, book, seat, conn, what);
-                conn = told.conn;
-                if let Some(why) = put_answer(link, &told.standing, asked, &told.answer) {
-                    return (conn, Some(why));
+            Ok(Some(frame)) => {
+                let message = frame.as_slice();
+                let answer = take_frame(rt, outside, book, seat, state, message);
+                look_on(onlooker, book, begun, seat, link, &answer);
+                if let Some(why) = put_answer(
+                    onlooker,
+                    link,
+                    &state.standing,
+                    &state.news,
+                    &answer,
+                ) {
+                    return Some(why);
                 }
             }
-            Ok(None) => return (conn, None),
-            Err(why) => return (conn, Some(why)),
+            Ok(None) => return None,
+            Err(why) => return Some(why),
         }
     }
     unreachable!()
 }
 
 /// Reads what the peer sends, up to where the connection ends.
-pub(crate) fn read_frames<W, L, B, C, R>(
+pub(crate) fn read_frames<W, L, S, C, R, V>(
     rt: &W,
-    alloc: Global,
     outside: &Connections<C, R>,
+    onlooker: &V,
+    begun: &Begun<S, L>,
     link: &mut L,
-    book: &SharedBook<B>,
-    seat: &mut BookSeat<B>,
-    mut conn: Conn,
+    book: &SharedBook<EventBook<S>>,
+    seat: &mut BookSeat<EventBook<S>>,
+    state: &mut ConnectionState,
     briefly: bool,
-) -> (Conn, Option<ConnEnd>)
+) -> Option<ConnEnd>
 where
     W: Wait,
     L: Link,
-    B: Book<Event = Turn, Reply = Told>,
+    S: Serve,
     C: Clock,
     R: Rng,
+    V: Onlooker<S>,
     requires own { IsSeatOf book.now seat.old }
+    requires way { IsUnderWay L.told L.given L.written begun.now.guid begun.now.number (view_of begun.now.seat.value) begun.now.link.value
+        (view_of seat.old) state.old [] link.old }
     ensures same { IsSameSeat seat.old seat.new }
-    ensures frames { Stops L.told L.given L.written L.faults L.ended (view_of seat.old) conn [] link.old (view_of seat.new)
-        result.0 link.new result.1 }
+    ensures frames { Stops L.told L.given L.written L.faults L.ended (view_of seat.old) state.old [] link.old (view_of seat.new)
+        link.new result }
 {
-    let mut stream = Deframer::new(alloc);
-    let mut piece = match empty_piece(alloc, briefly) {
+    let mut stream = Deframer::new(outside.alloc);
+    let mut piece = match empty_piece(outside.alloc, briefly) {
         Ok(piece) => piece,
-        Err(_) => return (conn, Some(ConnEnd::Memory)),
+        Err(_) => return Some(ConnEnd::Memory),
     };
     for _ in rt.forever() {
         if let Err(why) = feed_from(link, &mut stream, &mut piece) {
-            return (conn, why);
+            return why;
         }
-        let (left, why) = take_frames(rt, outside, link, book, seat, &mut stream, conn);
-        conn = left;
+        let why = take_frames(
+            rt,
+            outside,
+            onlooker,
+            begun,
+            link,
+            book,
+            seat,
+            &mut stream,
+            state,
+        );
         if why.is_some() {
-            return (conn, why);
+            return why;
         }
     }
     unreachable!()

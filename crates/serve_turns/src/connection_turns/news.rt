@@ -1,34 +1,25 @@
 //! What a link is told of its connection's frames: which SESSION_SETUPs made a session or were refused, by which name. It is for lines of a
-//! log and for the count of refused logons alone, so it looks at the bytes once more, and no contract speaks of it.
+//! log and for the count of refused logons alone, and no contract speaks of it. Each message tells by its own answer, also in a sealed frame
+//! and behind others: passwords could else be guessed there without being counted.
 ghost use Rattle.std.specs.Prelude.{◌≤◌, length};
 
-use crate::connection_turns::turn::What;
 use base_outside::{News, SentName};
+use conn_core::{Replies, Reply, ServeError, has_event};
+use conn_ends::{Checked, CheckedFrame};
 use wire_bytes::{u16_at, u32_at};
 
-/// The ProtocolId of a message that is not sealed (MS-SMB2 2.2.1.2).
-const PLAIN: &[u8] = b"\xfeSMB";
+const SESSION_SETUP: u16 = 1;
 
-/// The bytes of a header (MS-SMB2 2.2.1.2), and where it has its Status and NextCommand.
-const HEADER: usize = 64;
-
-const STATUS: usize = 8;
-
-const NEXT_COMMAND: usize = 20;
-
-/// The bytes of the length in front of a frame (MS-SMB2 2.1).
-const LENGTH: usize = 4;
-
-/// The command of a SESSION_SETUP, as its two bytes stand in a header.
-const SESSION_SETUP: &[u8] = &[1, 0];
-
-/// SMB2_SESSION_FLAG_BINDING (2.2.5)
+/// SMB2_SESSION_FLAG_BINDING (MS-SMB2 2.2.5)
 const BINDING: u8 = 1;
 
 const SUCCESS: u32 = 0;
 
 /// STATUS_MORE_PROCESSING_REQUIRED (MS-ERREF 2.3.1)
 const GOES_ON: u32 = 0xc000_0016;
+
+/// STATUS_NO_MEMORY
+const NO_MEMORY: u32 = 0xc000_0017;
 
 /// Signature and MessageType of an AUTHENTICATE_MESSAGE (MS-NLMP 2.2.1.3).
 const AUTHENTICATE: &[u8] = b"NTLMSSP\0\x03\0\0\0";
@@ -38,7 +29,7 @@ const SEARCHED: usize = 4096;
 
 /// What a SESSION_SETUP asks: whether to bind the session that stands, and for whom.
 #[derive(Clone, Copy)]
-pub(crate) struct Asked {
+struct Setup {
     binding: bool,
     name: SentName,
 }
@@ -87,9 +78,9 @@ fn token_of(message: &[u8]) -> &[u8]
 }
 
 /// What a SESSION_SETUP asks.
-fn setup_asks(message: &[u8]) -> Asked {
+fn setup_asks(message: &[u8]) -> Setup {
     if message.len() < 88 {
-        return Asked {
+        return Setup {
             binding: false,
             name: no_name(),
         };
@@ -99,82 +90,13 @@ fn setup_asks(message: &[u8]) -> Asked {
         Some(found) => name_of(found),
         None => no_name(),
     };
-    Asked { binding, name }
+    Setup { binding, name }
 }
 
-/// A message, without its length, that is a SESSION_SETUP and not sealed.
-fn is_setup(message: &[u8]) -> bool {
-    message.len() >= HEADER
-        && message.starts_with(PLAIN)
-        && message[12..].starts_with(SESSION_SETUP)
-}
-
-/// The first SESSION_SETUP of a frame that isn't sealed, and what stands behind it. In front may stand an ECHO of SessionId 0, which takes
-/// no key: passwords could else be guessed behind it without being counted.
-fn setup_in(text: &[u8]) -> Option<&[u8]> {
-    if !text.starts_with(PLAIN) {
-        return None;
-    }
-    let mut left = text;
-    // Each round passes a header at least, so that it ends, and no byte is looked at twice.
-    'messages: while left.len() >= HEADER {
-        if is_setup(left) {
-            return Some(left);
-        }
-        let next = u32_at(left, NEXT_COMMAND) as usize;
-        if next < HEADER {
-            return None;
-        }
-        if next > left.len() {
-            return None;
-        }
-        left = &left[next..];
-    }
-    None
-}
-
-/// What a turn asks in its first SESSION_SETUP. Another one behind that in its frame is refused unheard, and tries no password.
-pub(crate) fn asked_by(what: &What) -> Option<Asked> {
-    let What::Frame(bytes) = what else {
-        return None;
-    };
-    match setup_in(bytes.as_slice()) {
-        Some(message) => Some(setup_asks(message)),
-        None => None,
-    }
-}
-
-/// How many bytes the text of a frame has, by its length in front (MS-SMB2 2.1).
-fn text_size(frame: &[u8]) -> usize
-    requires { 4 ≤ length frame.now }
-{
-    usize::from(frame[1]) * 65536 + usize::from(frame[2]) * 256 + usize::from(frame[3])
-}
-
-/// The first SESSION_SETUP's response in the frames of an answer, which are several where one would be too long.
-fn setup_answered(answer: &[u8]) -> Option<&[u8]> {
-    let mut rest = answer;
-    'frames: while rest.len() >= LENGTH {
-        let size = text_size(rest);
-        let text = &rest[LENGTH..];
-        if size > text.len() {
-            return None;
-        }
-        if let Some(found) = setup_in(&text[..size]) {
-            return Some(found);
-        }
-        rest = &text[size..];
-    }
-    None
-}
-
-/// What a SESSION_SETUP brought that asked this, by the status of its response.
-fn brought_by(asked: Asked, response: &[u8]) -> News {
-    let Asked { binding, name } = asked;
-    if response.len() < HEADER {
-        return News::Nothing;
-    }
-    match u32_at(response, STATUS) {
+/// What a SESSION_SETUP brought that asked this, by its status.
+fn brought_by(setup: Setup, status: u32) -> News {
+    let Setup { binding, name } = setup;
+    match status {
         SUCCESS if binding => News::Bound(name),
         SUCCESS => News::LoggedOn(name),
         GOES_ON => News::Nothing,
@@ -182,18 +104,59 @@ fn brought_by(asked: Asked, response: &[u8]) -> News {
     }
 }
 
-/// What a SESSION_SETUP brought that asked this, by its frame's answer.
-fn setup_brought(asked: Asked, answer: &[u8]) -> News {
-    match setup_answered(answer) {
-        Some(response) => brought_by(asked, response),
+/// The status of an answer in a frame that goes on: its event found no memory, where it has no reply.
+fn status_of(answer: &Result<Reply, ServeError>) -> u32 {
+    match answer {
+        Ok(reply) => reply.status,
+        Err(_) => NO_MEMORY,
+    }
+}
+
+/// The status of a message behind the answers of those in front of it: that with which it fails, or by the next answer, if it has one. None
+/// of a message of which the server heard nothing.
+fn answered(checked: &Checked, next: Option<&Result<Reply, ServeError>>) -> Option<u32> {
+    if checked.fails.is_some() {
+        return checked.fails;
+    }
+    if !has_event(checked) {
+        return None;
+    }
+    match next {
+        Some(answer) => Some(status_of(answer)),
+        None => None,
+    }
+}
+
+/// What a message brought that has this status.
+fn message_news(bytes: &[u8], checked: &Checked, status: u32) -> News {
+    if checked.header.command != SESSION_SETUP {
+        return News::Nothing;
+    }
+    match bytes.get(checked.span.start..checked.span.end) {
+        Some(message) => brought_by(setup_asks(message), status),
         None => News::Nothing,
     }
 }
 
-/// What a frame brought that asked this.
-pub(crate) fn news_of(asked: Option<Asked>, answer: &[u8]) -> News {
-    match asked {
-        Some(asked) => setup_brought(asked, answer),
-        None => News::Nothing,
+/// The first of both that says something. At most one SESSION_SETUP of a frame is heard, and none stands in front of it.
+fn first_of(before: Option<News>, next: News) -> News {
+    match before {
+        None | Some(News::Nothing) => next,
+        Some(news) => news,
     }
+}
+
+/// What a frame brought by the answers to its messages; none where the server heard nothing of it.
+pub(crate) fn news_of(asked: &CheckedFrame, replies: &Replies) -> Option<News> {
+    let mut news = None;
+    let mut place: usize = 0;
+    for checked in asked.messages.as_slice() {
+        if let Some(status) = answered(checked, replies.as_slice().get(place)) {
+            news = Some(first_of(news, message_news(asked.bytes.as_slice(), checked, status)));
+        }
+        if has_event(checked) {
+            place = place.saturating_add(1);
+        }
+    }
+    news
 }

@@ -1,9 +1,9 @@
 //! Links that are served, each by a seat of one book.
-ghost use Rattle.std.specs.Prelude.{◌≡◌, ◌+◌, ◌<◌, ◌≤◌, ◌^◌, ℕ, Bool, None, Some, length, set, get_or};
+ghost use Rattle.std.specs.Prelude.{◌≡◌, ◌+◌, ◌<◌, ◌≤◌, ◌^◌, ℕ, Bool, List, None, Some, length, set, get_or};
 ghost use Rattle.serve_turns.specs.declared.shared_book.view.View.{View};
-ghost use Rattle.serve_turns.specs.shared_book.Turns.{rejoined};
-ghost use Rattle.serve_turns.specs.shared_book.Words.{view_of, IsSameSeat, IsSeatOf};
-ghost use Rattle.serve_turns.specs.link_serving.Serving.{AreServed};
+ghost use Rattle.serve_turns.specs.shared_book.Turns.{rejoined, with_made};
+ghost use Rattle.serve_turns.specs.shared_book.Words.{lasting, view_of, IsSameSeat, IsSeatAt, IsSeatOf};
+ghost use Rattle.serve_turns.specs.link_serving.Serving.{AreServed, IsNewSeat, Leaves, Link};
 
 use crate::shared_book::{Book, BookSeat, SharedBook};
 use base_outside::Link;
@@ -61,8 +61,8 @@ fn put_end<X: Drop>(ends: &mut Vec<Option<X>>, place: usize, end: X)
     }
 }
 
-/// Takes in what a served link left: its seat's history is kept, and its end stands at its place. True where no further link is to be
-/// accepted behind it.
+/// Takes in what a served link left: its seat has ended, with its number and its entries, its history is kept, and its end stands at its
+/// place. True where no further link is to be accepted behind it.
 pub fn entered<B: Book, S: Service<B>>(
     book: &SharedBook<B>,
     service: &S,
@@ -72,10 +72,12 @@ pub fn entered<B: Book, S: Service<B>>(
     seat: BookSeat<B>,
 ) -> bool
     requires own { IsSeatOf book.now roll.old.seat × IsSeatOf book.now seat }
-    requires by { (from : View B B.Event B.Reply) × S.serves service.now (place + 1) from end (view_of seat) }
-    ensures same { IsSameSeat roll.old.seat roll.new.seat }
-    ensures served { AreServed (S.serves service.now) roll.old.ends.items (view_of roll.old.seat).kept
-        → AreServed (S.serves service.now) roll.new.ends.items (view_of roll.new.seat).kept }
+    requires by { (from : View B B.Event B.Reply) × IsNewSeat (view_of roll.old.seat).opening from
+        × (lasting (view_of seat) ≡ lasting from) × S.serves service.now (place + 1) from end (view_of seat) }
+    ensures same { IsSeatAt roll.old.seat roll.new.seat }
+    ensures served { (running rest : List Link) (count : ℕ) → Leaves (place, (view_of seat).number) running rest
+        → AreServed (S.serves service.now) running count roll.old.ends.items (view_of roll.old.seat)
+        → AreServed (S.serves service.now) rest count roll.new.ends.items (view_of roll.new.seat) }
     ensures rejoins { view_of roll.new.seat ≡ rejoined (view_of roll.old.seat) (view_of seat) }
     ensures halts { result ≡ S.stops service.now end }
     ensures told { place < length roll.old.ends.items → get_or roll.new.ends.items place None ≡ Some end }
@@ -100,10 +102,12 @@ pub fn serve_briefly<W: Wait, L: Link, B: Book, S: Service<B>>(
 ) -> bool
     requires own { IsSeatOf book.now roll.old.seat }
     requires few { place + 1 < 2 ^ 64 }
-    ensures same { IsSameSeat roll.old.seat roll.new.seat }
-    ensures served { AreServed (S.serves service.now) roll.old.ends.items (view_of roll.old.seat).kept
-        → AreServed (S.serves service.now) roll.new.ends.items (view_of roll.new.seat).kept }
-    ensures rejoins { (ended : View B B.Event B.Reply) × (view_of roll.new.seat ≡ rejoined (view_of roll.old.seat) ended) }
+    ensures same { IsSeatAt roll.old.seat roll.new.seat }
+    ensures opening { (view_of roll.new.seat).opening ≡ (view_of roll.old.seat).opening }
+    ensures served { (running : List Link) → AreServed (S.serves service.now) running place roll.old.ends.items (view_of roll.old.seat)
+        → AreServed (S.serves service.now) running (place + 1) roll.new.ends.items (view_of roll.new.seat) }
+    ensures rejoins { (number : ℕ) × (ended : View B B.Event B.Reply)
+        × (view_of roll.new.seat ≡ rejoined (with_made number (view_of roll.old.seat)) ended) }
     ensures told { (end : S.End) × (result ≡ S.stops service.now end)
         × (place < length roll.old.ends.items → get_or roll.new.ends.items place None ≡ Some end) }
     ensures others { (at : ℕ) → (at ≡ place → ⊥) → get_or roll.new.ends.items at None ≡ get_or roll.old.ends.items at None }

@@ -1,8 +1,8 @@
 //! The threads that run, and what is left of those that have ended.
-ghost use Rattle.std.specs.Prelude.{◌≡◌, ◌+◌, ◌<◌, ◌≤◌, ◌^◌, ℕ, length, IfSome, OnOk};
+ghost use Rattle.std.specs.Prelude.{◌≡◌, ◌+◌, ◌<◌, ◌≤◌, ◌^◌, ℕ, [], length, map, IfSome, OnOk};
 ghost use Rattle.std.specs.List.{All};
 ghost use Rattle.serve_turns.specs.shared_book.Words.{view_of, IsSeatOf};
-ghost use Rattle.serve_turns.specs.link_serving.Serving.{AreServed};
+ghost use Rattle.serve_turns.specs.link_serving.Serving.{AreServed, IsNewSeat};
 ghost use Rattle.serve_turns.specs.link_threads.Covering.{AreCovered, HaveEnds};
 
 use crate::link_serving::{Roll, Service, entered, serve_briefly};
@@ -45,14 +45,18 @@ fn join_one<B: Book, S: Service<B>, R: Threads>(
     place: usize,
 )
     requires own { IsSeatOf book.now crew.old.roll.seat }
-    requires served { AreServed (S.serves service.now) crew.old.roll.ends.items (view_of crew.old.roll.seat).kept }
     requires running { All (λ c. IsSeatOf book.now c.handle.promise.seat.value
-        × (c.handle.promise.service.value ≡ service.now)) crew.old.running.items }
+        × (c.handle.promise.service.value ≡ service.now)
+        × IsNewSeat (view_of crew.old.roll.seat).opening (view_of c.handle.promise.seat.value)) crew.old.running.items }
     ensures own { IsSeatOf book.now crew.new.roll.seat }
     ensures opening { (view_of crew.new.roll.seat).opening ≡ (view_of crew.old.roll.seat).opening }
-    ensures served { AreServed (S.serves service.now) crew.new.roll.ends.items (view_of crew.new.roll.seat).kept }
+    ensures served { (n : ℕ) → AreServed (S.serves service.now) (map (λ c. (c.place, (view_of c.handle.promise.seat.value).number)) crew.old.running.items)
+        n crew.old.roll.ends.items (view_of crew.old.roll.seat)
+        → AreServed (S.serves service.now) (map (λ c. (c.place, (view_of c.handle.promise.seat.value).number)) crew.new.running.items)
+        n crew.new.roll.ends.items (view_of crew.new.roll.seat) }
     ensures running { All (λ c. IsSeatOf book.now c.handle.promise.seat.value
-        × (c.handle.promise.service.value ≡ service.now)) crew.new.running.items }
+        × (c.handle.promise.service.value ≡ service.now)
+        × IsNewSeat (view_of crew.old.roll.seat).opening (view_of c.handle.promise.seat.value)) crew.new.running.items }
     ensures count { length crew.new.roll.ends.items ≡ length crew.old.roll.ends.items }
     ensures covered { (n : ℕ) → AreCovered (λ c. c.place) n crew.old.roll.ends.items crew.old.running.items
         → AreCovered (λ c. c.place) n crew.new.roll.ends.items crew.new.running.items }
@@ -72,14 +76,18 @@ pub(crate) fn join_ended<B: Book, S: Service<B>, R: Threads + Wait>(
     ended: &EndedList,
 )
     requires own { IsSeatOf book.now crew.old.roll.seat }
-    requires served { AreServed (S.serves service.now) crew.old.roll.ends.items (view_of crew.old.roll.seat).kept }
     requires running { All (λ c. IsSeatOf book.now c.handle.promise.seat.value
-        × (c.handle.promise.service.value ≡ service.now)) crew.old.running.items }
+        × (c.handle.promise.service.value ≡ service.now)
+        × IsNewSeat (view_of crew.old.roll.seat).opening (view_of c.handle.promise.seat.value)) crew.old.running.items }
     ensures own { IsSeatOf book.now crew.new.roll.seat }
     ensures opening { (view_of crew.new.roll.seat).opening ≡ (view_of crew.old.roll.seat).opening }
-    ensures served { AreServed (S.serves service.now) crew.new.roll.ends.items (view_of crew.new.roll.seat).kept }
+    ensures served { (n : ℕ) → AreServed (S.serves service.now) (map (λ c. (c.place, (view_of c.handle.promise.seat.value).number)) crew.old.running.items)
+        n crew.old.roll.ends.items (view_of crew.old.roll.seat)
+        → AreServed (S.serves service.now) (map (λ c. (c.place, (view_of c.handle.promise.seat.value).number)) crew.new.running.items)
+        n crew.new.roll.ends.items (view_of crew.new.roll.seat) }
     ensures running { All (λ c. IsSeatOf book.now c.handle.promise.seat.value
-        × (c.handle.promise.service.value ≡ service.now)) crew.new.running.items }
+        × (c.handle.promise.service.value ≡ service.now)
+        × IsNewSeat (view_of crew.old.roll.seat).opening (view_of c.handle.promise.seat.value)) crew.new.running.items }
     ensures count { length crew.new.roll.ends.items ≡ length crew.old.roll.ends.items }
     ensures covered { (n : ℕ) → AreCovered (λ c. c.place) n crew.old.roll.ends.items crew.old.running.items
         → AreCovered (λ c. c.place) n crew.new.roll.ends.items crew.new.running.items }
@@ -101,14 +109,17 @@ pub(crate) fn join_all<B: Book, S: Service<B>, R: Threads>(
     crew: &mut Crew<B, S>,
 )
     requires own { IsSeatOf book.now crew.old.roll.seat }
-    requires served { AreServed (S.serves service.now) crew.old.roll.ends.items (view_of crew.old.roll.seat).kept }
     requires running { All (λ c. IsSeatOf book.now c.handle.promise.seat.value
-        × (c.handle.promise.service.value ≡ service.now)) crew.old.running.items }
+        × (c.handle.promise.service.value ≡ service.now)
+        × IsNewSeat (view_of crew.old.roll.seat).opening (view_of c.handle.promise.seat.value)) crew.old.running.items }
     ensures own { IsSeatOf book.now crew.new.roll.seat }
     ensures opening { (view_of crew.new.roll.seat).opening ≡ (view_of crew.old.roll.seat).opening }
-    ensures served { AreServed (S.serves service.now) crew.new.roll.ends.items (view_of crew.new.roll.seat).kept }
+    ensures served { (n : ℕ) → AreServed (S.serves service.now) (map (λ c. (c.place, (view_of c.handle.promise.seat.value).number)) crew.old.running.items)
+        n crew.old.roll.ends.items (view_of crew.old.roll.seat)
+        → AreServed (S.serves service.now) [] n crew.new.roll.ends.items (view_of crew.new.roll.seat) }
     ensures running { All (λ c. IsSeatOf book.now c.handle.promise.seat.value
-        × (c.handle.promise.service.value ≡ service.now)) crew.new.running.items }
+        × (c.handle.promise.service.value ≡ service.now)
+        × IsNewSeat (view_of crew.old.roll.seat).opening (view_of c.handle.promise.seat.value)) crew.new.running.items }
     ensures count { length crew.new.roll.ends.items ≡ length crew.old.roll.ends.items }
     ensures ends { (n : ℕ) → AreCovered (λ c. c.place) n crew.old.roll.ends.items crew.old.running.items
         → HaveEnds n crew.new.roll.ends.items }
@@ -140,14 +151,18 @@ where
     B::Reply: Send + 's,
     requires few { place + 1 < 2 ^ 64 }
     requires own { IsSeatOf book.now crew.old.roll.seat }
-    requires served { AreServed (S.serves service.now) crew.old.roll.ends.items (view_of crew.old.roll.seat).kept }
     requires running { All (λ c. IsSeatOf book.now c.handle.promise.seat.value
-        × (c.handle.promise.service.value ≡ service.now)) crew.old.running.items }
+        × (c.handle.promise.service.value ≡ service.now)
+        × IsNewSeat (view_of crew.old.roll.seat).opening (view_of c.handle.promise.seat.value)) crew.old.running.items }
     ensures own { IsSeatOf book.now crew.new.roll.seat }
     ensures opening { (view_of crew.new.roll.seat).opening ≡ (view_of crew.old.roll.seat).opening }
-    ensures served { AreServed (S.serves service.now) crew.new.roll.ends.items (view_of crew.new.roll.seat).kept }
+    ensures served { AreServed (S.serves service.now) (map (λ c. (c.place, (view_of c.handle.promise.seat.value).number)) crew.old.running.items)
+        place crew.old.roll.ends.items (view_of crew.old.roll.seat)
+        → AreServed (S.serves service.now) (map (λ c. (c.place, (view_of c.handle.promise.seat.value).number)) crew.new.running.items)
+        (place + 1) crew.new.roll.ends.items (view_of crew.new.roll.seat) }
     ensures running { All (λ c. IsSeatOf book.now c.handle.promise.seat.value
-        × (c.handle.promise.service.value ≡ service.now)) crew.new.running.items }
+        × (c.handle.promise.service.value ≡ service.now)
+        × IsNewSeat (view_of crew.old.roll.seat).opening (view_of c.handle.promise.seat.value)) crew.new.running.items }
     ensures count { length crew.new.roll.ends.items ≡ length crew.old.roll.ends.items }
     ensures covered { OnOk result (AreCovered (λ c. c.place) place crew.old.roll.ends.items crew.old.running.items
         → AreCovered (λ c. c.place) (place + 1) crew.new.roll.ends.items crew.new.running.items) }

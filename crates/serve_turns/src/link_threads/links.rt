@@ -1,9 +1,9 @@
 //! Links that are accepted, each served on a thread of its own.
-ghost use Rattle.std.specs.Prelude.{◌≡◌, ◌+◌, ◌<◌, ◌≤◌, ◌^◌, ℕ, length};
+ghost use Rattle.std.specs.Prelude.{◌≡◌, ◌+◌, ◌<◌, ◌≤◌, ◌^◌, ℕ, [], length, map};
 ghost use Rattle.std.specs.List.{All};
 ghost use Rattle.serve_turns.specs.shared_book.Words.{view_of, IsSeatOf};
 ghost use Rattle.base_outside.specs.streams.Faults.{Rose};
-ghost use Rattle.serve_turns.specs.link_serving.Serving.{AreServed};
+ghost use Rattle.serve_turns.specs.link_serving.Serving.{AreServed, IsNewSeat};
 ghost use Rattle.serve_turns.specs.link_threads.Covering.{AreCovered, HaveEnds};
 ghost use Rattle.serve_turns.specs.declared.link_threads.links.Halt.TheVariants as halts;
 
@@ -58,14 +58,18 @@ where
     B::Event: Send + 's,
     B::Reply: Send + 's,
     requires own { IsSeatOf book.now crew.old.roll.seat }
-    requires served { AreServed (S.serves service.now) crew.old.roll.ends.items (view_of crew.old.roll.seat).kept }
+    requires served { AreServed (S.serves service.now) (map (λ c. (c.place, (view_of c.handle.promise.seat.value).number)) crew.old.running.items)
+        0 crew.old.roll.ends.items (view_of crew.old.roll.seat) }
     requires running { All (λ c. IsSeatOf book.now c.handle.promise.seat.value
-        × (c.handle.promise.service.value ≡ service.now)) crew.old.running.items }
+        × (c.handle.promise.service.value ≡ service.now)
+        × IsNewSeat (view_of crew.old.roll.seat).opening (view_of c.handle.promise.seat.value)) crew.old.running.items }
     ensures own { IsSeatOf book.now crew.new.roll.seat }
     ensures opening { (view_of crew.new.roll.seat).opening ≡ (view_of crew.old.roll.seat).opening }
-    ensures served { AreServed (S.serves service.now) crew.new.roll.ends.items (view_of crew.new.roll.seat).kept }
+    ensures served { AreServed (S.serves service.now) (map (λ c. (c.place, (view_of c.handle.promise.seat.value).number)) crew.new.running.items)
+        count crew.new.roll.ends.items (view_of crew.new.roll.seat) }
     ensures running { All (λ c. IsSeatOf book.now c.handle.promise.seat.value
-        × (c.handle.promise.service.value ≡ service.now)) crew.new.running.items }
+        × (c.handle.promise.service.value ≡ service.now)
+        × IsNewSeat (view_of crew.old.roll.seat).opening (view_of c.handle.promise.seat.value)) crew.new.running.items }
     ensures count { length crew.new.roll.ends.items ≡ length crew.old.roll.ends.items }
     ensures covered { result ≡ halts.Count
         → AreCovered (λ c. c.place) count crew.new.roll.ends.items crew.new.running.items }
@@ -112,12 +116,14 @@ where
     B::Event: Send + 's,
     B::Reply: Send + 's,
     requires own { IsSeatOf book.now crew.roll.seat }
-    requires served { AreServed (S.serves service.now) crew.roll.ends.items (view_of crew.roll.seat).kept }
+    requires served { AreServed (S.serves service.now) (map (λ c. (c.place, (view_of c.handle.promise.seat.value).number)) crew.running.items)
+        0 crew.roll.ends.items (view_of crew.roll.seat) }
     requires running { All (λ c. IsSeatOf book.now c.handle.promise.seat.value
-        × (c.handle.promise.service.value ≡ service.now)) crew.running.items }
+        × (c.handle.promise.service.value ≡ service.now)
+        × IsNewSeat (view_of crew.roll.seat).opening (view_of c.handle.promise.seat.value)) crew.running.items }
     ensures own { IsSeatOf book.now result.roll.seat }
     ensures opening { (view_of result.roll.seat).opening ≡ (view_of crew.roll.seat).opening }
-    ensures served { AreServed (S.serves service.now) result.roll.ends.items (view_of result.roll.seat).kept }
+    ensures served { AreServed (S.serves service.now) [] count result.roll.ends.items (view_of result.roll.seat) }
     ensures count { length result.roll.ends.items ≡ length crew.roll.ends.items }
     ensures ends { result.halt ≡ halts.Count → HaveEnds count result.roll.ends.items }
     ensures net { result.halt ≡ halts.NetFault → Rose (N.faults net) (N.faults result.net) }
@@ -152,10 +158,10 @@ where
     B::Event: Send,
     B::Reply: Send,
     requires own { IsSeatOf book.now roll.seat }
-    requires served { AreServed (S.serves service.now) roll.ends.items (view_of roll.seat).kept }
+    requires served { AreServed (S.serves service.now) [] 0 roll.ends.items (view_of roll.seat) }
     ensures own { IsSeatOf book.now result.roll.seat }
     ensures opening { (view_of result.roll.seat).opening ≡ (view_of roll.seat).opening }
-    ensures served { AreServed (S.serves service.now) result.roll.ends.items (view_of result.roll.seat).kept }
+    ensures served { AreServed (S.serves service.now) [] count result.roll.ends.items (view_of result.roll.seat) }
     ensures count { length result.roll.ends.items ≡ length roll.ends.items }
     ensures ends { result.halt ≡ halts.Count → HaveEnds count result.roll.ends.items }
     ensures net { result.halt ≡ halts.NetFault → Rose (N.faults net) (N.faults result.net) }
@@ -173,14 +179,17 @@ where
         rt,
         move |scope| -> Served<B, S::End, N>
             requires { IsSeatOf book.now crew.roll.seat
-                × AreServed (S.serves service.now) crew.roll.ends.items (view_of crew.roll.seat).kept
+                × AreServed (S.serves service.now)
+                (map (λ c. (c.place, (view_of c.handle.promise.seat.value).number)) crew.running.items)
+                0 crew.roll.ends.items (view_of crew.roll.seat)
                 × All (λ c. IsSeatOf book.now c.handle.promise.seat.value
-                × (c.handle.promise.service.value ≡ service.now)) crew.running.items }
+                × (c.handle.promise.service.value ≡ service.now)
+                × IsNewSeat (view_of crew.roll.seat).opening (view_of c.handle.promise.seat.value)) crew.running.items }
             ensures { IsSeatOf book.entry.now result.roll.seat
                 × ((view_of result.roll.seat).opening ≡ (view_of crew.roll.seat).opening)
                 × (length result.roll.ends.items ≡ length crew.roll.ends.items)
                 × (result.halt ≡ halts.Count → HaveEnds count result.roll.ends.items)
-                × AreServed (S.serves service.entry.now) result.roll.ends.items (view_of result.roll.seat).kept
+                × AreServed (S.serves service.entry.now) [] count result.roll.ends.items (view_of result.roll.seat)
                 × (result.halt ≡ halts.NetFault → Rose (N.faults net) (N.faults result.net))
                 × (N.listens_at result.net ≡ N.listens_at net)
                 × (result.halt ≡ halts.Count → N.accepted net + count < 2 ^ 64

@@ -1,7 +1,7 @@
 //! A thread that serves one link.
-ghost use Rattle.std.specs.Prelude.{◌≡◌, ◌+◌, ◌<◌, ◌≤◌, ◌^◌, ℕ, None, Some, length, get_or, IfOk, IfErr};
-ghost use Rattle.serve_turns.specs.shared_book.Words.{view_of, AreOfOneBook, IsSameSeat, IsSeatOf};
-ghost use Rattle.serve_turns.specs.link_serving.Serving.{AreServed};
+ghost use Rattle.std.specs.Prelude.{◌≡◌, ◌+◌, ◌<◌, ◌≤◌, ◌^◌, ℕ, List, None, Some, length, get_or, IfOk, IfErr};
+ghost use Rattle.serve_turns.specs.shared_book.Words.{lasting, view_of, AreOfOneBook, IsSeatAt, IsSeatOf};
+ghost use Rattle.serve_turns.specs.link_serving.Serving.{AreServed, IsNewSeat, Leaves, Link};
 
 use crate::link_serving::{Roll, Service, entered};
 use crate::link_threads::ended_list::EndedList;
@@ -11,7 +11,8 @@ use std::snapshot::Snapshot;
 use std::sync::Wait;
 use std::thread::{Promise, PromisedHandle, Scope, SpawnError, Threads};
 
-/// What a thread promises that serves a link: how it ended, as the service says, and its seat, which is of the same book.
+/// What a thread promises that serves a link: how it ended, as the service says, and its seat, which is of the same book, took in no other
+/// seat and made none.
 #[derive(Drop)]
 pub(crate) struct ServesLink<B: Book, S: Service<B>> {
     service: Snapshot<S>,
@@ -21,9 +22,9 @@ pub(crate) struct ServesLink<B: Book, S: Service<B>> {
 
 impl<B: Book, S: Service<B>> Promise<(S::End, BookSeat<B>)> for ServesLink<B, S> {
     ghost use Rattle.std.specs.Prelude.{◌+◌};
-    ghost use Rattle.serve_turns.specs.shared_book.Words.{view_of, AreOfOneBook};
+    ghost use Rattle.serve_turns.specs.shared_book.Words.{lasting, view_of, AreOfOneBook};
 
-    ghost kept_by = { λ p r. AreOfOneBook p.seat.value r.1
+    ghost kept_by = { λ p r. AreOfOneBook p.seat.value r.1 × (lasting (view_of r.1) ≡ lasting (view_of p.seat.value))
         × S.serves p.service.value (p.place + 1) (view_of p.seat.value) r.0 (view_of r.1) };
 }
 
@@ -40,6 +41,7 @@ fn served<B: Book, S: Service<B>, W: Wait, L: Link + Drop>(
     requires own { IsSeatOf book.now seat }
     requires few { place + 1 < 2 ^ 64 }
     ensures own { AreOfOneBook seat result.1 }
+    ensures lasts { lasting (view_of result.1) ≡ lasting (view_of seat) }
     ensures serves { S.serves service.now (place + 1) (view_of seat) result.0 (view_of result.1) }
 {
     let turned_away = ended.is_turned_away(rt, place);
@@ -86,7 +88,8 @@ where
     ensures runs { IfOk result (λ r. IsSeatOf book.now r.handle.promise.seat.value
         × (r.handle.promise.service.value ≡ service.now)) }
     ensures place { IfOk result (λ r. r.place ≡ place) }
-    ensures done { IfErr result (λ d. IsSeatOf book.now d.1
+    ensures seat { IfOk result (λ r. view_of r.handle.promise.seat.value ≡ view_of seat) }
+    ensures done { IfErr result (λ d. IsSeatOf book.now d.1 × (lasting (view_of d.1) ≡ lasting (view_of seat))
         × S.serves service.now (place + 1) (view_of seat) d.0 (view_of d.1)) }
 {
     let promise = ServesLink {
@@ -98,7 +101,7 @@ where
         promise,
         move || -> (S::End, BookSeat<B>)
             requires { IsSeatOf book.now seat × (place + 1 < 2 ^ 64) }
-            ensures { AreOfOneBook seat result.1
+            ensures { AreOfOneBook seat result.1 × (lasting (view_of result.1) ≡ lasting (view_of seat))
                 × S.serves service.entry.now (place + 1) (view_of seat) result.0 (view_of result.1) }
         { served(rt, service, link, book, seat, place, ended) },
     );
@@ -122,10 +125,13 @@ pub(crate) fn finished<B: Book, S: Service<B>, R: Threads>(
 ) -> bool
     requires own { IsSeatOf book.now roll.old.seat }
     requires runs { IsSeatOf book.now child.handle.promise.seat.value
-        × (child.handle.promise.service.value ≡ service.now) }
-    ensures same { IsSameSeat roll.old.seat roll.new.seat }
-    ensures served { AreServed (S.serves service.now) roll.old.ends.items (view_of roll.old.seat).kept
-        → AreServed (S.serves service.now) roll.new.ends.items (view_of roll.new.seat).kept }
+        × (child.handle.promise.service.value ≡ service.now)
+        × IsNewSeat (view_of roll.old.seat).opening (view_of child.handle.promise.seat.value) }
+    ensures same { IsSeatAt roll.old.seat roll.new.seat }
+    ensures served { (running rest : List Link) (count : ℕ)
+        → Leaves (child.place, (view_of child.handle.promise.seat.value).number) running rest
+        → AreServed (S.serves service.now) running count roll.old.ends.items (view_of roll.old.seat)
+        → AreServed (S.serves service.now) rest count roll.new.ends.items (view_of roll.new.seat) }
     ensures told { child.place < length roll.old.ends.items
         → (end : S.End) × (get_or roll.new.ends.items child.place None ≡ Some end) }
     ensures others { (at : ℕ) → (at ≡ child.place → ⊥) → get_or roll.new.ends.items at None ≡ get_or roll.old.ends.items at None }

@@ -1,12 +1,13 @@
 //! The shared book and its seats.
-ghost use Rattle.std.specs.Prelude.{◌≡◌, ◌+◌, ◌<◌, ◌≤◌, ◌^◌, true, [], ◌∷◌, IfOk};
+ghost use Rattle.std.specs.Prelude.{◌≡◌, ◌+◌, ◌<◌, ◌≤◌, ◌^◌, true, None, [], ◌∷◌, IfOk};
 ghost use Rattle.serve_turns.specs.declared.shared_book.view.Stage.TheVariants.{Idle, Waiting, Called};
-ghost use Rattle.serve_turns.specs.shared_book.Turns.{first_view, staged, fronted, with_number, newcomer, rejoined, HasBook, Works};
-ghost use Rattle.serve_turns.specs.shared_book.Seats.{is_opened, Applied, Closes};
+ghost use Rattle.serve_turns.specs.shared_book.Turns.{first_view, staged, fronted, drew, made_with, with_made, rejoined, HasBook, Works};
+ghost use Rattle.serve_turns.specs.shared_book.Seats.{is_opened, Applied, Closes, EndsWithOwn, IsHistory};
 
+use crate::shared_book::bells::{Bells, hung, next_look};
 use crate::shared_book::book::Book;
 use crate::shared_book::turns::{
-    AdvanceFront, DrawTicket, LookForTurn, NumberSeat, PassTurn, PeekAtFront, ShareView, TakeBook,
+    AdvanceFront, DrawNumber, DrawTicket, LookForTurn, PassTurn, PeekAtFront, ShareView, TakeBook,
     Turns,
 };
 use crate::shared_book::view::{Slot, View};
@@ -30,6 +31,8 @@ pub struct TurnSeat<S, B, E, R> {
     ghost idle: { seat.me.0.stage ≡ Idle },
     ghost numbered: { seat.me.0.numbered ≡ true },
     ghost opened: { is_opened seat.me.0.opening ≡ true },
+    ghost undrawn: { seat.me.0.drawn ≡ None },
+    ghost ends: { EndsWithOwn seat.me.0 },
 }
 
 /// A seat at a book. A call that takes a book and a seat needs a seat of that book.
@@ -40,10 +43,11 @@ pub type BookSeat<B> = TurnSeat<
     <B as Book>::Reply,
 >;
 
-/// A table of four words and one slot.
+/// A table of four words and one slot, and the bells by which its turns are called.
 #[derive(Drop)]
 pub struct TurnTable<S, V, K, P: TableRule<S, V, K>> {
     pub table: Table<S, V, K, P, Global>,
+    pub bells: Bells,
     ghost sizes: { (table.shared.table_id.words ≡ 4) × (table.shared.table_id.slots ≡ 1) },
 }
 
@@ -65,17 +69,18 @@ impl<B: Book + Drop> SharedBook<B> {
         ensures { IfOk result (λ r. IsSeatOf r.0 r.1 × (view_of r.1 ≡ first_view book)) }
     {
         let opening = Snapshot::of(&book);
+        let bells = hung(alloc)?;
         let mut slots = Vec::new(alloc);
         slots.push(Slot::Opening(book))?;
         match Table::new(alloc, &[0, 0, 0, 1], slots, &opening) {
-            Ok((table, seat)) => Ok((TurnTable { table }, TurnSeat { seat })),
+            Ok((table, seat)) => Ok((TurnTable { table, bells }, TurnSeat { seat })),
             Err(_) => Err(AllocError),
         }
     }
 }
 
 impl<B: Book> SharedBook<B> {
-    ghost use Rattle.serve_turns.specs.shared_book.Words.{view_of, IsSameSeat, IsSeatOf};
+    ghost use Rattle.serve_turns.specs.shared_book.Words.{view_of, IsSameSeat, IsSeatAt, IsSeatOf};
 
     // Draws a ticket. Where all are drawn it waits for ever.
     fn draw<W: Wait>(
@@ -106,7 +111,8 @@ impl<B: Book> SharedBook<B> {
         unreachable!()
     }
 
-    // Waits until the ticket is served.
+    // Waits until the ticket is served. It looks a few times, and then sleeps until the ticket's bell is rung. The bell is heard before
+    // each look, so that one that is rung behind the look ends the sleep.
     fn wait<W: Wait>(
         &self,
         rt: &W,
@@ -118,11 +124,14 @@ impl<B: Book> SharedBook<B> {
         ensures same { (seat.new.table_id ≡ seat.old.table_id) × (seat.new.id ≡ seat.old.id) }
         ensures called { seat.new.me ≡ (staged (Called ticket) seat.old.me.0, seat.old.me.1) }
     {
+        let mut looks = 0;
         for _ in rt.forever() {
+            let heard = self.bells.heard(ticket);
             if self.table.shared.load::<LookForTurn>(seat, 1) == ticket {
                 return;
             }
-            thread::yield_now();
+            self.bells.rest(rt, ticket, heard, looks);
+            looks = next_look(looks);
         }
         unreachable!()
     }
@@ -170,38 +179,45 @@ impl<B: Book> SharedBook<B> {
         // Before the turn is passed, so that whoever comes next finds this entry in the history.
         self.table.shared.store::<AdvanceFront>(mine, 2, place + 1);
         self.table.shared.store::<PassTurn>(mine, 1, ticket + 1);
+        self.bells.ring(ticket + 1);
         (reply, Receipt { place })
     }
 
     /// A count of entries that the history has, not below the one that the seat has seen. It becomes the
-    /// seat's. It neither waits nor takes memory.
+    /// seat's. It neither waits nor takes memory. What the seat knows is the book's history then, up to the seat's last turn.
     pub fn peek(&self, seat: &mut BookSeat<B>) -> u64
         requires own { IsSeatOf self.now seat.old }
         ensures same { IsSameSeat seat.old seat.new }
         ensures front { view_of seat.new ≡ fronted result (view_of seat.old) }
         ensures seen { (view_of seat.old).front ≤ result }
+        ensures history { IsHistory B.steps (view_of seat.new) }
     {
         self.table.shared.load::<PeekAtFront>(&mut seat.seat, 2)
     }
 
-    /// A new seat, which has seen what this one has and has no entries. It takes no memory. Where all
-    /// numbers are drawn it waits for ever.
-    pub fn seat<W: Wait>(&self, rt: &W, from: &mut BookSeat<B>) -> BookSeat<B>
-        requires own { IsSeatOf self.now from.old }
-        ensures same { IsSameSeat from.old from.new × (view_of from.new ≡ view_of from.old) }
-        ensures own { IsSeatOf self.now result }
-        ensures newcomer { view_of result ≡ with_number (view_of result).number (newcomer (view_of from.old)) }
+    // Draws a number for a seat that is to be made. Where all are drawn it waits for ever.
+    fn draw_number<W: Wait>(
+        &self,
+        rt: &W,
+        seat: &mut Seat<Slot<B, B::Event, B::Reply>, View<B, B::Event, B::Reply>>,
+    ) -> u64
+        requires own { seat.old.table_id ≡ self.now.table.shared.table_id }
+        requires idle { seat.old.me.0.stage ≡ Idle }
+        requires numbered { seat.old.me.0.numbered ≡ true }
+        requires undrawn { seat.old.me.0.drawn ≡ None }
+        ensures same { (seat.new.table_id ≡ seat.old.table_id) × (seat.new.id ≡ seat.old.id) }
+        ensures drawn { seat.new.me ≡ (drew result seat.old.me.0, seat.old.me.1) }
     {
-        let mut seat = self.table.shared.split_seat::<ShareView>(&mut from.seat);
         for _ in rt.forever() {
             let next = self.table.shared.peek(3);
+            // Compared and exchanged, not added to: after its last number the word must not begin anew.
             if next < u64::MAX {
                 let found = self
                     .table
                     .shared
-                    .compare_exchange::<NumberSeat>(&mut seat, 3, next, next + 1);
+                    .compare_exchange::<DrawNumber>(seat, 3, next, next + 1);
                 if found == next {
-                    return TurnSeat { seat };
+                    return next;
                 }
             }
             thread::yield_now();
@@ -209,10 +225,27 @@ impl<B: Book> SharedBook<B> {
         unreachable!()
     }
 
-    /// Takes in what another seat has seen, which ends there: its history is kept beside this seat's own.
+    /// A new seat, which has seen what this one has and has no entries. It takes no memory. Where all
+    /// numbers are drawn it waits for ever.
+    pub fn seat<W: Wait>(&self, rt: &W, from: &mut BookSeat<B>) -> BookSeat<B>
+        requires own { IsSeatOf self.now from.old }
+        ensures same { IsSeatAt from.old from.new }
+        ensures made { view_of from.new ≡ with_made (view_of result).number (view_of from.old) }
+        ensures own { IsSeatOf self.now result }
+        ensures newcomer { view_of result ≡ made_with (view_of result).number (view_of from.old) }
+    {
+        let mine = &mut from.seat;
+        // By the old seat, so that what it has made is known of it, and a seat that is lost is missed in the end.
+        self.draw_number(rt, mine);
+        let seat = self.table.shared.split_seat::<ShareView>(mine);
+        TurnSeat { seat }
+    }
+
+    /// Takes in what another seat has seen, which ends there: its history is kept beside this seat's own, and its number and its own
+    /// entries stand with those of the seats that have ended.
     pub fn rejoin(&self, seat: &mut BookSeat<B>, ended: BookSeat<B>)
         requires own { IsSeatOf self.now seat.old × IsSeatOf self.now ended }
-        ensures same { IsSameSeat seat.old seat.new }
+        ensures same { IsSeatAt seat.old seat.new }
         ensures rejoined { view_of seat.new ≡ rejoined (view_of seat.old) (view_of ended) }
     {
         let TurnSeat { seat: ended } = ended;
@@ -229,7 +262,7 @@ impl<B: Book> SharedBook<B> {
         let TurnSeat { seat: mut mine } = seat;
         let ticket = self.draw(rt, &mut mine);
         self.wait(rt, &mut mine, ticket);
-        let TurnTable { table } = self;
+        let TurnTable { table, bells: _ } = self;
         let mut closed = table.close_with(mine);
         let slot = closed.take(0);
         closed.free();

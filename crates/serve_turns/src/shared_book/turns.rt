@@ -70,28 +70,28 @@ impl<B, E, R> Play<Slot<B, E, R>, View<B, E, R>> for PassTurn {
 /// Reads the front in no turn.
 pub struct PeekAtFront;
 
-impl<B, E, R> Play<Slot<B, E, R>, View<B, E, R>> for PeekAtFront {
+impl<B: Book> Play<Slot<B, B::Event, B::Reply>, View<B, B::Event, B::Reply>> for PeekAtFront {
     ghost use Rattle.serve_turns.specs.shared_book.Turns.{front_peeked};
 
-    ghost then = { front_peeked };
+    ghost then = { front_peeked B.steps };
 }
 
-/// Raises the word of seats, tried until it holds.
-pub struct NumberSeat;
+/// Raises the word of seats, tried until it holds: the number found is for a seat that is to be made.
+pub struct DrawNumber;
 
-impl<B, E, R> Play<Slot<B, E, R>, View<B, E, R>> for NumberSeat {
-    ghost use Rattle.serve_turns.specs.shared_book.Turns.{seat_numbered};
+impl<B, E, R> Play<Slot<B, E, R>, View<B, E, R>> for DrawNumber {
+    ghost use Rattle.serve_turns.specs.shared_book.Turns.{number_drawn};
 
-    ghost then = { seat_numbered };
+    ghost then = { number_drawn };
 }
 
 /// Makes a seat from another, and joins one to another.
 pub struct ShareView;
 
 impl<B, E, R> Split<View<B, E, R>> for ShareView {
-    ghost use Rattle.serve_turns.specs.shared_book.Turns.{newcomer};
+    ghost use Rattle.serve_turns.specs.shared_book.Turns.{newcomer, parted};
 
-    ghost left = { λ view. view };
+    ghost left = { parted };
 
     ghost right = { newcomer };
 }

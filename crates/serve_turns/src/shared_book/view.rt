@@ -42,6 +42,12 @@ pub struct View<B, E, R> {
     pub own: LinkedList<(u64, Entry<E, R>)>,
     /// Histories of seats that were joined to this one.
     pub kept: LinkedList<LinkedList<Entry<E, R>>>,
+    /// The seats that were joined to this one: the number of each, and its own entries.
+    pub ended: LinkedList<(u64, LinkedList<(u64, Entry<E, R>)>)>,
+    /// The number that was drawn for a seat which is about to be made from this one.
+    pub drawn: Option<u64>,
+    /// The numbers of all seats that were made from this one, or from one that was joined to it.
+    pub made: LinkedList<u64>,
 }
 
 /// What lies in the slot. A step on the table can tell nothing but what lies there, so the event and the

@@ -1,4 +1,9 @@
-use Rattle.std.proofs.Common.{◌+◌, [], ◌∷◌, ◌++◌}
+use Rattle.std.proofs.Common.{◌≡◌, ◌+◌, [], ◌∷◌, ◌++◌, ◌∙◌, ap, arith, map, refl}
+use Rattle.std.proofs.lemmas.List.Elements.{All-push, All-same}
+use Rattle.std.specs.List.{All}
+use Rattle.serve_turns.specs.link_serving.Serving.{AreServed, IsNewSeat}
+use Rattle.serve_turns.specs.shared_book.Words.{view_of, IsSeatOf}
+use Rattle.serve_turns.proofs.link_serving.Rolls.{at_once_served, new_seat, one_more_served, those_served}
 use Rattle.serve_turns.proofs.link_threads.Covering.{begun_covered, ended_covered, same_covered}
 use Rattle.serve_turns.proofs.link_threads.crew.begin.Goals as goal
 
@@ -27,3 +32,50 @@ returns-in-Err-clause-covered g c = λ was.
     ended_covered (λ r. r.place) c.args.place crew.roll.ends.items c.entered.new.roll.ends.items running
     (λ within. (c.in-Err.end, e.told within)) e.others e.count
     (same_covered (λ r. r.place) c.args.place crew.roll.ends.items crew.running.items running c.reserve.ensures.items was)
+
+pub returns-in_err-reserve-clause-served : goal.returns-in_err-reserve-clause-served
+returns-in_err-reserve-clause-served g c = λ was.
+    let crew = c.args.crew.now in
+    those_served (g.S.Service.serves c.args.service.now) (λ r. (r.place, (view_of r.handle.promise.seat.value).number)) crew.running.items
+    c.reserve.new.self.items c.args.place (c.args.place + 1) crew.roll.ends.items (view_of crew.roll.seat) c.reserve.ensures.items
+    (omega arith) was
+
+pub returns-in_ok-push-in-Ok-clause-served : goal.returns-in_ok-push-in-Ok-clause-served
+returns-in_ok-push-in-Ok-clause-served g c = λ was.
+    let crew = c.args.crew.now in
+    let child = c.in-Ok.child in
+    let e = c.in-Ok.ensures in
+    let n = (view_of c.seat-seat.result).number in
+    one_more_served (g.S.Service.serves c.args.service.now) (λ r. (r.place, (view_of r.handle.promise.seat.value).number))
+    crew.running.items c.reserve.new.self.items c.push.new.self.items child c.args.place n crew.roll.ends.items
+    (view_of crew.roll.seat) (view_of c.seat-seat.new.from) c.reserve.ensures.items c.in_ok-push-in-Ok.ensures.items
+    (λ i. (e.place i, (e.seat i).number)) c.seat-seat.ensures.made was
+
+pub returns-in_ok-push-in-Ok-clause-running : goal.returns-in_ok-push-in-Ok-clause-running
+returns-in_ok-push-in-Ok-clause-running g c =
+    let crew = c.args.crew.now in
+    let child = c.in-Ok.child in
+    let e = c.in-Ok.ensures in
+    let o = (view_of crew.roll.seat).opening in
+    All-same (λ r. IsSeatOf c.args.book.now r.handle.promise.seat.value × (r.handle.promise.service.value ≡ c.args.service.now)
+    × IsNewSeat o (view_of r.handle.promise.seat.value)) c.push.new.self.items (crew.running.items ++ child ∷ [])
+    (c.in_ok-push-in-Ok.ensures.items ∙ ap (λ l. l ++ child ∷ []) c.reserve.ensures.items)
+    (All-push (λ r. IsSeatOf c.args.book.now r.handle.promise.seat.value × (r.handle.promise.service.value ≡ c.args.service.now)
+    × IsNewSeat o (view_of r.handle.promise.seat.value)) crew.running.items child c.requires.running (
+      e.runs.0,
+      e.runs.1,
+      new_seat o (view_of c.seat-seat.result).number (view_of crew.roll.seat)
+          (view_of child.handle.promise.seat.value) (e.seat ∙ c.seat-seat.ensures.newcomer) refl,
+    ))
+
+pub returns-in-Err-clause-served : goal.returns-in-Err-clause-served
+returns-in-Err-clause-served g c = λ was.
+    let crew = c.args.crew.now in
+    let e = c.entered.ensures in
+    let running = c.reserve.new.self.items in
+    at_once_served (g.S.Service.serves c.args.service.now) crew.roll.ends.items c.entered.new.roll.ends.items c.args.place
+    (view_of c.seat-seat.result).number (view_of c.in-Err.seat).number (view_of crew.roll.seat) (view_of c.seat-seat.new.from)
+    (view_of c.entered.new.roll.seat) e.served (ap (λ x. x.1.0) c.in-Err.ensures.done.1) c.seat-seat.ensures.made
+    (map (λ r. (r.place, (view_of r.handle.promise.seat.value).number)) running)
+    (those_served (g.S.Service.serves c.args.service.now) (λ r. (r.place, (view_of r.handle.promise.seat.value).number)) crew.running.items
+    running c.args.place c.args.place crew.roll.ends.items (view_of crew.roll.seat) c.reserve.ensures.items (omega arith) was)

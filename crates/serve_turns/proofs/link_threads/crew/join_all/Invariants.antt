@@ -1,7 +1,7 @@
-use Rattle.std.proofs.Common.{◌≡◌, ℕ, length, vec_len}
+use Rattle.std.proofs.Common.{◌≡◌, ℕ, length, map, vec_len}
 use Rattle.std.specs.List.{All}
 use Rattle.serve_turns.specs.shared_book.Words.{view_of, IsSeatOf}
-use Rattle.serve_turns.specs.link_serving.Serving.{AreServed}
+use Rattle.serve_turns.specs.link_serving.Serving.{AreServed, IsNewSeat}
 use Rattle.serve_turns.specs.link_threads.Covering.{AreCovered}
 use Rattle.serve_turns.proofs.link_threads.crew.join_all.Given as goal
 
@@ -12,8 +12,14 @@ invariant-loop-child g l =
     × (length l.crew.roll.ends.items ≡ length l.initial.crew.roll.ends.items)
     × ((n : ℕ) → AreCovered (λ c. c.place) n l.initial.crew.roll.ends.items l.initial.crew.running.items
     → AreCovered (λ c. c.place) n l.crew.roll.ends.items l.crew.running.items)
-    × AreServed (g.S.Service.serves l.service) l.crew.roll.ends.items (view_of l.crew.roll.seat).kept
-    × All (λ c. IsSeatOf l.book c.handle.promise.seat.value × (c.handle.promise.service.value ≡ l.service)) l.crew.running.items
+    × ((n : ℕ) → AreServed (g.S.Service.serves l.service)
+    (map (λ c. (c.place, (view_of c.handle.promise.seat.value).number)) l.initial.crew.running.items) n
+    l.initial.crew.roll.ends.items (view_of l.initial.crew.roll.seat)
+    → AreServed (g.S.Service.serves l.service)
+    (map (λ c. (c.place, (view_of c.handle.promise.seat.value).number)) l.crew.running.items) n
+    l.crew.roll.ends.items (view_of l.crew.roll.seat))
+    × All (λ c. IsSeatOf l.book c.handle.promise.seat.value × (c.handle.promise.service.value ≡ l.service)
+    × IsNewSeat (view_of l.crew.roll.seat).opening (view_of c.handle.promise.seat.value)) l.crew.running.items
 
 abbrev pub decreases-loop-child : goal.decreases-loop-child
 decreases-loop-child g l = vec_len l.crew.running

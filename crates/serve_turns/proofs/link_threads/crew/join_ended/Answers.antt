@@ -1,4 +1,7 @@
-use Rattle.std.proofs.Common.{◌∙◌}
+use Rattle.std.proofs.Common.{◌≡◌, ◌∙◌, subst, sym}
+use Rattle.std.specs.List.{All}
+use Rattle.serve_turns.specs.link_serving.Serving.{IsNewSeat}
+use Rattle.serve_turns.specs.shared_book.Words.{view_of, IsSeatOf}
 use Rattle.serve_turns.proofs.link_threads.crew.join_ended.Goals as goal
 
 pub loop-preserved : goal.loop-preserved
@@ -9,6 +12,7 @@ loop-preserved g c =
       j.opening ∙ i.1,
       j.count ∙ i.2,
       (λ n was. j.covered n (i.3 n was)),
-      j.served,
-      j.running,
+      (λ n was. j.served n (i.4 n was)),
+      subst (λ o. All (λ r. IsSeatOf c.args.book.now r.handle.promise.seat.value × (r.handle.promise.service.value ≡ c.args.service.now)
+          × IsNewSeat o (view_of r.handle.promise.seat.value)) c.join_one.new.crew.running.items) (sym j.opening) j.running,
     )

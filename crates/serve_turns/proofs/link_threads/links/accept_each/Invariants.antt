@@ -1,7 +1,7 @@
-use Rattle.std.proofs.Common.{◌≡◌, ◌+◌, ◌<◌, ◌^◌, length}
+use Rattle.std.proofs.Common.{◌≡◌, ◌+◌, ◌<◌, ◌≤◌, ◌^◌, length, map}
 use Rattle.std.specs.List.{All}
 use Rattle.serve_turns.specs.shared_book.Words.{view_of, IsSeatOf}
-use Rattle.serve_turns.specs.link_serving.Serving.{AreServed}
+use Rattle.serve_turns.specs.link_serving.Serving.{AreServed, IsNewSeat}
 use Rattle.serve_turns.specs.link_threads.Covering.{AreCovered}
 use Rattle.serve_turns.proofs.link_threads.links.accept_each.Given as goal
 
@@ -11,8 +11,11 @@ invariant-loop-place g l =
     × ((view_of l.crew.roll.seat).opening ≡ (view_of l.initial.crew.roll.seat).opening)
     × (length l.crew.roll.ends.items ≡ length l.initial.crew.roll.ends.items)
     × AreCovered (λ c. c.place) l.place l.crew.roll.ends.items l.crew.running.items
-    × AreServed (g.S.Service.serves l.service) l.crew.roll.ends.items (view_of l.crew.roll.seat).kept
-    × All (λ c. IsSeatOf l.book c.handle.promise.seat.value × (c.handle.promise.service.value ≡ l.service)) l.crew.running.items
+    × AreServed (g.S.Service.serves l.service) (map (λ c. (c.place, (view_of c.handle.promise.seat.value).number)) l.crew.running.items)
+    l.place l.crew.roll.ends.items (view_of l.crew.roll.seat)
+    × All (λ c. IsSeatOf l.book c.handle.promise.seat.value × (c.handle.promise.service.value ≡ l.service)
+    × IsNewSeat (view_of l.crew.roll.seat).opening (view_of c.handle.promise.seat.value)) l.crew.running.items
     × (g.N.Net.faults l.net ≡ g.N.Net.faults l.initial.net)
     × (g.N.Net.listens_at l.net ≡ g.N.Net.listens_at l.initial.net)
     × (g.N.Net.accepted l.initial.net + l.place < 2 ^ 64 → g.N.Net.accepted l.net ≡ g.N.Net.accepted l.initial.net + l.place)
+    × (l.place ≤ l.count)

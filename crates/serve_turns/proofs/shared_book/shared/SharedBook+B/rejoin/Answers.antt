@@ -8,5 +8,5 @@ join_seat-requires g c = (
   c.requires.own.1,
   c.args.ended.empty,
   search rules,
-  joins g.B.Book.steps _ _ _ _ _ c.args.seat.now.idle c.args.ended.idle,
+  joins g.B.Book.steps _ _ _ _ _ c.args.seat.now.idle c.args.ended.idle c.args.ended.numbered c.args.ended.undrawn,
 )

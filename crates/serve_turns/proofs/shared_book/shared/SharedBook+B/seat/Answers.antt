@@ -1,14 +1,12 @@
-use Rattle.std.proofs.Common.{rules, ap, ◌∙◌, refl}
-use Rattle.serve_turns.proofs.shared_book.Seating.{splits, names}
+use Rattle.std.proofs.Common.{rules, ap, ◌∙◌, sym}
+use Rattle.serve_turns.specs.shared_book.Turns.{drew, newcomer, parted}
+use Rattle.serve_turns.proofs.shared_book.Seating.{splits}
 use Rattle.serve_turns.proofs.shared_book.shared.SharedBook+B.seat.Goals as goal
 
 pub split_seat-seat-requires : goal.split_seat-seat-requires
-split_seat-seat-requires g c = (c.requires.own, search rules, splits g.B.Book.steps _ _ _)
-
-pub compare_exchange-found-requires : goal.compare_exchange-found-requires
-compare_exchange-found-requires g c =
-    let e = c.loop.invariant.1 ∙ c.split_seat-seat.ensures.4 in (
-      c.loop.invariant.0 ∙ (c.split_seat-seat.ensures.3 ∙ c.requires.own),
+split_seat-seat-requires g c =
+    let e = c.draw_number.ensures.drawn in (
+      c.draw_number.ensures.same.0 ∙ c.requires.own,
       search rules,
-      names g.B.Book.steps _ _ _ _ _ _ (ap (λ m. m.0.stage) e) (ap (λ m. m.0.numbered) e) refl,
+      splits g.B.Book.steps _ _ c.draw_number.result _ (ap (λ m. m.0.stage) e ∙ c.args.from.now.idle) (ap (λ m. m.0.drawn) e),
     )

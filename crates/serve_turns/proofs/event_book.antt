@@ -1,0 +1,5 @@
+pub mod Places
+pub mod Settling
+pub mod Running
+pub mod Courses
+pub mod Answering

@@ -1,0 +1,12 @@
+use Rattle.std.proofs.Common.{ap}
+use Rattle.serve_turns.proofs.link_serving.Rolls.{at_once_served}
+use Rattle.serve_turns.proofs.link_serving.serving.serve_briefly.Goals as goal
+
+pub returns-clause-served : goal.returns-clause-served
+returns-clause-served g c = λ running was.
+    let roll = c.args.roll.now in
+    let to = c.serve-end.new.seat.seat.me.0 in
+    let e = c.entered.ensures in
+    at_once_served (g.S.Service.serves c.args.service.now) roll.ends.items c.entered.new.roll.ends.items c.args.place
+    c.seat-seat.result.seat.me.0.number to.number roll.seat.seat.me.0 c.seat-seat.new.from.seat.me.0 c.entered.new.roll.seat.seat.me.0 e.served
+    (ap (λ x. x.1.0) c.serve-end.ensures.same.2) c.seat-seat.ensures.made running was
