@@ -31,7 +31,7 @@ module _ (written written' : Option (List ℕ)) (sink sink' : ℕ) (bound : Opti
 all_ended : (bound : Option Bound) (ends : List (Option Ended)) (links links' : ℕ) → length ends ≡ serving_listed bound
     → HaveEnds (serving_accepted bound) ends → (links + serving_accepted bound < 2 ^ 64 → links'
     ≡ links + serving_accepted bound) → AllEnded bound ends links links'
-all_ended None ends links links' long have more = tt
+all_ended None ends links links' long have more = more
 all_ended (Some bound) ends links links' long have more = (long, have, more)
 
 -- what is told of as many links as are accepted

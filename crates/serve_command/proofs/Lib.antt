@@ -2,3 +2,8 @@ pub mod Blank
 pub mod Counted
 pub mod Rises
 pub mod Still
+pub mod nonces
+pub mod Books
+pub mod Connections
+pub mod Wholes
+pub mod Alones

@@ -1,16 +1,17 @@
 -- What holds of a book that opens with a server, and of an ending, at equal values.
 use Rattle.std.proofs.Common.{◌≡◌, ℕ, List, Bool, inl, inr, ap, ◌∙◌, subst}
 use Rattle.std.specs.Prelude.{Option}
+use Rattle.serve_turns.specs.event_book.History.{Stand}
 use Rattle.serve_turns.specs.shared_book.Turns.{first_view}
 use Rattle.serve_turns.specs.declared.shared_book.view.View.{View}
-use Rattle.serve_turns.specs.declared.connection_turns.turn.Told.{Told}
-use Rattle.serve_turns.specs.declared.connection_turns.turn.Turn.{Turn}
+use Rattle.serve_turns.specs.declared.event_book.turn.Answer.{Answer}
+use Rattle.serve_turns.specs.declared.event_book.turn.Turn.{Turn}
 use Rattle.serve_turns.specs.declared.link_threads.links.Halt.{Halt}
 use Rattle.base_outside.specs.whole_texts.Outside.{HasOutsideFailed}
 use Rattle.base_outside.specs.declared.whole_texts.read_error.ReadError.{ReadError}
 use Rattle.base_outside.specs.declared.whole_texts.read_error.ReadError.TheVariants as whys
 use Rattle.serve_command.specs.declared.server_settings.words.Bound.{Bound}
-use Rattle.serve_command.specs.declared.server_book.book.ServerBook.{ServerBook}
+use Rattle.serve_command.specs.Steps.{ServerBook}
 use Rattle.server_core.specs.declared.server.Server.{Server}
 use Rattle.serve_turns.specs.declared.link_serving.ended.Ended.{Ended}
 use Rattle.base_outside.specs.streams.Faults.{Rose}
@@ -20,7 +21,7 @@ use Rattle.serve_command.specs.declared.ending.Ending.{Ending}
 
 module _ {D : Type 0} (server : Server D) where
   abbrev Knows : Type 0
-  Knows = View (ServerBook D) Turn Told
+  Knows = View (ServerBook D) Turn Answer
 
   pub opens_first : (first : ServerBook D) (v : Knows) → v ≡ first_view first → first.server.server ≡ server → ServingOpens server v
   opens_first first v same is = record { opening = first; begins = is; is = ap (λ (x : Knows). x.opening) same }
@@ -45,14 +46,14 @@ failed_rose old new why is failed = subst (λ (x : ReadError). HasOutsideFailed 
 -- a net that was told something serves as it did before, where neither its place nor its counts moved
 pub serves_still : {D N : Type 0} (told : Type 0) (seen : D → List ℕ) (may_leave : D → List ℕ → Type 0) (faults : D → ℕ)
     (listens_at : N → Option Address) (links : N → ℕ) (net_faults : N → ℕ) (before : ℕ) (at : Address) (bound : Option Bound)
-    (server : Server D) (written written' : Option (List ℕ)) (sink sink' : ℕ) (net heard net' : N) (disk' : Option D) (ending : Ending)
+    (server : Server D) (from : Stand) (written written' : Option (List ℕ)) (sink sink' : ℕ) (net heard net' : N) (disk' : Option D) (ending : Ending)
     → listens_at heard ≡ listens_at net → links heard ≡ links net → net_faults heard ≡ net_faults net
-    → Serves told seen may_leave faults listens_at links net_faults before at bound server written written' sink sink' heard net' disk'
+    → Serves told seen may_leave faults listens_at links net_faults before at bound server from written written' sink sink' heard net' disk'
     ending
-    → Serves told seen may_leave faults listens_at links net_faults before at bound server written written' sink sink' net net' disk' ending
-serves_still told seen may_leave faults listens_at links net_faults before at bound server written written' sink sink' net heard net' disk'
+    → Serves told seen may_leave faults listens_at links net_faults before at bound server from written written' sink sink' net net' disk' ending
+serves_still told seen may_leave faults listens_at links net_faults before at bound server from written written' sink sink' net heard net' disk'
     ending place accepted calm (inl h) =
     inl (subst (λ (n : ℕ). Rose n (net_faults net')) calm h.0, h.1, h.2 ∙ place, h.3)
-serves_still told seen may_leave faults listens_at links net_faults before at bound server written written' sink sink' net heard net' disk'
+serves_still told seen may_leave faults listens_at links net_faults before at bound server from written written' sink sink' net heard net' disk'
     ending place accepted calm (inr h) =
     inr (h.0, h.1, h.2 ∙ accepted, h.3 ∙ calm, h.4)

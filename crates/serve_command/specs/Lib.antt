@@ -1,6 +1,9 @@
-pub mod server_book
+pub mod Alone
+pub mod Guid
+pub mod Steps
 pub mod server_settings
 pub mod Printing
 pub mod Opening
 pub mod Serving
 pub mod Ends
+pub mod Whole

@@ -2,19 +2,21 @@
 use Rattle.std.specs.Prelude.{◌≡◌, ◌⊎◌, ℕ, ◌+◌, ◌%◌, ◌^◌, ◌<◌, ◌==◌, nat_lt, Bool, true, false, ◌&&◌, ◌||◌, List, [], ◌∷◌, length, is_some}
 use Rattle.std.specs.Prelude.{Option, Some, None}
 use Rattle.serve_turns.specs.connection_turns.Serving as turns
-use Rattle.serve_turns.specs.declared.connection_turns.turn.Told.{Told}
-use Rattle.serve_turns.specs.declared.connection_turns.turn.Turn.{Turn}
+use Rattle.serve_turns.specs.declared.event_book.turn.Answer.{Answer}
+use Rattle.serve_turns.specs.declared.event_book.turn.Turn.{Turn}
 use Rattle.serve_turns.specs.link_threads.Covering.{HaveEnds}
 use Rattle.serve_turns.specs.declared.link_threads.links.Halt.{Halt}
 use Rattle.serve_turns.specs.declared.link_threads.links.Halt.TheVariants as halts
 use Rattle.journal.specs.declared.disk_journal.journal.JournalError.{JournalError}
 use Rattle.serve_command.specs.declared.server_settings.words.Bound.{Bound}
 use Rattle.serve_command.specs.declared.server_settings.words.Said.{Said}
-use Rattle.serve_command.specs.server_book.Steps.{Steps}
-use Rattle.serve_command.specs.declared.server_book.book.ServerBook.{ServerBook}
+use Rattle.serve_command.specs.Guid.{server_guid}
+use Rattle.serve_command.specs.Steps.{ServerBook, server_steps}
+use Rattle.serve_command.specs.Whole.{WasServedWhole, first_stand}
+use Rattle.serve_turns.specs.event_book.History.{Stand}
 use Rattle.server_recovery.specs.server_start.Begun.{ServerBegins}
 use Rattle.server_checks.specs.declared.tables.Config.{Config}
-use Rattle.server_core.specs.Shown.{disk_of, state_of, stopped_of}
+use Rattle.server_core.specs.Shown.{config_of, disk_of, state_of, stopped_of}
 use Rattle.server_core.specs.declared.server.Server.{Server}
 use Rattle.server_recovery.specs.restart_tables.Restart.{RestartRefused}
 use Rattle.serve_turns.specs.link_serving.Lines.{ended_lines}
@@ -36,15 +38,15 @@ abbrev pub serving_listed : Option Bound → ℕ
 serving_listed None = 0
 serving_listed (Some bound) = bound.count
 
--- how many are accepted: without a count as many as can be counted
+-- how many are accepted: without a count as many as have numbers of their own
 abbrev pub serving_accepted : Option Bound → ℕ
-serving_accepted None = 18446744073709551615
+serving_accepted None = 4294967295
 serving_accepted (Some bound) = bound.count
 
--- As many were accepted as the words say, and of each it is told how it ended. A net's count of links that it accepted, before and behind,
--- stands still at 2^64 - 1.
+-- As many were accepted as the words say, and of each it is told how it ended; without a count as many as have numbers. A net's count of links
+-- that it accepted, before and behind, stands still at 2^64 - 1.
 abbrev pub AllEnded : Option Bound → List (Option Ended) → (links links' : ℕ) → Type 0
-AllEnded None ends links links' = Unit {0}
+AllEnded None ends links links' = links + 4294967295 < 2 ^ 64 → links' ≡ links + 4294967295
 AllEnded (Some bound) ends links links' =
     (length ends ≡ bound.count) × HaveEnds bound.count ends × (links + bound.count < 2 ^ 64 → links' ≡ links + bound.count)
 
@@ -90,65 +92,68 @@ module _ (written written' : Option (List ℕ)) (sink sink' : ℕ) where
 
 module _ {B : Type 0} where
   -- the link of this number was served by a seat of the book, and ended so
-  abbrev pub serves_link : ℕ → View B Turn Told → Ended → View B Turn Told → Type 0
-  serves_link number from end to = turns.Serves (number % 2 ^ 32) from end to
+  abbrev pub serves_link : ℕ → View B Turn Answer → Ended → View B Turn Answer → Type 0
+  serves_link number from end to = turns.Serves server_guid (number % 2 ^ 32) from end to
 
-  -- each link of which an end is told was served so, by a seat whose history is one of those that this one keeps
-  abbrev pub AreServedBy : View B Turn Told → List (Option Ended) → Type 0
-  AreServedBy view ends = AreServed serves_link ends view.kept
+  -- Links below a count were served so, and none is being served: each by a seat of its own, which this seat took in with its number and all
+  -- its entries. Of some it is told how they ended.
+  abbrev pub AreServedBy : ℕ → View B Turn Answer → List (Option Ended) → Type 0
+  AreServedBy count view ends = AreServed serves_link [] count ends view
 
 -- a seat of a book that opens with this server
-pub record ServingOpens {D : Type 0} (server : Server D) (view : View (ServerBook D) Turn Told) : Type 0 where
+pub record ServingOpens {D : Type 0} (server : Server D) (view : View (ServerBook D) Turn Answer) : Type 0 where
   pub opening : ServerBook D
   pub begins : opening.server.server ≡ server
   pub is : view.opening ≡ Some opening
 
 module _ {D N : Type 0} (told : Type 0) (seen : D → List ℕ) (may_leave : D → List ℕ → Type 0) (faults : D → ℕ)
     (listens_at : N → Option Address) (links : N → ℕ) (net_faults : N → ℕ) where
-  -- Links were served, each by a seat of one book, whose history leads from the server that began to the one that was there in the end.
-  -- Of each link of which an end is told the turns that its seat took are in that history. The disk is that of the last server. The net
-  -- listens where it did. Where it ended with 0, and the words say a count, as many were accepted, and of each an end is told.
-  pub record HasServed (before : ℕ) (bound : Option Bound) (server : Server D) (written written' : Option (List ℕ)) (sink sink' : ℕ)
+  -- Links were served, each by a seat of one book, whose history leads from the server that began, and stood there then, to the one that was
+  -- there in the end. The disk is that of the last server. The net listens where it did. Where it ended with 0 as many links were accepted as
+  -- the words say, and of each an end is told, or as many as have numbers.
+  pub record HasServed (before : ℕ) (bound : Option Bound) (server : Server D) (from : Stand) (written written' : Option (List ℕ)) (sink sink' : ℕ)
       (net net' : N) (disk' : Option D) (ending : Ending) : Type 0 where
-    pub view : View (ServerBook D) Turn Told
+    pub view : View (ServerBook D) Turn Answer
     pub opens : ServingOpens server view
     pub halt : Halt
     pub ends : List (Option Ended)
     pub last : ServerBook D
     pub net_failed : halt ≡ halts.NetFault → Rose (net_faults net) (net_faults net')
     pub listens : listens_at net' ≡ listens_at net
-    pub served : AreServedBy view ends
-    pub closes : Closes (Steps told seen may_leave faults) view last
+    pub served : AreServedBy (serving_accepted bound) view ends
+    pub closes : Closes (server_steps told seen may_leave) view last
     pub disk_is : disk' ≡ Some (disk_of last.server.server)
     pub rose : has_failed faults before last ≡ true → Rose before (faults (disk_of last.server.server))
     pub counted : ending ≡ Done → AllEnded bound ends (links net) (links net')
+    pub whole : WasServedWhole told seen may_leave (serving_accepted bound) opens.opening from ends last
     pub tells : Behind written written' sink sink' bound halt ends (has_failed faults before last) ending
 
   -- a net listens
-  abbrev pub ServesOn : ℕ → Option Bound → Server D → (written written' : Option (List ℕ)) → (sink sink' : ℕ) → (net net' : N) → Option D
+  abbrev pub ServesOn : ℕ → Option Bound → Server D → Stand → (written written' : Option (List ℕ)) → (sink sink' : ℕ) → (net net' : N) → Option D
       → Ending → Type 0
-  ServesOn before bound server written written' sink sink' net net' disk' ending =
+  ServesOn before bound server from written written' sink sink' net net' disk' ending =
       (IsQuiet written written' sink sink' Memory ending × (net' ≡ net) × (disk' ≡ None))
-      ⊎ HasServed before bound server written written' sink sink' net net' disk' ending
+      ⊎ HasServed before bound server from written written' sink sink' net net' disk' ending
 
   -- It was told to listen at an address, which may fail. Then the disk is given back, and the net listens where it did.
-  abbrev pub Serves : ℕ → Address → Option Bound → Server D → (written written' : Option (List ℕ)) → (sink sink' : ℕ) → (net net' : N)
+  abbrev pub Serves : ℕ → Address → Option Bound → Server D → Stand → (written written' : Option (List ℕ)) → (sink sink' : ℕ) → (net net' : N)
       → Option D → Ending → Type 0
-  Serves before at bound server written written' sink sink' net net' disk' ending =
+  Serves before at bound server from written written' sink sink' net net' disk' ending =
       (Rose (net_faults net) (net_faults net') × IsQuiet written written' sink sink' NetFailed ending
       × (listens_at net' ≡ listens_at net) × (disk' ≡ Some (disk_of server)))
       ⊎ ((ready : N) × (listens_at ready ≡ Some at) × (links ready ≡ links net) × (net_faults ready ≡ net_faults net)
-      × ServesOn before bound server written written' sink sink' ready net' disk' ending)
+      × ServesOn before bound server from written written' sink sink' ready net' disk' ending)
 
   -- it was told at most what no count and no place of a net shows
   abbrev pub IsNetUnused : (net net' : N) → Type 0
   IsNetUnused net net' = (listens_at net' ≡ listens_at net) × (links net' ≡ links net) × (net_faults net' ≡ net_faults net)
 
-  -- the disk refuses, by its cause, and the net isn't used; or a server began on what the disk holds
+  -- The disk refuses, by its cause, and the net isn't used; or a server began on what the disk holds, with this configuration.
   abbrev pub Starts : Said → Config → D → (written written' : Option (List ℕ)) → (sink sink' : ℕ) → (net net' : N) → Option D → Ending
       → Type 0
   Starts said config disk written written' sink sink' net net' disk' ending =
       ((error : JournalError) × RestartRefused told seen faults disk error × IsUnbegun written written' sink sink' error ending
       × IsNetUnused net net')
-      ⊎ ((server : Server D) × ServerBegins told seen may_leave faults config disk (state_of server)
-      × Serves (faults disk) said.address said.bound server written written' sink sink' net net' disk' ending)
+      ⊎ ((server : Server D) × (begins : ServerBegins told seen may_leave faults config disk (state_of server))
+      × (config_of server ≡ config)
+      × Serves (faults disk) said.address said.bound server (first_stand config begins.2 begins.3) written written' sink sink' net net' disk' ending)

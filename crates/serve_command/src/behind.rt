@@ -8,7 +8,7 @@ use crate::lines::ended;
 use crate::server_book::{Book, ServerBook};
 use crate::server_settings::Bound;
 use base_outside::{Disk, Sink};
-use serve_turns::{Ended, Halt};
+use serve_turns::{Ended, EventBook, Halt};
 use std::alloc::Global;
 
 /// The disk of a server that is no more, and whether the server stopped since a call of the disk failed.
@@ -30,7 +30,7 @@ pub(crate) fn left_of<D: Disk>(last: ServerBook<D>, before: u64) -> Left<D>
     ensures failed { result.failed ≡ has_failed D.faults before last }
     ensures disk { result.disk ≡ disk_of last.server.server }
 {
-    let ServerBook { server } = last;
+    let EventBook { alloc: _, server } = last;
     let Book { alloc: _, server } = server;
     let stopped = server.stopped().is_some();
     let disk = server.stop();

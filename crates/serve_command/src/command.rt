@@ -2,7 +2,9 @@
 ghost use Rattle.std.specs.Prelude.{◌≡◌, IfOk, None, length, replicate};
 ghost use Rattle.serve_turns.specs.shared_book.Seats.{Closes};
 ghost use Rattle.serve_turns.specs.shared_book.Words.{view_of, IsSeatOf};
-ghost use Rattle.serve_command.specs.server_book.Steps.{Steps};
+ghost use Rattle.serve_command.specs.Steps.{server_steps};
+ghost use Rattle.serve_command.specs.Whole.{BeginsAt};
+ghost use Rattle.serve_turns.specs.event_book.History.{Stand};
 ghost use Rattle.serve_command.specs.Ends.{ServingEnds};
 ghost use Rattle.server_core.specs.declared.server.Server.{Server};
 ghost use Rattle.serve_command.specs.Serving.{AreServedBy, HasServed, ServingOpens, Serves, ServesOn, Starts};
@@ -15,13 +17,16 @@ use crate::server_book::{Book, Server, ServerBook};
 use crate::server_settings::{Bound, Said, Setup};
 use base_outside::{Clock, Disk, Failed, Net, Sink, Source};
 use rand_core::Rng;
-use serve_turns::{BookSeat, Connections, Ended, Roll, Served, SharedBook, serve_links};
+use serve_turns::{BookSeat, Connections, Ended, EventBook, Roll, Served, SharedBook, serve_links};
 use std::alloc::{AllocError, Global};
 use std::sync::{Mutex, Wait};
 use std::thread::Threads;
 
 /// ServerGuid
 const GUID: [u8; 16] = *b"smb311-server-01";
+
+/// How many links can have numbers of their own, from 1 on: a connection's number has 32 bits.
+const LINKS_OF_OWN_NUMBER: usize = 4_294_967_295;
 
 /// How the command ended, with the net, and the disk where it was not given up.
 #[derive(Drop)]
@@ -32,7 +37,7 @@ pub struct Finished<N, D> {
 }
 
 /// Reads settings from a source, begins a server on what the disk holds, and serves the connections that a net accepts at an address, each
-/// on a thread of its own; without end, or until so many were accepted and have ended, which are told then. It prints nothing before it
+/// on a thread of its own; until so many were accepted and have ended, which are told then, or as many as have numbers of their own. It prints nothing before it
 /// ends. Each ending has its cause: what the words don't allow is judged before, then the source, the settings, the disk and the net.
 pub fn serve<W, S, O, D, N, C, R>(
     rt: &W,
@@ -117,7 +122,8 @@ fn none_ended(alloc: Global, count: usize) -> Result<Vec<Option<Ended>>, AllocEr
 fn first_book<D: Disk>(alloc: Global, server: Server<D>) -> ServerBook<D>
     ensures { result.server.server ≡ server }
 {
-    ServerBook {
+    EventBook {
+        alloc,
         server: Book { alloc, server },
     }
 }
@@ -129,7 +135,7 @@ fn closed<W: Wait, D: Disk>(
     seat: BookSeat<ServerBook<D>>,
 ) -> ServerBook<D>
     requires { IsSeatOf book seat }
-    ensures { Closes (Steps D.told D.seen D.may_leave D.faults) (view_of seat) result }
+    ensures { Closes (server_steps D.told D.seen D.may_leave) (view_of seat) result }
 {
     book.close(rt, seat)
 }
@@ -142,7 +148,7 @@ fn opened<D: Disk + Drop>(
 ) -> Result<(SharedBook<ServerBook<D>>, Roll<ServerBook<D>, Ended>), AllocError>
     ensures own { IfOk result (λ r. IsSeatOf r.0 r.1.seat) }
     ensures opens { IfOk result (λ r. ServingOpens server (view_of r.1.seat)) }
-    ensures served { IfOk result (λ r. AreServedBy (view_of r.1.seat) r.1.ends.items) }
+    ensures served { IfOk result (λ r. AreServedBy 0 (view_of r.1.seat) r.1.ends.items) }
     ensures room { IfOk result (λ r. length r.1.ends.items ≡ count) }
 {
     let ends = none_ended(alloc, count)?;
@@ -168,7 +174,7 @@ fn accepted(bound: Option<Bound>) -> usize
 {
     match bound {
         Some(bound) => bound.count,
-        None => usize::MAX,
+        None => LINKS_OF_OWN_NUMBER,
     }
 }
 
@@ -191,7 +197,8 @@ where
     N: Net + Drop,
     C: Clock + Drop + Send,
     R: Rng + Drop + Send,
-    ensures { Serves D.told D.seen D.may_leave D.faults N.listens_at N.accepted N.faults before said.now.address said.now.bound server
+    ensures { (from : Stand) → BeginsAt D.told D.seen D.may_leave server from
+        → Serves D.told D.seen D.may_leave D.faults N.listens_at N.accepted N.faults before said.now.address said.now.bound server from
         (O.written sink.old) (O.written sink.new) (O.faults sink.old) (O.faults sink.new) net result.net result.disk result.ending }
 {
     match net.listen(said.address) {
@@ -227,7 +234,8 @@ where
     N: Net + Drop,
     C: Clock + Drop + Send,
     R: Rng + Drop + Send,
-    ensures { ServesOn D.told D.seen D.may_leave D.faults N.listens_at N.accepted N.faults before said.now.bound server
+    ensures { (from : Stand) → BeginsAt D.told D.seen D.may_leave server from
+        → ServesOn D.told D.seen D.may_leave D.faults N.listens_at N.accepted N.faults before said.now.bound server from
         (O.written sink.old) (O.written sink.new) (O.faults sink.old) (O.faults sink.new) net result.net result.disk result.ending }
 {
     let count = listed(said.bound);
@@ -266,11 +274,11 @@ where
     C: Clock + Drop + Send,
     R: Rng + Drop + Send,
     requires own { IsSeatOf book roll.seat }
-    requires served { AreServedBy (view_of roll.seat) roll.ends.items }
+    requires served { AreServedBy 0 (view_of roll.seat) roll.ends.items }
     requires room { length roll.ends.items ≡ serving_listed said.now.bound }
-    ensures { (server : Server D) → ServingOpens server (view_of roll.seat) → HasServed D.told D.seen D.may_leave
-        D.faults N.listens_at N.accepted
-        N.faults before said.now.bound server (O.written sink.old) (O.written sink.new) (O.faults sink.old) (O.faults sink.new) net
+    ensures { (server : Server D) (from : Stand) → ServingOpens server (view_of roll.seat)
+        → BeginsAt D.told D.seen D.may_leave server from → HasServed D.told D.seen D.may_leave D.faults N.listens_at N.accepted
+        N.faults before said.now.bound server from (O.written sink.old) (O.written sink.new) (O.faults sink.old) (O.faults sink.new) net
         result.net result.disk result.ending }
 {
     let outside = Connections {

@@ -4,8 +4,10 @@
 //! What `serve` does: settings from a source, a server on a disk, and connections from a net, each on a thread of its own.
 #![tactic(auto)]
 
+mod alone;
 mod behind;
 mod command;
+mod due;
 mod ending;
 mod lines;
 mod opening;
@@ -13,7 +15,9 @@ mod printing;
 mod server_book;
 mod server_settings;
 
+pub use alone::alone_law;
 pub use command::{Finished, serve, serve_with};
+pub use due::due_law;
 pub use ending::Ending;
 pub use opening::settled;
 pub use printing::usage;

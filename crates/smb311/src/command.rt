@@ -4,4 +4,5 @@ mod serving;
 mod top;
 mod words;
 
+pub use serving::Ran;
 pub use top::smb311;

@@ -7,7 +7,7 @@
 
 mod command;
 
-use crate::command::smb311;
+use crate::command::{Ran, smb311};
 use base_machine::{JournalFile, Shared, StdClock, StdNet, StdSink, StdSource};
 use rand_chacha::ChaCha20Rng;
 use rand_core::SeedableRng;
@@ -60,7 +60,7 @@ where
     let disk = JournalFile::new(rt, host, &shared);
     let (net, clock) = (StdNet::new(rt, &shared), StdClock::new(rt));
     let random = ChaCha20Rng::from_seed(seed);
-    let status = smb311(
+    let ran = smb311(
         rt,
         host.alloc(),
         words,
@@ -71,6 +71,12 @@ where
         clock,
         random,
     );
+    // Nothing listens any more when the end is told.
+    let Ran {
+        status,
+        net: _,
+        disk: _,
+    } = ran;
     shared.tell_end(rt, status);
     status
 }

@@ -79,3 +79,56 @@ fn two_links_meet(rt: HostRuntime) -> Result<(), Fail> {
     );
     Ok(())
 }
+
+// Makes a link, says NEGOTIATE on it, waits for the answer, and ends it.
+fn answered_alone<N: Net>(net: &mut N, message: &[u8]) -> Result<bool, Failed> {
+    let mut link = net.connect(AT)?;
+    link.write(message)?;
+    is_answered(&mut link)
+}
+
+// The first link says nothing until three more have come, each behind one that has ended.
+fn come_behind_ended<N: Net + Drop>(
+    mut net: N,
+    message: &[u8],
+) -> Result<(bool, [bool; 3]), Failed> {
+    let mut first = net.connect(AT)?;
+    let second = answered_alone(&mut net, message)?;
+    let third = answered_alone(&mut net, message)?;
+    let fourth = answered_alone(&mut net, message)?;
+    first.write(message)?;
+    Ok((is_answered(&mut first)?, [second, third, fourth]))
+}
+
+// A body that forgets a connection behind which a third, or a fourth, was accepted leaves its line out.
+#[test]
+fn a_third_and_a_fourth_link_come_behind_ended_ones(rt: HostRuntime) -> Result<(), Fail> {
+    let alloc = rt.alloc();
+    let message = hex::decode(alloc, NEGOTIATE)?;
+    let message = message.as_slice();
+    let disk = MemDisk::new(alloc, Bytes::new(alloc), Bytes::new(alloc))?;
+    let (ours, theirs) = MemNet::new(&rt, alloc, 4, Bytes::new(alloc), Bytes::new(alloc))?;
+    let (served, came) = thread::join(
+        &rt,
+        || served_alone(&rt, alloc, 4, disk, ours),
+        || come_behind_ended(theirs, message),
+    );
+    let Outcome {
+        ending,
+        sink,
+        disk: _disk,
+    } = served?;
+    assert_eq!(rt; came, Ok((true, [true; 3])));
+    assert_eq!(rt; ending as u8, 0);
+    assert_eq!(rt;
+        sink.bytes(),
+        concat!(
+            "INFO connection 1 closed\n",
+            "INFO connection 2 closed\n",
+            "INFO connection 3 closed\n",
+            "INFO connection 4 closed\n"
+        )
+        .as_bytes()
+    );
+    Ok(())
+}

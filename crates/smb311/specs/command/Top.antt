@@ -27,19 +27,14 @@ serve_status Memory = 8
 serve_status NoJournal = 9
 serve_status JournalFull = 10
 
--- Of source and sink it is told how often they had failed, before and behind, of a source also what it had left, and of
--- a sink what it held.
+-- Of source and sink it is told how often they had failed, before and behind, of a source also what it had left, of a sink what it held, and of
+-- net and disk what is left of them.
 module _ {D N : Type 0} (told : Type 0) (seen : D → List ℕ) (may_leave : D → List ℕ → Type 0) (faults : D → ℕ)
-    (listens_at : N → Option Address) (links : N → ℕ) (net_faults : N → ℕ) (disk : D) (net : N) (left left' : Option (List ℕ))
-    (source source' : ℕ) (written written' : Option (List ℕ)) (sink sink' : ℕ) where
-  -- the command ended so, with the net and the disk that it left
-  abbrev pub HasEnded : Said → Ending → Type 0
-  HasEnded said ending = (net' : N) × (disk' : Option D)
-      × ServingEnds told seen may_leave faults listens_at links net_faults said disk left left' source source' written
-      written' sink sink' net net'
-      disk' ending
-
-  -- by what the words say: where that is nothing, the usage is printed, and the source is as it was
+    (listens_at : N → Option Address) (links : N → ℕ) (net_faults : N → ℕ) (disk : D) (net : N) (disk' : Option D) (net' : N)
+    (left left' : Option (List ℕ)) (source source' : ℕ) (written written' : Option (List ℕ)) (sink sink' : ℕ) where
+  -- by what the words say: where that is nothing, the usage is printed, and source, net and disk are as they were
   abbrev pub Serves : Option Said → Ending → Type 0
-  Serves None ending = (left' ≡ left) × (source' ≡ source) × Prints written written' sink sink' usage_line Usage ending
-  Serves (Some said) ending = HasEnded said ending
+  Serves None ending = (left' ≡ left) × (source' ≡ source) × (net' ≡ net) × (disk' ≡ Some disk)
+      × Prints written written' sink sink' usage_line Usage ending
+  Serves (Some said) ending = ServingEnds told seen may_leave faults listens_at links net_faults said disk left left' source source'
+      written written' sink sink' net net' disk' ending

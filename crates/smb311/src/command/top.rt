@@ -1,5 +1,5 @@
 // The call.
-ghost use Rattle.std.specs.Prelude.{◌≡◌, map, true, false, None};
+ghost use Rattle.std.specs.Prelude.{◌≡◌, map, true, false, None, Some};
 ghost use Rattle.std.specs.String.{string_bytes};
 ghost use Rattle.rand_core.specs.Stream.{fill_bytes};
 ghost use Rattle.serve_command.specs.server_settings.Words.{said};
@@ -9,7 +9,7 @@ ghost use Rattle.drill_command.specs.TopCall.{CommandEnds, command_reads, status
 ghost use Rattle.drill_command.specs.declared.ending.Ending.{Ending};
 ghost use Rattle.smb311.specs.command.Top.{Serves, asks_server, serve_status};
 
-use crate::command::serving::served;
+use crate::command::serving::{Ran, served};
 use crate::command::words::asks_server;
 use base_outside::{Clock, Disk, Net, Sink, Source};
 use drill_command::smb311_drill;
@@ -24,7 +24,7 @@ use std::thread::Threads;
 /// the disk holds. Else it is `drill` or `gen`, and disk, net and clock aren't used. The status is 0 where that was done, 2 where the words
 /// are no command, 3 where a line is refused, 4 where the source failed, 5 where the sink did, 6 where the disk did, 7 where the net did, 8
 /// where memory ran out, 9 where the disk holds no journal, and 10 where the journal has no room for one more start. What is written goes
-/// to the sink alone.
+/// to the sink alone. Net and disk are given back.
 pub fn smb311<W, S, O, D, N, C, R>(
     rt: &W,
     alloc: Global,
@@ -35,7 +35,7 @@ pub fn smb311<W, S, O, D, N, C, R>(
     net: N,
     clock: C,
     random: R,
-) -> u8
+) -> Ran<N, D>
 where
     W: Wait + Threads + Sync,
     S: Source,
@@ -45,23 +45,29 @@ where
     C: Clock + Drop + Send,
     R: Rng + Drop + Send,
     // The first word is `serve`: the status is that of an ending of the server's command, and what that ending says holds.
-    ensures serves { asks_server (map string_bytes words.now) ≡ true → (ending : ServeEnding) × (result ≡ serve_status ending)
-        × Serves D.told D.seen D.may_leave D.faults N.listens_at N.accepted N.faults disk net (S.left source.old) (S.left source.new)
-        (S.faults source.old) (S.faults source.new) (O.written sink.old) (O.written sink.new) (O.faults sink.old) (O.faults sink.new)
-        (said (map string_bytes words.now)) ending }
+    ensures serves { asks_server (map string_bytes words.now) ≡ true → (ending : ServeEnding) × (result.status ≡ serve_status ending)
+        × Serves D.told D.seen D.may_leave D.faults N.listens_at N.accepted N.faults disk net result.disk result.net (S.left source.old)
+        (S.left source.new) (S.faults source.old) (S.faults source.new) (O.written sink.old) (O.written sink.new) (O.faults sink.old)
+        (O.faults sink.new) (said (map string_bytes words.now)) ending }
     // Another or none: the same of `drill` and `gen`, whose run draws from these bytes.
-    ensures drills { asks_server (map string_bytes words.now) ≡ false → (ending : Ending) × (result ≡ status_of ending)
+    ensures drills { asks_server (map string_bytes words.now) ≡ false → (ending : Ending) × (result.status ≡ status_of ending)
         × CommandEnds (asked_in (map string_bytes words.now)) (fill_bytes 32 (R.stream random)).0 (S.left source.old) (S.left source.new)
         (O.written sink.old) (O.written sink.new) (S.faults source.old) (S.faults source.new) (O.faults sink.old) (O.faults sink.new)
         ending }
     // The words are judged first: where they are neither the server's nor `drill`, nothing is read.
     ensures words_first { said (map string_bytes words.now) ≡ None → command_reads (asked_in (map string_bytes words.now)) ≡ false
         → source.new ≡ source.old }
+    // Where they aren't the server's, net and disk are left alone.
+    ensures unused { asks_server (map string_bytes words.now) ≡ false → (result.net ≡ net) × (result.disk ≡ Some disk) }
 {
     if asks_server(words) {
         served(rt, alloc, words, source, sink, disk, net, clock, random)
     } else {
-        drilled(alloc, words, source, sink, random)
+        Ran {
+            status: drilled(alloc, words, source, sink, random),
+            net,
+            disk: Some(disk),
+        }
     }
 }
 

@@ -9,7 +9,7 @@ pub returns-clause-opens : goal.returns-clause-opens
 returns-clause-opens g c = opens_first c.args.server c.first_book-first.result _ c.in_ok-pair.ensures.1 c.first_book-first.ensures
 
 pub returns-clause-served : goal.returns-clause-served
-returns-clause-served g c = blank_served (serves_link {B = _}) _ _ _ c.in_ok-ends.ensures
+returns-clause-served g c = blank_served (serves_link {B = _}) _ _ _ _ c.in_ok-ends.ensures c.in_ok-pair.ensures.1
 
 pub returns-clause-room : goal.returns-clause-room
 returns-clause-room g c = ap length c.in_ok-ends.ensures ∙ length-replicate _ _

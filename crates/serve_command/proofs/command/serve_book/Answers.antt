@@ -1,27 +1,35 @@
-use Rattle.std.proofs.Common.{ap}
+use Rattle.std.proofs.Common.{ap, subst, ℕ}
 use Rattle.std.specs.Prelude.{Some}
 use Rattle.serve_turns.specs.shared_book.Words.{view_of}
+use Rattle.serve_command.specs.Serving.{AreServedBy, serving_accepted}
 use Rattle.serve_command.proofs.Counted.{counted}
 use Rattle.serve_command.proofs.Rises.{rises}
 use Rattle.serve_command.proofs.Still.{behind_of, still_opens}
+use Rattle.serve_command.proofs.Wholes.{whole_of}
 use Rattle.serve_command.proofs.command.serve_book.Goals as goal
 
 pub returns : goal.returns
-returns g c = λ server opens. record {
-  view = view_of c.serve_links-served.result.roll.seat;
-  opens = still_opens server _ _ opens c.serve_links-served.ensures.opening;
-  halt = c.serve_links-served.result.halt;
-  ends = c.serve_links-served.result.roll.ends.items;
-  last = c.closed-last.result;
-  net_failed = c.serve_links-served.ensures.net;
-  listens = c.serve_links-served.ensures.place;
-  served = c.serve_links-served.ensures.served;
-  closes = c.closed-last.ensures;
-  disk_is = ap Some c.left_of-left.ensures.disk;
-  rose = rises _ _ _;
-  counted = counted _ _ _ _ _ _ _ _ _ _ _ _ _
-      (behind_of _ _ _ _ _ _ _ _ _ _ _ c.as_slice.ensures.value c.left_of-left.ensures.failed c.behind-ending.ensures)
-      c.accepted-count.ensures c.requires.room c.serve_links-served.ensures.count c.serve_links-served.ensures.ends
-      c.serve_links-served.ensures.accepted;
-  tells = behind_of _ _ _ _ _ _ _ _ _ _ _ c.as_slice.ensures.value c.left_of-left.ensures.failed c.behind-ending.ensures;
-}
+returns g c = λ server from opening begins. (let opens = still_opens server _ _ opening c.serve_links-served.ensures.opening in
+    let served = subst (λ (n : ℕ). AreServedBy n (view_of c.serve_links-served.result.roll.seat) c.serve_links-served.result.roll.ends.items)
+    c.accepted-count.ensures c.serve_links-served.ensures.served in
+    record {
+      view = view_of c.serve_links-served.result.roll.seat;
+      opens = opens;
+      halt = c.serve_links-served.result.halt;
+      ends = c.serve_links-served.result.roll.ends.items;
+      last = c.closed-last.result;
+      net_failed = c.serve_links-served.ensures.net;
+      listens = c.serve_links-served.ensures.place;
+      served = served;
+      closes = c.closed-last.ensures;
+      disk_is = ap Some c.left_of-left.ensures.disk;
+      rose = rises _ _ _;
+      counted = counted _ _ _ _ _ _ _ _ _ _ _ _ _
+          (behind_of _ _ _ _ _ _ _ _ _ _ _ c.as_slice.ensures.value c.left_of-left.ensures.failed c.behind-ending.ensures)
+          c.accepted-count.ensures c.requires.room c.serve_links-served.ensures.count c.serve_links-served.ensures.ends
+          c.serve_links-served.ensures.accepted;
+      whole = whole_of g.D.Disk.told g.D.Disk.seen g.D.Disk.may_leave (serving_accepted c.args.said.now.bound) server from
+          (view_of c.serve_links-served.result.roll.seat) c.serve_links-served.result.roll.ends.items c.closed-last.result opens served
+          c.closed-last.ensures begins;
+      tells = behind_of _ _ _ _ _ _ _ _ _ _ _ c.as_slice.ensures.value c.left_of-left.ensures.failed c.behind-ending.ensures;
+    })

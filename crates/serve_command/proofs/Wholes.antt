@@ -1,0 +1,174 @@
+-- A server that was served, from what its book, its seats and its first state tell.
+use Rattle.std.proofs.Common.{◌≡◌, ◌⊎◌, inl, inr, ℕ, ◌≤◌, Bool, true, false, List, [], ◌∷◌, length, slice_get, get_or, Option, Some, None}
+use Rattle.std.proofs.Common.{refl, sym, ap, subst, ◌∙◌, arith}
+use Rattle.law_nonces.specs.event_nonces.Events.{NonceTables}
+use Rattle.law_records.proofs.recovery.Restarts.{bare_fold}
+use Rattle.spec_crypto.specs.tokens.Tokens.{Users}
+use Rattle.spec_exchange.specs.Fold.{recovery_records}
+use Rattle.spec_exchange.specs.State as model
+use Rattle.spec_wire.specs.journal.Grammar.{StandsFor}
+use Rattle.spec_world.specs.Ends.{Logons, no_logons}
+use Rattle.std.proofs.Common.{◌++◌}
+use Rattle.server_checks.specs.declared.tables.Config.{Config}
+use Rattle.server_recovery.specs.journaled_tables.Holds.{JournaledStands}
+use Rattle.server_recovery.specs.server_start.Begun.{ServerBegins}
+use Rattle.server_core.specs.declared.disk_server.book.Book.{Book}
+use Rattle.server_core.specs.declared.server.Server.{Server}
+use Rattle.server_core.specs.disk_server.Shown.{ShowsBook}
+use Rattle.server_core.specs.Shown.{HoldsServer, config_of, disk_of, journal_of, state_of, stopped_of}
+use Rattle.serve_turns.specs.declared.event_book.turn.Answer.{Answer}
+use Rattle.serve_turns.specs.declared.event_book.turn.Turn.{Turn}
+use Rattle.serve_turns.specs.declared.link_serving.ended.Ended.{Ended}
+use Rattle.serve_turns.specs.declared.shared_book.view.Entry.{Entry}
+use Rattle.serve_turns.specs.declared.shared_book.view.View.{View}
+use Rattle.serve_turns.specs.event_book.History.{Course, Off, On, RunsBy, Stand, Standing}
+use Rattle.serve_turns.specs.event_book.Steps.{GoesOn, ShowsStanding}
+use Rattle.serve_turns.specs.shared_book.Histories.{Replays, entries_of}
+use Rattle.serve_turns.specs.shared_book.Numbers.{IsOneOf, IsWhole, numbers_in, numbers_of}
+use Rattle.serve_turns.specs.shared_book.Seats.{Closes}
+use Rattle.serve_turns.proofs.event_book.Courses.{course_of, found_by, own_meet, runs_by}
+use Rattle.serve_command.specs.Serving.{AreServedBy, ServingOpens, serves_link}
+use Rattle.serve_command.specs.Steps.{ServerBook, server_shows, server_steps, server_stopped}
+use Rattle.serve_command.specs.Whole.{BeginsAt, DiskStands, HasSeat, IsOnDisk, OnDiskAt, WasServedWhole, first_stand, settings_of}
+use Rattle.serve_command.proofs.Books.{Booked, booked}
+use Rattle.serve_command.proofs.Connections.{Connected, connected, no_entry}
+use Rattle.serve_command.proofs.nonces.Once.{are_once}
+
+module _ {D : Type 0} (told : Type 0) (seen : D → List ℕ) (may_leave : D → List ℕ → Type 0) where
+  abbrev shows : Book D → Users → model.Server → Logons → List model.Record → Type 0
+  shows = server_shows told seen may_leave
+
+  abbrev stopped : Book D → Option ℕ
+  stopped = server_stopped
+
+  -- ---- a server that has just begun
+
+  -- no session is there, and none is in the making
+  nothing_drawn : (server : Server D) (from : Stand) → BeginsAt told seen may_leave server from
+      → NonceTables from.server from.logons (λ x. 0)
+  nothing_drawn server from b = record {
+    fits = b.holds.fits;
+    draws = record {
+      present = λ x there. absurd (let h = b.bare.absent x in let q : true ≡ false = sym there ∙ h in cc);
+      making = λ k x e. refl;
+      fresh = λ x above. refl;
+    };
+    named = λ x there. absurd (let h = b.bare.absent x in let q : true ≡ false = sym there ∙ h in cc);
+  }
+
+  pub begins_at : (faults : D → ℕ) (config : Config) (disk : D) (server : Server D)
+      (b : ServerBegins told seen may_leave faults config disk (state_of server))
+      → BeginsAt told seen may_leave server (first_stand config b.2 b.3)
+  begins_at faults config disk server b = record {
+    holds = b.4 no_logons;
+    goes_on = b.0;
+    bare = bare_fold (b.3 ++ recovery_records b.3);
+  }
+
+  -- ---- the disk
+
+  pub disk_stands : (server : Server D) (s : model.Server) (records : List model.Record) (bodies : List (List ℕ))
+      → JournaledStands seen may_leave (journal_of server) s records bodies → DiskStands told seen may_leave (disk_of server) records
+  disk_stands server s records bodies j =
+      let f = j.settled in
+      record {
+        bodies = bodies;
+        spelled = j.spelled;
+        stands = inr (record { gate = f.gate; rest = []; spelled = f.file; closed = f.closed; fit = f.fit });
+        stays = λ bytes left. inr (record {
+          gate = f.gate;
+          rest = [];
+          spelled = f.durable bytes left ∙ f.file;
+          closed = f.closed;
+          fit = f.fit;
+        });
+      }
+
+  on_at : (users : Users) (book : ServerBook D) (s : Standing) → ShowsStanding shows stopped users book s
+      → OnDiskAt told seen may_leave book s
+  on_at users book (On s) g = record {
+    holds = g.0.1;
+    goes_on = g.1;
+    disk = λ t. (let w = g.0.1.stands g.1 t in disk_stands book.server.server s.server s.records w.0 w.1);
+  }
+  on_at users book (Off count) g = g
+
+  -- ---- the whole
+
+  first_shows : (server : Server D) (opening : ServerBook D) (from : Stand) → opening.server.server ≡ server
+      → BeginsAt told seen may_leave server from → ShowsStanding shows stopped (settings_of opening.server.server).users opening (On from)
+  first_shows server opening from is b = (
+    (refl, subst (λ (x : Server D). HoldsServer told seen may_leave x from.server from.logons from.records) (sym is) b.holds),
+    ap (λ (x : Server D). stopped_of x) is ∙ b.goes_on,
+  )
+
+  on_disk_by : (opening last : ServerBook D) (from : Stand) (log : List (Entry Turn Answer))
+      (k : Booked shows stopped (settings_of opening.server.server) (On from) opening log last)
+      → IsOnDisk told seen may_leave opening log (course_of (settings_of opening.server.server) (On from) log k.all k.to k.runs) last
+  unfolding course_of
+  on_disk_by opening last from log k = record {
+    books = k.books;
+    begins = k.begins;
+    ends = k.ends;
+    steps = k.steps;
+    stands = λ i within. on_at (settings_of opening.server.server).users (k.books i)
+        (found_by (settings_of opening.server.server) (On from) log k.all k.to k.runs i) (k.stands i within);
+  }
+
+  -- each that was made has ended, and the first seat has the first number
+  whole_seat : (count : ℕ) (v : View (ServerBook D) Turn Answer) (ends : List (Option Ended)) → AreServedBy count v ends → IsWhole v
+  whole_seat count v ends s = (inl (sym s.is_first), λ n made. back n (s.back n made))
+    where
+      back : (n : ℕ) → IsOneOf n (numbers_of v) ⊎ ((place : ℕ) × ⊥) → IsOneOf n (numbers_of v)
+      back n (inl among) = among
+      back n (inr none) = absurd none.1
+
+  entry_of_one : (v : View (ServerBook D) Turn Answer) (log : List (Entry Turn Answer)) (i : ℕ) (e : Entry Turn Answer)
+      → slice_get log i ≡ Some e → entries_of v.number 0 log ≡ [] → IsOneOf e.seat (numbers_of v) → IsOneOf e.seat (numbers_in v.ended)
+  entry_of_one v log i e here none (inl first) = absurd (no_entry v.number 0 log i e here first none)
+  entry_of_one v log i e here none (inr among) = among
+
+  -- by the history's course
+  whole_by : (count : ℕ) (from : Stand) (v : View (ServerBook D) Turn Answer) (ends : List (Option Ended)) (opening last : ServerBook D)
+      (log : List (Entry Turn Answer)) (to : Standing) (h : Course) (s : AreServedBy count v ends)
+      → Replays (server_steps told seen may_leave) opening log last → RunsBy (settings_of opening.server.server) (On from) log h to
+      → NonceTables from.server from.logons (λ x. 0) → IsOnDisk told seen may_leave opening log h last
+      → Connected (settings_of opening.server.server) h log count s.links v.ended → entries_of v.number 0 log ≡ []
+      → (IsWhole v → (i : ℕ) (e : Entry Turn Answer) → slice_get log i ≡ Some e → IsOneOf e.seat (numbers_of v))
+      → WasServedWhole told seen may_leave count opening from ends last
+  whole_by count from v ends opening last log to h s replays runs first on_disk c none none_else = record {
+    log = log;
+    h = h;
+    to = to;
+    connections = c.all;
+    replays = replays;
+    runs = runs;
+    each = c.each;
+    apart = c.apart;
+    of_first = c.of_first;
+    numbered = c.numbered;
+    nothing_else = λ i e here. c.seated e.seat (entry_of_one v log i e here none (none_else (whole_seat count v ends s) i e here));
+    told_are = λ i end there. c.told i end (s.told i end there);
+    on_disk = on_disk;
+    once = are_once (settings_of opening.server.server) h log from to runs first c.all c.each c.apart;
+  }
+
+  pub whole_of : (count : ℕ) (server : Server D) (from : Stand) (v : View (ServerBook D) Turn Answer) (ends : List (Option Ended))
+      (last : ServerBook D) (opens : ServingOpens server v) → AreServedBy count v ends → Closes (server_steps told seen may_leave) v last
+      → BeginsAt told seen may_leave server from → WasServedWhole told seen may_leave count opens.opening from ends last
+  whole_of count server from v ends last opens s closes b =
+      let opening = opens.opening in
+      let q : Some closes.opening ≡ Some opening = sym closes.opens ∙ opens.is in
+      let same : closes.opening ≡ opening = cc in
+      let replays : Replays (server_steps told seen may_leave) opening closes.log last =
+      subst (λ (o : ServerBook D). Replays (server_steps told seen may_leave) o closes.log last) same closes.replays in
+      let k = booked shows stopped (settings_of opening.server.server) (On from) opening last closes.log replays
+      (first_shows server opening from opens.begins b) in
+      let h = course_of (settings_of opening.server.server) (On from) closes.log k.all k.to k.runs in
+      whole_by count from v ends opening last closes.log k.to h s replays
+      (runs_by (settings_of opening.server.server) (On from) closes.log k.all k.to k.runs) (nothing_drawn server from b)
+      (on_disk_by opening last from closes.log k)
+      (connected (settings_of opening.server.server) refl h closes.log
+      (λ seat. own_meet (settings_of opening.server.server) seat (On from) closes.log k.all k.to k.runs) s.seat_at v.opening v.kept count
+      s.links v.ended s.each closes.ended_are closes.apart.1)
+      (sym closes.own_are ∙ s.none_own) closes.none_else

@@ -1,0 +1,4 @@
+pub mod Tables
+pub mod Turns
+pub mod Frames
+pub mod Once

@@ -1,0 +1,27 @@
+-- What a server on a disk does in a turn of one of its connections.
+use Rattle.std.specs.Prelude.{ℕ, List, Option}
+use Rattle.spec_crypto.specs.tokens.Tokens.{Users}
+use Rattle.spec_exchange.specs.State as model
+use Rattle.spec_world.specs.Ends.{Logons}
+use Rattle.serve_turns.specs.event_book.Steps.{EventSteps}
+use Rattle.serve_turns.specs.declared.event_book.book.EventBook.{EventBook}
+use Rattle.serve_turns.specs.declared.event_book.turn.Answer.{Answer}
+use Rattle.serve_turns.specs.declared.event_book.turn.Turn.{Turn}
+use Rattle.server_core.specs.disk_server.Shown.{ShowsBook}
+use Rattle.server_core.specs.declared.disk_server.book.Book.{Book}
+use Rattle.server_core.specs.Shown.{stopped_of}
+
+-- the book of such a server
+abbrev pub ServerBook : Type 0 → Type 0
+ServerBook D = EventBook (Book D)
+
+-- the count of faults at which its disk failed
+abbrev pub server_stopped : {D : Type 0} → Book D → Option ℕ
+server_stopped b = stopped_of b.server
+
+module _ {D : Type 0} (told : Type 0) (seen : D → List ℕ) (may_leave : D → List ℕ → Type 0) where
+  abbrev pub server_shows : Book D → Users → model.Server → Logons → List model.Record → Type 0
+  server_shows b users s L records = ShowsBook told seen may_leave b users s L records
+
+  abbrev pub server_steps : ServerBook D → Turn → Answer → ServerBook D → Type 0
+  server_steps = EventSteps server_shows server_stopped

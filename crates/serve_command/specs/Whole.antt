@@ -1,0 +1,166 @@
+-- A server that was served: its history, its connections, its disk and its nonces go together.
+use Rattle.std.specs.Prelude.{◌≡◌, ℕ, ◌+◌, ◌%◌, ◌^◌, ◌≤◌, ◌<◌, Bool, List, length, Option, None, Some, slice_get, get_or}
+use Rattle.law_records.specs.recovery.Restarted.{Bare}
+use Rattle.spec_exchange.specs.Fold.{recovered, recovery_records}
+use Rattle.spec_exchange.specs.State as model
+use Rattle.std.specs.Prelude.{◌++◌}
+use Rattle.spec_wire.specs.journal.Grammar.{StandsFor}
+use Rattle.spec_world.specs.Answering.{Seal}
+use Rattle.spec_world.specs.Ends.{no_logons}
+use Rattle.spec_world.specs.Settings.{ServerSettings}
+use Rattle.spec_world.specs.Statements.{IsOneNonce}
+use Rattle.server_checks.specs.declared.tables.Config.{Config}
+use Rattle.server_recovery.specs.Reading.{BodiesSpell}
+use Rattle.server_recovery.specs.restart_tables.Restart.{configuration_of}
+use Rattle.server_core.specs.declared.server.Server.{Server}
+use Rattle.server_core.specs.disk_server.Shown.{ShowsBook}
+use Rattle.server_core.specs.Shown.{HoldsServer, config_of, disk_of, stopped_of}
+use Rattle.serve_turns.specs.connection_turns.Serving.{WasServedBy}
+use Rattle.serve_turns.specs.declared.event_book.turn.Answer.{Answer}
+use Rattle.serve_turns.specs.declared.event_book.turn.Turn.{Turn}
+use Rattle.serve_turns.specs.declared.link_serving.ended.Ended.{Ended}
+use Rattle.serve_turns.specs.declared.shared_book.view.Entry.{Entry}
+use Rattle.serve_turns.specs.event_book.History.{Course, Off, On, RunsBy, Stand, Standing}
+use Rattle.serve_turns.specs.shared_book.Histories.{Replays, entries_of}
+use Rattle.serve_command.specs.Guid.{server_guid}
+use Rattle.serve_command.specs.Steps.{ServerBook, server_steps}
+
+-- ---- connections
+
+-- One that has ended: its place among the links that were accepted, from 1, its seat's number, what its link gave and took, how often the
+-- link had failed before and behind, whether it gave the end, how the connection ended, and what was sealed for it.
+pub record EndedConnection : Type 0 where
+  pub accept : ℕ
+  pub seat : ℕ
+  pub came : List ℕ
+  pub wrote : List ℕ
+  pub faults : ℕ
+  pub faults' : ℕ
+  pub closed : Bool
+  pub end : Ended
+  pub seals : List Seal
+
+-- the number by which the server knows it
+abbrev pub number_of : EndedConnection → ℕ
+number_of x = x.accept % 2 ^ 32
+
+-- each entry of the history that its seat has, and no other, is a turn of it
+abbrev pub WasServed : ServerSettings → Course → List (Entry Turn Answer) → EndedConnection → Type 0
+WasServed z h log x = WasServedBy z h (number_of x) (entries_of x.seat 0 log) x.came x.wrote x.faults x.faults' x.closed x.end x.seals
+
+abbrev pub AllServed : ServerSettings → Course → List (Entry Turn Answer) → List EndedConnection → Type 0
+AllServed z h log xs = (i : ℕ) (x : EndedConnection) → slice_get xs i ≡ Some x → WasServed z h log x
+
+-- each link is one connection's, and so is each seat
+abbrev pub AreApart : List EndedConnection → Type 0
+AreApart xs = (i j : ℕ) (x y : EndedConnection) → slice_get xs i ≡ Some x → slice_get xs j ≡ Some y
+    → (x.accept ≡ y.accept → i ≡ j) × (x.seat ≡ y.seat → i ≡ j)
+
+-- these are of the first so many links
+abbrev pub AreOfFirst : ℕ → List EndedConnection → Type 0
+AreOfFirst count xs = (i : ℕ) (x : EndedConnection) → slice_get xs i ≡ Some x → (0 < x.accept) × (x.accept ≤ count)
+
+-- no number comes twice
+abbrev pub AreNumbered : List EndedConnection → Type 0
+AreNumbered xs = (i j : ℕ) (x y : EndedConnection) → slice_get xs i ≡ Some x → slice_get xs j ≡ Some y → number_of x ≡ number_of y → i ≡ j
+
+-- the turns of one of these are this seat's
+pub record HasSeat (xs : List EndedConnection) (seat : ℕ) : Type 0 where
+  pub place : ℕ
+  pub connection : EndedConnection
+  pub here : slice_get xs place ≡ Some connection
+  pub seat_is : connection.seat ≡ seat
+
+-- each entry is one of these connections'
+abbrev pub AreAll : List (Entry Turn Answer) → List EndedConnection → Type 0
+AreAll log xs = (i : ℕ) (e : Entry Turn Answer) → slice_get log i ≡ Some e → HasSeat xs e.seat
+
+-- one of these is of this link, and ended so
+pub record HasEndedSo (xs : List EndedConnection) (accept : ℕ) (end : Ended) : Type 0 where
+  pub place : ℕ
+  pub connection : EndedConnection
+  pub here : slice_get xs place ≡ Some connection
+  pub accept_is : connection.accept ≡ accept
+  pub end_is : connection.end ≡ end
+
+-- the end that is told of a link is that of its connection
+abbrev pub AreTold : List (Option Ended) → List EndedConnection → Type 0
+AreTold ends xs = (i : ℕ) (end : Ended) → get_or ends i None ≡ Some end → HasEndedSo xs (i + 1) end
+
+-- no two messages that the server sealed have one nonce in one session (MS-SMB2 2.2.41)
+abbrev pub AreOnce : List EndedConnection → Type 0
+AreOnce xs = (i j p q : ℕ) (x y : EndedConnection) (a b : Seal) → slice_get xs i ≡ Some x → slice_get xs j ≡ Some y
+    → slice_get x.seals p ≡ Some a → slice_get y.seals q ≡ Some b → IsOneNonce a b → (i ≡ j) × (p ≡ q)
+
+-- ---- the settings of a server, and what it is before its first event
+
+abbrev pub settings_of : {D : Type 0} → Server D → ServerSettings
+settings_of server = record { users = (config_of server).users; guid = server_guid }
+
+-- what recovery makes of these records behind so many bytes; nobody is logged on
+abbrev pub first_stand : Config → ℕ → List model.Record → Stand
+first_stand config bytes records = record {
+  server = recovered (configuration_of config) bytes records;
+  logons = no_logons;
+  records = records ++ recovery_records records;
+}
+
+module _ {D : Type 0} (told : Type 0) (seen : D → List ℕ) (may_leave : D → List ℕ → Type 0) where
+  -- a server has just begun so: it shows this, and there is no session
+  pub record BeginsAt (server : Server D) (from : Stand) : Type 0 where
+    pub holds : HoldsServer told seen may_leave server from.server from.logons from.records
+    pub goes_on : stopped_of server ≡ None
+    pub bare : Bare from.server
+
+  -- ---- the disk
+
+  -- its bytes stand for these records, and so does whatever a crash may leave of them
+  pub record DiskStands (disk : D) (records : List model.Record) : Type 0 where
+    pub bodies : List (List ℕ)
+    pub spelled : BodiesSpell bodies records
+    pub stands : StandsFor (seen disk) bodies
+    pub stays : (bytes : List ℕ) → may_leave disk bytes → StandsFor bytes bodies
+
+  -- A server that goes on shows what its place found, and its disk, where it tells its bytes, stands for the records of all events up to there:
+  -- a reply that stands in the history stands on the disk. One whose disk failed has stopped.
+  pub record OnDisk (book : ServerBook D) (s : Stand) : Type 0 where
+    pub holds : HoldsServer told seen may_leave book.server.server s.server s.logons s.records
+    pub goes_on : stopped_of book.server.server ≡ None
+    pub disk : told → DiskStands (disk_of book.server.server) s.records
+
+  abbrev pub OnDiskAt : ServerBook D → Standing → Type 0
+  OnDiskAt book (On s) = OnDisk book s
+  OnDiskAt book (Off count) = stopped_of book.server.server ≡ Some count
+
+  -- The server at each place of the history, from the one that began to the one that was there in the end. Each step is the event's at its
+  -- place, with its reply, and at each place the disk is as the place found it.
+  pub record IsOnDisk (opening : ServerBook D) (log : List (Entry Turn Answer)) (h : Course) (last : ServerBook D) : Type 0 where
+    pub books : ℕ → ServerBook D
+    pub begins : books 0 ≡ opening
+    pub ends : books (length log) ≡ last
+    pub steps : (i : ℕ) (e : Entry Turn Answer) → slice_get log i ≡ Some e
+        → server_steps told seen may_leave (books i) e.event e.reply (books (i + 1))
+    pub stands : (i : ℕ) → i ≤ length log → OnDiskAt (books i) (h.found i)
+
+  -- ---- the whole
+
+  -- Of the server that began, the history, the connections, and the server that was there in the end: the history runs in the model; each
+  -- connection's turns are its seat's entries, and what it wrote are the answers to what came; no entry is anybody else's; links, seats and
+  -- numbers are each one connection's own; of which it is told how they ended, they ended so; the disk stands for the records at each place;
+  -- and no nonce came twice.
+  pub record WasServedWhole (count : ℕ) (opening : ServerBook D) (from : Stand) (ends : List (Option Ended)) (last : ServerBook D)
+      : Type 0 where
+    pub log : List (Entry Turn Answer)
+    pub h : Course
+    pub to : Standing
+    pub connections : List EndedConnection
+    pub replays : Replays (server_steps told seen may_leave) opening log last
+    pub runs : RunsBy (settings_of opening.server.server) (On from) log h to
+    pub each : AllServed (settings_of opening.server.server) h log connections
+    pub apart : AreApart connections
+    pub of_first : AreOfFirst count connections
+    pub numbered : count < 2 ^ 32 → AreNumbered connections
+    pub nothing_else : AreAll log connections
+    pub told_are : AreTold ends connections
+    pub on_disk : IsOnDisk opening log h last
+    pub once : AreOnce connections
