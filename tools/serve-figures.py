@@ -39,7 +39,7 @@ import hostile_client as raw
 HOST, PORT, SHARE, USER, PASSWORD = "127.0.0.1", 445, "data", "nobody", "Password"
 TOOLS = os.path.dirname(os.path.abspath(__file__))
 WAITERS, SIDE_BY_SIDE = 8, 3
-MOST = 160000  # operations on small files, so that the journal doesn't fill
+MOST = 60000  # small files, since all files are 65,536 at most
 CLIENT = """[global]
 client min protocol = SMB3_11
 client max protocol = SMB3_11
