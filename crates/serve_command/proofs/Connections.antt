@@ -9,6 +9,7 @@ use Rattle.serve_turns.specs.declared.event_book.turn.Turn.{Turn}
 use Rattle.serve_turns.specs.declared.link_serving.ended.Ended.{Ended}
 use Rattle.serve_turns.specs.declared.shared_book.view.Entry.{Entry}
 use Rattle.serve_turns.specs.event_book.History.{AllMeet, Course, Placed}
+use Rattle.serve_turns.specs.link_serving.Passage.{Passage, ServesOver}
 use Rattle.serve_turns.specs.link_serving.Serving as serving
 use Rattle.serve_turns.specs.link_serving.Serving.{EachServed, IsEndOf}
 use Rattle.serve_turns.specs.shared_book.Histories.{HaveAll, entries_of, entry_if}
@@ -16,8 +17,8 @@ use Rattle.serve_turns.specs.shared_book.Numbers as numbers
 use Rattle.serve_turns.specs.shared_book.Numbers.{IsOneOf, numbers_in}
 use Rattle.serve_command.specs.Guid.{server_guid}
 use Rattle.serve_command.specs.Serving.{serves_link}
-use Rattle.serve_command.specs.Whole.{AllServed, AreApart, AreNumbered, AreOfFirst, AreTold, EndedConnection, HasEndedSo, HasSeat}
-use Rattle.serve_command.specs.Whole.{WasServed, number_of}
+use Rattle.serve_command.specs.Whole.{AllPassed, AllServed, AreApart, AreNumbered, AreOfFirst, AreTold, EndedConnection, HasEndedSo}
+use Rattle.serve_command.specs.Whole.{HasSeat, WasServed, number_of}
 
 none_there : {X : Type 0} (i : ℕ) (x : X) → slice_get [] i ≡ Some x → ⊥
 none_there zero x here = absurd (let q : None ≡ Some x = here in cc)
@@ -25,12 +26,12 @@ none_there (suc i) x here = absurd (let q : None ≡ Some x = here in cc)
 
 module _ {B : Type 0} (z : ServerSettings) (guid : z.guid ≡ server_guid) (h : Course) (log : List (Entry Turn Answer))
     (meets : (seat : ℕ) → AllMeet z h (entries_of seat 0 log)) (seat_at : ℕ → ℕ) (opening : Option B)
-    (kept : List (List (Entry Turn Answer))) (count : ℕ) where
+    (kept : List (List (Entry Turn Answer))) (count : ℕ) (over : Passage → Type 0) where
   abbrev pub Seat : Type 0
   Seat = ℕ × List Placed
 
   abbrev pub Each : List (ℕ × Ended) → List Seat → Type 0
-  Each links seats = EachServed serves_link seat_at opening kept count links seats
+  Each links seats = EachServed (ServesOver over serves_link) seat_at opening kept count links seats
 
   -- ---- one connection
 
@@ -40,11 +41,13 @@ module _ {B : Type 0} (z : ServerSettings) (guid : z.guid ≡ server_guid) (h : 
     pub seat_is : connection.seat ≡ seat
     pub end_is : connection.end ≡ end
     pub served : WasServed z h log connection
+    pub passed : over connection.passage
 
-  abbrev pub made : (place : ℕ) (end : Ended) (x : Seat) → serving.WasServed serves_link opening kept (place + 1) end x
+  abbrev pub made : (place : ℕ) (end : Ended) (x : Seat) → serving.WasServed (ServesOver over serves_link) opening kept (place + 1) end x
       → x.1 ≡ entries_of x.0 0 log → Made place end x.0
   made place end x was own =
       let s = was.by in
+      let p = s.passage in
       let turns : was.to.own ≡ s.served.turns = s.served.own ∙ ap (λ (o : List Placed). o ++ s.served.turns) was.none_before in
       let is : s.served.turns ≡ entries_of x.0 0 log = sym turns ∙ (was.own_are ∙ own) in
       let by = s.served.by z h guid (subst (λ (xs : List Placed). AllMeet z h xs) (sym is) (meets x.0)) in
@@ -52,19 +55,16 @@ module _ {B : Type 0} (z : ServerSettings) (guid : z.guid ≡ server_guid) (h : 
         connection = record {
           accept = place + 1;
           seat = x.0;
-          came = s.came;
-          wrote = s.wrote;
-          faults = s.faults;
-          faults' = s.faults';
-          closed = s.ended;
+          passage = p;
           end = end;
           seals = by.0;
         };
         accept_is = refl;
         seat_is = refl;
         end_is = refl;
-        served = subst (λ (xs : List Placed). WasServedBy z h ((place + 1) % 2 ^ 32) xs s.came s.wrote s.faults s.faults' s.ended end by.0)
+        served = subst (λ (xs : List Placed). WasServedBy z h ((place + 1) % 2 ^ 32) xs p.came p.wrote p.faults p.faults' p.ended end by.0)
             is by.1;
+        passed = s.passed;
       }
 
   -- ---- all of them, in the order in which they were joined
@@ -78,6 +78,7 @@ module _ {B : Type 0} (z : ServerSettings) (guid : z.guid ≡ server_guid) (h : 
   -- what is known of each
   record Facts (c : EndedConnection) (seats : List ℕ) : Type 0 where
     served : WasServed z h log c
+    passed : over c.passage
     place : ℕ
     accept_is : c.accept ≡ place + 1
     few : place < count
@@ -95,6 +96,7 @@ module _ {B : Type 0} (z : ServerSettings) (guid : z.guid ≡ server_guid) (h : 
       subst (λ (v : EndedConnection). Facts v (numbers_in (x ∷ xs))) same
       (record {
         served = m.served;
+        passed = m.passed;
         place = l.0;
         accept_is = m.accept_is;
         few = each.0;
@@ -105,6 +107,7 @@ module _ {B : Type 0} (z : ServerSettings) (guid : z.guid ≡ server_guid) (h : 
       let f = facts ls xs each.2 have.1 i c here in
       record {
         served = f.served;
+        passed = f.passed;
         place = f.place;
         accept_is = f.accept_is;
         few = f.few;
@@ -148,6 +151,9 @@ module _ {B : Type 0} (z : ServerSettings) (guid : z.guid ≡ server_guid) (h : 
 
     pub all_served : AllServed z h log all
     all_served = λ i x here. (facts links seats each have i x here).served
+
+    pub all_passed : AllPassed over all
+    all_passed = λ i x here. (facts links seats each have i x here).passed
 
     one_more : (n m : ℕ) → n + 1 ≡ m + 1 → n ≡ m
     one_more n m e = omega (arith, e)
@@ -209,9 +215,10 @@ module _ {B : Type 0} (z : ServerSettings) (guid : z.guid ≡ server_guid) (h : 
 -- ---- all that the clause says of the connections, by the seats that have ended
 
 pub record Connected (z : ServerSettings) (h : Course) (log : List (Entry Turn Answer)) (count : ℕ) (links : List (ℕ × Ended))
-    (seats : List (ℕ × List Placed)) : Type 0 where
+    (seats : List (ℕ × List Placed)) (over : Passage → Type 0) : Type 0 where
   pub all : List EndedConnection
   pub each : AllServed z h log all
+  pub passed : AllPassed over all
   pub apart : AreApart all
   pub of_first : AreOfFirst count all
   pub numbered : count < 2 ^ 32 → AreNumbered all
@@ -221,16 +228,17 @@ pub record Connected (z : ServerSettings) (h : Course) (log : List (Entry Turn A
 pub connected : {B : Type 0} (z : ServerSettings) (guid : z.guid ≡ server_guid) (h : Course) (log : List (Entry Turn Answer))
     (meets : (seat : ℕ) → AllMeet z h (entries_of seat 0 log)) (seat_at : ℕ → ℕ) (opening : Option B)
     (kept : List (List (Entry Turn Answer))) (count : ℕ) (links : List (ℕ × Ended)) (seats : List (ℕ × List Placed))
-    → EachServed serves_link seat_at opening kept count links seats → HaveAll log seats → numbers.AreApart (numbers_in seats)
-    → Connected z h log count links seats
-connected z guid h log meets seat_at opening kept count links seats each have apart = record {
-  all = connections z guid h log meets seat_at opening kept count links seats each have;
-  each = all_served z guid h log meets seat_at opening kept count links seats each have apart;
-  apart = all_apart z guid h log meets seat_at opening kept count links seats each have apart;
-  of_first = all_of_first z guid h log meets seat_at opening kept count links seats each have apart;
-  numbered = all_numbered z guid h log meets seat_at opening kept count links seats each have apart;
-  seated = has_seat z guid h log meets seat_at opening kept count links seats each have;
-  told = has_ended z guid h log meets seat_at opening kept count links seats each have;
+    (over : Passage → Type 0) → EachServed (ServesOver over serves_link) seat_at opening kept count links seats → HaveAll log seats → numbers.AreApart (numbers_in seats)
+    → Connected z h log count links seats over
+connected z guid h log meets seat_at opening kept count links seats over each have apart = record {
+  all = connections z guid h log meets seat_at opening kept count over links seats each have;
+  each = all_served z guid h log meets seat_at opening kept count over links seats each have apart;
+  passed = all_passed z guid h log meets seat_at opening kept count over links seats each have apart;
+  apart = all_apart z guid h log meets seat_at opening kept count over links seats each have apart;
+  of_first = all_of_first z guid h log meets seat_at opening kept count over links seats each have apart;
+  numbered = all_numbered z guid h log meets seat_at opening kept count over links seats each have apart;
+  seated = has_seat z guid h log meets seat_at opening kept count over links seats each have;
+  told = has_ended z guid h log meets seat_at opening kept count over links seats each have;
 }
 
 -- ---- a number without entries has none in the history

@@ -2,6 +2,7 @@
 use Rattle.std.proofs.Common.{◌≡◌, ℕ, List, Bool, inl, inr, ap, ◌∙◌, subst}
 use Rattle.std.specs.Prelude.{Option}
 use Rattle.serve_turns.specs.event_book.History.{Stand}
+use Rattle.serve_turns.specs.link_serving.Passage.{Passage}
 use Rattle.serve_turns.specs.shared_book.Turns.{first_view}
 use Rattle.serve_turns.specs.declared.shared_book.view.View.{View}
 use Rattle.serve_turns.specs.declared.event_book.turn.Answer.{Answer}
@@ -45,15 +46,15 @@ failed_rose old new why is failed = subst (λ (x : ReadError). HasOutsideFailed 
 
 -- a net that was told something serves as it did before, where neither its place nor its counts moved
 pub serves_still : {D N : Type 0} (told : Type 0) (seen : D → List ℕ) (may_leave : D → List ℕ → Type 0) (faults : D → ℕ)
-    (listens_at : N → Option Address) (links : N → ℕ) (net_faults : N → ℕ) (before : ℕ) (at : Address) (bound : Option Bound)
+    (listens_at : N → Option Address) (links : N → ℕ) (net_faults : N → ℕ) (over : Passage → Type 0) (before : ℕ) (at : Address) (bound : Option Bound)
     (server : Server D) (from : Stand) (written written' : Option (List ℕ)) (sink sink' : ℕ) (net heard net' : N) (disk' : Option D) (ending : Ending)
     → listens_at heard ≡ listens_at net → links heard ≡ links net → net_faults heard ≡ net_faults net
-    → Serves told seen may_leave faults listens_at links net_faults before at bound server from written written' sink sink' heard net' disk'
+    → Serves told seen may_leave faults listens_at links net_faults over before at bound server from written written' sink sink' heard net' disk'
     ending
-    → Serves told seen may_leave faults listens_at links net_faults before at bound server from written written' sink sink' net net' disk' ending
-serves_still told seen may_leave faults listens_at links net_faults before at bound server from written written' sink sink' net heard net' disk'
+    → Serves told seen may_leave faults listens_at links net_faults over before at bound server from written written' sink sink' net net' disk' ending
+serves_still told seen may_leave faults listens_at links net_faults over before at bound server from written written' sink sink' net heard net' disk'
     ending place accepted calm (inl h) =
     inl (subst (λ (n : ℕ). Rose n (net_faults net')) calm h.0, h.1, h.2 ∙ place, h.3)
-serves_still told seen may_leave faults listens_at links net_faults before at bound server from written written' sink sink' net heard net' disk'
+serves_still told seen may_leave faults listens_at links net_faults over before at bound server from written written' sink sink' net heard net' disk'
     ending place accepted calm (inr h) =
     inr (h.0, h.1, h.2 ∙ accepted, h.3 ∙ calm, h.4)

@@ -23,6 +23,7 @@ use Rattle.serve_turns.specs.declared.shared_book.view.Entry.{Entry}
 use Rattle.serve_turns.specs.declared.shared_book.view.View.{View}
 use Rattle.serve_turns.specs.event_book.History.{Course, Off, On, RunsBy, Stand, Standing}
 use Rattle.serve_turns.specs.event_book.Steps.{GoesOn, ShowsStanding}
+use Rattle.serve_turns.specs.link_serving.Passage.{Passage}
 use Rattle.serve_turns.specs.shared_book.Histories.{Replays, entries_of}
 use Rattle.serve_turns.specs.shared_book.Numbers.{IsOneOf, IsWhole, numbers_in, numbers_of}
 use Rattle.serve_turns.specs.shared_book.Seats.{Closes}
@@ -116,8 +117,8 @@ module _ {D : Type 0} (told : Type 0) (seen : D → List ℕ) (may_leave : D →
   }
 
   -- each that was made has ended, and the first seat has the first number
-  whole_seat : (count : ℕ) (v : View (ServerBook D) Turn Answer) (ends : List (Option Ended)) → AreServedBy count v ends → IsWhole v
-  whole_seat count v ends s = (inl (sym s.is_first), λ n made. back n (s.back n made))
+  whole_seat : (over : Passage → Type 0) (count : ℕ) (v : View (ServerBook D) Turn Answer) (ends : List (Option Ended)) → AreServedBy over count v ends → IsWhole v
+  whole_seat over count v ends s = (inl (sym s.is_first), λ n made. back n (s.back n made))
     where
       back : (n : ℕ) → IsOneOf n (numbers_of v) ⊎ ((place : ℕ) × ⊥) → IsOneOf n (numbers_of v)
       back n (inl among) = among
@@ -129,14 +130,14 @@ module _ {D : Type 0} (told : Type 0) (seen : D → List ℕ) (may_leave : D →
   entry_of_one v log i e here none (inr among) = among
 
   -- by the history's course
-  whole_by : (count : ℕ) (from : Stand) (v : View (ServerBook D) Turn Answer) (ends : List (Option Ended)) (opening last : ServerBook D)
-      (log : List (Entry Turn Answer)) (to : Standing) (h : Course) (s : AreServedBy count v ends)
+  whole_by : (over : Passage → Type 0) (count : ℕ) (from : Stand) (v : View (ServerBook D) Turn Answer) (ends : List (Option Ended)) (opening last : ServerBook D)
+      (log : List (Entry Turn Answer)) (to : Standing) (h : Course) (s : AreServedBy over count v ends)
       → Replays (server_steps told seen may_leave) opening log last → RunsBy (settings_of opening.server.server) (On from) log h to
       → NonceTables from.server from.logons (λ x. 0) → IsOnDisk told seen may_leave opening log h last
-      → Connected (settings_of opening.server.server) h log count s.links v.ended → entries_of v.number 0 log ≡ []
+      → Connected (settings_of opening.server.server) h log count s.links v.ended over → entries_of v.number 0 log ≡ []
       → (IsWhole v → (i : ℕ) (e : Entry Turn Answer) → slice_get log i ≡ Some e → IsOneOf e.seat (numbers_of v))
-      → WasServedWhole told seen may_leave count opening from ends last
-  whole_by count from v ends opening last log to h s replays runs first on_disk c none none_else = record {
+      → WasServedWhole told seen may_leave over count opening from ends last
+  whole_by over count from v ends opening last log to h s replays runs first on_disk c none none_else = record {
     log = log;
     h = h;
     to = to;
@@ -144,19 +145,20 @@ module _ {D : Type 0} (told : Type 0) (seen : D → List ℕ) (may_leave : D →
     replays = replays;
     runs = runs;
     each = c.each;
+    passed = c.passed;
     apart = c.apart;
     of_first = c.of_first;
     numbered = c.numbered;
-    nothing_else = λ i e here. c.seated e.seat (entry_of_one v log i e here none (none_else (whole_seat count v ends s) i e here));
+    nothing_else = λ i e here. c.seated e.seat (entry_of_one v log i e here none (none_else (whole_seat over count v ends s) i e here));
     told_are = λ i end there. c.told i end (s.told i end there);
     on_disk = on_disk;
     once = are_once (settings_of opening.server.server) h log from to runs first c.all c.each c.apart;
   }
 
-  pub whole_of : (count : ℕ) (server : Server D) (from : Stand) (v : View (ServerBook D) Turn Answer) (ends : List (Option Ended))
-      (last : ServerBook D) (opens : ServingOpens server v) → AreServedBy count v ends → Closes (server_steps told seen may_leave) v last
-      → BeginsAt told seen may_leave server from → WasServedWhole told seen may_leave count opens.opening from ends last
-  whole_of count server from v ends last opens s closes b =
+  pub whole_of : (over : Passage → Type 0) (count : ℕ) (server : Server D) (from : Stand) (v : View (ServerBook D) Turn Answer) (ends : List (Option Ended))
+      (last : ServerBook D) (opens : ServingOpens server v) → AreServedBy over count v ends → Closes (server_steps told seen may_leave) v last
+      → BeginsAt told seen may_leave server from → WasServedWhole told seen may_leave over count opens.opening from ends last
+  whole_of over count server from v ends last opens s closes b =
       let opening = opens.opening in
       let q : Some closes.opening ≡ Some opening = sym closes.opens ∙ opens.is in
       let same : closes.opening ≡ opening = cc in
@@ -165,10 +167,10 @@ module _ {D : Type 0} (told : Type 0) (seen : D → List ℕ) (may_leave : D →
       let k = booked shows stopped (settings_of opening.server.server) (On from) opening last closes.log replays
       (first_shows server opening from opens.begins b) in
       let h = course_of (settings_of opening.server.server) (On from) closes.log k.all k.to k.runs in
-      whole_by count from v ends opening last closes.log k.to h s replays
+      whole_by over count from v ends opening last closes.log k.to h s replays
       (runs_by (settings_of opening.server.server) (On from) closes.log k.all k.to k.runs) (nothing_drawn server from b)
       (on_disk_by opening last from closes.log k)
       (connected (settings_of opening.server.server) refl h closes.log
       (λ seat. own_meet (settings_of opening.server.server) seat (On from) closes.log k.all k.to k.runs) s.seat_at v.opening v.kept count
-      s.links v.ended s.each closes.ended_are closes.apart.1)
+      s.links v.ended over s.each closes.ended_are closes.apart.1)
       (sym closes.own_are ∙ s.none_own) closes.none_else

@@ -20,6 +20,7 @@ use Rattle.server_core.specs.Shown.{config_of, disk_of, state_of, stopped_of}
 use Rattle.server_core.specs.declared.server.Server.{Server}
 use Rattle.server_recovery.specs.restart_tables.Restart.{RestartRefused}
 use Rattle.serve_turns.specs.link_serving.Lines.{ended_lines}
+use Rattle.serve_turns.specs.link_serving.Passage.{Passage, ServesOver}
 use Rattle.serve_turns.specs.link_serving.Serving.{AreServed}
 use Rattle.serve_turns.specs.declared.link_serving.ended.Ended.{Ended}
 use Rattle.serve_turns.specs.shared_book.Seats.{Closes}
@@ -91,14 +92,14 @@ module _ (written written' : Option (List ℕ)) (sink sink' : ℕ) where
 -- ---- a server that began
 
 module _ {B : Type 0} where
-  -- the link of this number was served by a seat of the book, and ended so
-  abbrev pub serves_link : ℕ → View B Turn Answer → Ended → View B Turn Answer → Type 0
-  serves_link number from end to = turns.Serves server_guid (number % 2 ^ 32) from end to
+  -- the link of this number was served by a seat of the book, and ended so; this passed over it
+  abbrev pub serves_link : ℕ → Passage → View B Turn Answer → Ended → View B Turn Answer → Type 0
+  serves_link number passed from end to = turns.Serves server_guid (number % 2 ^ 32) passed from end to
 
   -- Links below a count were served so, and none is being served: each by a seat of its own, which this seat took in with its number and all
-  -- its entries. Of some it is told how they ended.
-  abbrev pub AreServedBy : ℕ → View B Turn Answer → List (Option Ended) → Type 0
-  AreServedBy count view ends = AreServed serves_link [] count ends view
+  -- its entries. Of what passed over each this holds. Of some it is told how they ended.
+  abbrev pub AreServedBy : (Passage → Type 0) → ℕ → View B Turn Answer → List (Option Ended) → Type 0
+  AreServedBy over count view ends = AreServed (ServesOver over serves_link) [] count ends view
 
 -- a seat of a book that opens with this server
 pub record ServingOpens {D : Type 0} (server : Server D) (view : View (ServerBook D) Turn Answer) : Type 0 where
@@ -107,10 +108,10 @@ pub record ServingOpens {D : Type 0} (server : Server D) (view : View (ServerBoo
   pub is : view.opening ≡ Some opening
 
 module _ {D N : Type 0} (told : Type 0) (seen : D → List ℕ) (may_leave : D → List ℕ → Type 0) (faults : D → ℕ)
-    (listens_at : N → Option Address) (links : N → ℕ) (net_faults : N → ℕ) where
+    (listens_at : N → Option Address) (links : N → ℕ) (net_faults : N → ℕ) (over : Passage → Type 0) where
   -- Links were served, each by a seat of one book, whose history leads from the server that began, and stood there then, to the one that was
   -- there in the end. The disk is that of the last server. The net listens where it did. Where it ended with 0 as many links were accepted as
-  -- the words say, and of each an end is told, or as many as have numbers.
+  -- the words say, and of each an end is told, or as many as have numbers. Of all that passed over a link which the net accepted this holds.
   pub record HasServed (before : ℕ) (bound : Option Bound) (server : Server D) (from : Stand) (written written' : Option (List ℕ)) (sink sink' : ℕ)
       (net net' : N) (disk' : Option D) (ending : Ending) : Type 0 where
     pub view : View (ServerBook D) Turn Answer
@@ -120,12 +121,12 @@ module _ {D N : Type 0} (told : Type 0) (seen : D → List ℕ) (may_leave : D �
     pub last : ServerBook D
     pub net_failed : halt ≡ halts.NetFault → Rose (net_faults net) (net_faults net')
     pub listens : listens_at net' ≡ listens_at net
-    pub served : AreServedBy (serving_accepted bound) view ends
+    pub served : AreServedBy over (serving_accepted bound) view ends
     pub closes : Closes (server_steps told seen may_leave) view last
     pub disk_is : disk' ≡ Some (disk_of last.server.server)
     pub rose : has_failed faults before last ≡ true → Rose before (faults (disk_of last.server.server))
     pub counted : ending ≡ Done → AllEnded bound ends (links net) (links net')
-    pub whole : WasServedWhole told seen may_leave (serving_accepted bound) opens.opening from ends last
+    pub whole : WasServedWhole told seen may_leave over (serving_accepted bound) opens.opening from ends last
     pub tells : Behind written written' sink sink' bound halt ends (has_failed faults before last) ending
 
   -- a net listens

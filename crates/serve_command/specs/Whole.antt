@@ -21,22 +21,19 @@ use Rattle.serve_turns.specs.declared.event_book.turn.Turn.{Turn}
 use Rattle.serve_turns.specs.declared.link_serving.ended.Ended.{Ended}
 use Rattle.serve_turns.specs.declared.shared_book.view.Entry.{Entry}
 use Rattle.serve_turns.specs.event_book.History.{Course, Off, On, RunsBy, Stand, Standing}
+use Rattle.serve_turns.specs.link_serving.Passage.{Passage}
 use Rattle.serve_turns.specs.shared_book.Histories.{Replays, entries_of}
 use Rattle.serve_command.specs.Guid.{server_guid}
 use Rattle.serve_command.specs.Steps.{ServerBook, server_steps}
 
 -- ---- connections
 
--- One that has ended: its place among the links that were accepted, from 1, its seat's number, what its link gave and took, how often the
--- link had failed before and behind, whether it gave the end, how the connection ended, and what was sealed for it.
+-- One that has ended: its place among the links that were accepted, from 1, its seat's number, what passed over its link, how the connection
+-- ended, and what was sealed for it.
 pub record EndedConnection : Type 0 where
   pub accept : ℕ
   pub seat : ℕ
-  pub came : List ℕ
-  pub wrote : List ℕ
-  pub faults : ℕ
-  pub faults' : ℕ
-  pub closed : Bool
+  pub passage : Passage
   pub end : Ended
   pub seals : List Seal
 
@@ -46,10 +43,15 @@ number_of x = x.accept % 2 ^ 32
 
 -- each entry of the history that its seat has, and no other, is a turn of it
 abbrev pub WasServed : ServerSettings → Course → List (Entry Turn Answer) → EndedConnection → Type 0
-WasServed z h log x = WasServedBy z h (number_of x) (entries_of x.seat 0 log) x.came x.wrote x.faults x.faults' x.closed x.end x.seals
+WasServed z h log x = WasServedBy z h (number_of x) (entries_of x.seat 0 log) x.passage.came x.passage.wrote x.passage.faults x.passage.faults'
+    x.passage.ended x.end x.seals
 
 abbrev pub AllServed : ServerSettings → Course → List (Entry Turn Answer) → List EndedConnection → Type 0
 AllServed z h log xs = (i : ℕ) (x : EndedConnection) → slice_get xs i ≡ Some x → WasServed z h log x
+
+-- what passed over the link of each is told to be possible
+abbrev pub AllPassed : (Passage → Type 0) → List EndedConnection → Type 0
+AllPassed over xs = (i : ℕ) (x : EndedConnection) → slice_get xs i ≡ Some x → over x.passage
 
 -- each link is one connection's, and so is each seat
 abbrev pub AreApart : List EndedConnection → Type 0
@@ -145,10 +147,10 @@ module _ {D : Type 0} (told : Type 0) (seen : D → List ℕ) (may_leave : D →
   -- ---- the whole
 
   -- Of the server that began, the history, the connections, and the server that was there in the end: the history runs in the model; each
-  -- connection's turns are its seat's entries, and what it wrote are the answers to what came; no entry is anybody else's; links, seats and
-  -- numbers are each one connection's own; of which it is told how they ended, they ended so; the disk stands for the records at each place;
-  -- and no nonce came twice.
-  pub record WasServedWhole (count : ℕ) (opening : ServerBook D) (from : Stand) (ends : List (Option Ended)) (last : ServerBook D)
+  -- connection's turns are its seat's entries, and what it wrote are the answers to what came, and that is all that passed over a link of which
+  -- this holds; no entry is anybody else's; links, seats and numbers are each one connection's own; of which it is told how they ended, they
+  -- ended so; the disk stands for the records at each place; and no nonce came twice.
+  pub record WasServedWhole (over : Passage → Type 0) (count : ℕ) (opening : ServerBook D) (from : Stand) (ends : List (Option Ended)) (last : ServerBook D)
       : Type 0 where
     pub log : List (Entry Turn Answer)
     pub h : Course
@@ -157,6 +159,7 @@ module _ {D : Type 0} (told : Type 0) (seen : D → List ℕ) (may_leave : D →
     pub replays : Replays (server_steps told seen may_leave) opening log last
     pub runs : RunsBy (settings_of opening.server.server) (On from) log h to
     pub each : AllServed (settings_of opening.server.server) h log connections
+    pub passed : AllPassed over connections
     pub apart : AreApart connections
     pub of_first : AreOfFirst count connections
     pub numbered : count < 2 ^ 32 → AreNumbered connections

@@ -1,5 +1,6 @@
 //! The command.
 ghost use Rattle.std.specs.Prelude.{◌≡◌, IfOk, None, length, replicate};
+ghost use Rattle.serve_turns.specs.link_serving.Passage.{IsOfLink};
 ghost use Rattle.serve_turns.specs.shared_book.Seats.{Closes};
 ghost use Rattle.serve_turns.specs.shared_book.Words.{view_of, IsSeatOf};
 ghost use Rattle.serve_command.specs.Steps.{server_steps};
@@ -58,7 +59,7 @@ where
     N: Net + Drop,
     C: Clock + Drop + Send,
     R: Rng + Drop + Send,
-    ensures { ServingEnds D.told D.seen D.may_leave D.faults N.listens_at N.accepted N.faults said.now disk (S.left source.old)
+    ensures { ServingEnds D.told D.seen D.may_leave D.faults N.listens_at N.accepted N.faults (IsOfLink N.L.told N.L.given N.L.written N.L.faults N.L.ended) said.now disk (S.left source.old)
         (S.left source.new) (S.faults source.old) (S.faults source.new) (O.written sink.old) (O.written sink.new) (O.faults sink.old)
         (O.faults sink.new) net result.net result.disk result.ending }
 {
@@ -91,7 +92,7 @@ where
     N: Net + Drop,
     C: Clock + Drop + Send,
     R: Rng + Drop + Send,
-    ensures { Starts D.told D.seen D.may_leave D.faults N.listens_at N.accepted N.faults said.now setup.config disk (O.written sink.old)
+    ensures { Starts D.told D.seen D.may_leave D.faults N.listens_at N.accepted N.faults (IsOfLink N.L.told N.L.given N.L.written N.L.faults N.L.ended) said.now setup.config disk (O.written sink.old)
         (O.written sink.new) (O.faults sink.old) (O.faults sink.new) net result.net result.disk result.ending }
 {
     let Setup { config, watch } = setup;
@@ -140,15 +141,15 @@ fn closed<W: Wait, D: Disk>(
     book.close(rt, seat)
 }
 
-/// A book on a server, and no connection served yet, with room for how so many ended.
-fn opened<D: Disk + Drop>(
+/// A book on a server, and no connection of such a net served yet, with room for how so many ended.
+fn opened<D: Disk + Drop, N: Net>(
     alloc: Global,
     server: Server<D>,
     count: usize,
 ) -> Result<(SharedBook<ServerBook<D>>, Roll<ServerBook<D>, Ended>), AllocError>
     ensures own { IfOk result (λ r. IsSeatOf r.0 r.1.seat) }
     ensures opens { IfOk result (λ r. ServingOpens server (view_of r.1.seat)) }
-    ensures served { IfOk result (λ r. AreServedBy 0 (view_of r.1.seat) r.1.ends.items) }
+    ensures served { IfOk result (λ r. AreServedBy (IsOfLink N.L.told N.L.given N.L.written N.L.faults N.L.ended) 0 (view_of r.1.seat) r.1.ends.items) }
     ensures room { IfOk result (λ r. length r.1.ends.items ≡ count) }
 {
     let ends = none_ended(alloc, count)?;
@@ -198,7 +199,7 @@ where
     C: Clock + Drop + Send,
     R: Rng + Drop + Send,
     ensures { (from : Stand) → BeginsAt D.told D.seen D.may_leave server from
-        → Serves D.told D.seen D.may_leave D.faults N.listens_at N.accepted N.faults before said.now.address said.now.bound server from
+        → Serves D.told D.seen D.may_leave D.faults N.listens_at N.accepted N.faults (IsOfLink N.L.told N.L.given N.L.written N.L.faults N.L.ended) before said.now.address said.now.bound server from
         (O.written sink.old) (O.written sink.new) (O.faults sink.old) (O.faults sink.new) net result.net result.disk result.ending }
 {
     match net.listen(said.address) {
@@ -235,11 +236,11 @@ where
     C: Clock + Drop + Send,
     R: Rng + Drop + Send,
     ensures { (from : Stand) → BeginsAt D.told D.seen D.may_leave server from
-        → ServesOn D.told D.seen D.may_leave D.faults N.listens_at N.accepted N.faults before said.now.bound server from
+        → ServesOn D.told D.seen D.may_leave D.faults N.listens_at N.accepted N.faults (IsOfLink N.L.told N.L.given N.L.written N.L.faults N.L.ended) before said.now.bound server from
         (O.written sink.old) (O.written sink.new) (O.faults sink.old) (O.faults sink.new) net result.net result.disk result.ending }
 {
     let count = listed(said.bound);
-    match opened(alloc, server, count) {
+    match opened::<D, N>(alloc, server, count) {
         Ok((book, roll)) => {
             serve_book(
                 rt, alloc, said, sink, book, roll, before, net, clock, random,
@@ -274,11 +275,11 @@ where
     C: Clock + Drop + Send,
     R: Rng + Drop + Send,
     requires own { IsSeatOf book roll.seat }
-    requires served { AreServedBy 0 (view_of roll.seat) roll.ends.items }
+    requires served { AreServedBy (IsOfLink N.L.told N.L.given N.L.written N.L.faults N.L.ended) 0 (view_of roll.seat) roll.ends.items }
     requires room { length roll.ends.items ≡ serving_listed said.now.bound }
     ensures { (server : Server D) (from : Stand) → ServingOpens server (view_of roll.seat)
         → BeginsAt D.told D.seen D.may_leave server from → HasServed D.told D.seen D.may_leave D.faults N.listens_at N.accepted
-        N.faults before said.now.bound server from (O.written sink.old) (O.written sink.new) (O.faults sink.old) (O.faults sink.new) net
+        N.faults (IsOfLink N.L.told N.L.given N.L.written N.L.faults N.L.ended) before said.now.bound server from (O.written sink.old) (O.written sink.new) (O.faults sink.old) (O.faults sink.new) net
         result.net result.disk result.ending }
 {
     let outside = Connections {

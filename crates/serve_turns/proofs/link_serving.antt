@@ -1,1 +1,2 @@
+pub mod Overs
 pub mod Rolls

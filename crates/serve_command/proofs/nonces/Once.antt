@@ -107,7 +107,8 @@ module _ (z : ServerSettings) (h : Course) (log : List (Entry Turn Answer)) (fro
 
   of_served : (x : EndedConnection) → WasServed z h log x → OnceAlone x.seat x.seals
   of_served x (inl w) =
-      taken_alone x.seat (number_of x) (entries_of x.seat 0 log) x.came x.wrote x.faults x.faults' x.closed x.end x.seals refl w
+      taken_alone x.seat (number_of x) (entries_of x.seat 0 log) x.passage.came x.passage.wrote x.passage.faults
+      x.passage.faults' x.passage.ended x.end x.seals refl w
   of_served x (inr (inl w)) = none_alone x.seat x.seals w.none_sealed
   of_served x (inr (inr (inl w))) = none_alone x.seat x.seals w.none_sealed
   of_served x (inr (inr (inr w))) = none_alone x.seat x.seals w.none_sealed

@@ -8,7 +8,8 @@ use Rattle.std.proofs.Math.Seq.{take-add}
 use Rattle.conn_ends.specs.Shown.{IsFrontEnd}
 use Rattle.conn_ends.specs.declared.end.ConnEnd.{ConnEnd}
 use Rattle.conn_ends.specs.declared.end.ConnEnd.TheVariants.{LinkFault, Memory}
-use Rattle.serve_turns.specs.connection_turns.Passing.{Feeds, HasWritten, NextFrame, Passed, PutFails}
+use Rattle.serve_turns.specs.connection_turns.Passing.{Feeds, HasWritten, NextFrame, PutFails}
+use Rattle.serve_turns.specs.link_serving.Passage.{Passed}
 use Rattle.wire_bytes.specs.frames.Next.{FrameNextAnswers}
 use Rattle.base_outside.specs.streams.Faults.{Rose}
 use Rattle.base_outside.specs.network.Link.{is_link_end}
@@ -125,7 +126,7 @@ module _ {K : Type 0} (told : Type 0) (given written : K → List ℕ) (faults :
   -- a read failed
   pub feeds_fail : (l n : K) (s : List ℕ) (count : ℕ) → (told → given n ≡ given l) → (told → written n ≡ written l) → count ≡ faults n
       → Rose (faults l) (faults n) → Feeds told given written faults ended l s n s (Err (Some (LinkFault count)))
-  feeds_fail l n s count h k counts rose = ([], gave_none told given written l n h k, refl, inl (ap LinkFault counts, rose))
+  feeds_fail l n s count h k counts rose = ([], gave_none told given written l n h k, refl, inl (ap LinkFault counts, rose, refl))
 
   -- what a read gave stands behind the stream
   pub feeds_more : (l n : K) (s s' bytes : List ℕ) (x : Unit) → (told → given n ≡ given l ++ bytes) → (told → written n ≡ written l)

@@ -1,6 +1,6 @@
 -- Frames of a connection that were answered, one run of them behind another, and how they end.
 use Rattle.std.proofs.Common.{◌≡◌, ◌≤◌, ℕ, Bool, true, List, [], ◌∷◌, ◌++◌, Option, None, Some, inl, inr, refl, sym, ap, subst, ◌∙◌}
-use Rattle.std.proofs.Common.{append_assoc}
+use Rattle.std.proofs.Common.{append_assoc, ◌⊎◌}
 use Rattle.std.proofs.lemmas.List.{append-nil}
 use Rattle.base_outside.specs.streams.Faults.{Rose}
 use Rattle.spec_crypto.specs.sessions.Nonces.{last_counter}
@@ -13,8 +13,8 @@ use Rattle.conn_ends.specs.Shown.{ShowsEnd}
 use Rattle.conn_ends.specs.declared.end.ConnEnd.{ConnEnd}
 use Rattle.conn_ends.specs.declared.end.ConnEnd.TheVariants as ends
 use Rattle.conn_core.specs.reply_frames.Replying.{EndsAs}
-use Rattle.serve_turns.specs.connection_turns.Frames.{Answers, StopsFrame}
-use Rattle.serve_turns.specs.connection_turns.Passing.{CannotRead, FramesGo, FramesStop, StopsBy}
+use Rattle.serve_turns.specs.connection_turns.Frames.{Answers, AnswersAll, StopsFrame}
+use Rattle.serve_turns.specs.connection_turns.Passing.{CannotRead, FramesGo, FramesStop, HasFailedReading, HasFailedWriting, StopsBy}
 use Rattle.serve_turns.specs.declared.connection_turns.state.ConnectionState.{ConnectionState}
 use Rattle.serve_turns.specs.event_book.History.{Course, Placed}
 use Rattle.serve_turns.proofs.connection_turns.Chains.{answers_none, answers_on, answers_one, frames_on}
@@ -36,12 +36,7 @@ module _ (z : ServerSettings) (h : Course) (k : ℕ) where
   }
   by_on f before rest x y said last p q ended (Some (ends.LinkFault count)) b = (
     b.0,
-    record {
-      rose = b.1.rose;
-      lost = b.1.lost;
-      front_is = append_assoc x y b.1.lost ∙ ap (λ l. x ++ l) b.1.front_is;
-      none_more = b.1.none_more;
-    },
+    record { rose = b.1.rose; none_more = b.1.none_more },
   )
   by_on f before rest x y said last p q ended (Some ends.Memory) b = record {
     here = b.here;
@@ -112,6 +107,37 @@ module _ (z : ServerSettings) (h : Course) (k : ℕ) where
     calm = b.calm;
   }
 
+  -- how the link failed, behind further answers
+  abbrev Fails : ServerEnd → ℕ → List (List ℕ) → List Placed → (rest wrote said : List ℕ) → ServerEnd → ℕ → List Seal → Type 0
+  Fails f before frames turns rest wrote said behind setups seals =
+      HasFailedReading rest wrote said ⊎ HasFailedWriting z h k f before frames turns wrote said behind setups seals
+
+  fails_on : (f g e : ServerEnd) (before between after : ℕ) (ms ns : List (List ℕ)) (xs ys : List Placed) (x y said rest : List ℕ)
+      (made more : List Seal) → AnswersAll z h k f before ms xs x g between made → Fails g between ns ys rest y said e after more
+      → Fails f before (ms ++ ns) (xs ++ ys) rest (x ++ y) (x ++ said) e after (made ++ more)
+  fails_on f g e before between after ms ns xs ys x y said rest made more all (inl b) =
+      inl (record { waits = b.waits; wrote_is = ap (λ (l : List ℕ). x ++ l) b.wrote_is })
+  fails_on f g e before between after ms ns xs ys x y said rest made more all (inr b) = inr (record {
+    early = ms ++ b.early;
+    frame = b.frame;
+    frames_are = ap (λ (l : List (List ℕ)). ms ++ l) b.frames_are ∙ sym (append_assoc ms b.early (b.frame ∷ []));
+    turns_early = xs ++ b.turns_early;
+    own = b.own;
+    turns_are = ap (λ (l : List Placed). xs ++ l) b.turns_are ∙ sym (append_assoc xs b.turns_early b.own);
+    whole = x ++ b.whole;
+    part = b.part;
+    lost = b.lost;
+    wrote_is = ap (λ (l : List ℕ). x ++ l) b.wrote_is ∙ sym (append_assoc x b.whole b.part);
+    said_is = ap (λ (l : List ℕ). x ++ l) b.said_is ∙ sym (append_assoc x b.whole (b.part ++ b.lost));
+    middle = b.middle;
+    between = b.between;
+    made = made ++ b.made;
+    more = b.more;
+    seals_are = ap (λ (l : List Seal). made ++ l) b.seals_are ∙ sym (append_assoc made b.made b.more);
+    answered = answers_on z h k f g b.middle before between b.between ms b.early xs b.turns_early x b.whole made b.made all b.answered;
+    answer = b.answer;
+  })
+
   -- ---- one run behind another
 
   pub goes_on : (f : ServerEnd) (before : ℕ) (xs ys : List Placed) (s a b r q x y : List ℕ) (v w : ConnectionState)
@@ -144,6 +170,8 @@ module _ (z : ServerSettings) (h : Course) (k : ℕ) where
     answers = answers_on z h k f m.behind n.behind before v.setups n.setups m.frames n.frames xs n.answered x n.said m.seals more m.answers
         n.answers;
     stops = by_on n.behind n.setups n.rest x y n.said n.last p q ended why n.stops;
+    failed = λ count e. fails_on f m.behind n.behind before v.setups n.setups m.frames n.frames xs n.answered x y n.said n.rest m.seals more
+        m.answers (n.failed count e);
   }
 
   -- bytes came, and nothing was taken yet
@@ -176,8 +204,9 @@ module _ (z : ServerSettings) (h : Course) (k : ℕ) where
   -- ---- nothing was taken, and this is the end
 
   ends_here : (f : ServerEnd) (before : ℕ) (s a : List ℕ) (p q : ℕ) (ended : Bool) (why : Option ConnEnd)
-      → By f before (s ++ a) [] [] [] p q ended why → FramesStop z h k f before [] s a [] p q ended why []
-  ends_here f before s a p q ended why by = record {
+      → By f before (s ++ a) [] [] [] p q ended why → ((count : ℕ) → why ≡ Some (ends.LinkFault count) → HasFailedReading (s ++ a) [] [])
+      → FramesStop z h k f before [] s a [] p q ended why []
+  ends_here f before s a p q ended why by failed = record {
     answered = [];
     last = [];
     turns_are = refl;
@@ -189,7 +218,18 @@ module _ (z : ServerSettings) (h : Course) (k : ℕ) where
     setups = before;
     answers = answers_none z h k f before;
     stops = by;
+    failed = λ count e. inl (failed count e);
   }
+
+  -- no fault of a link
+  not_none : (count : ℕ) → (let none : Option ConnEnd = None in none) ≡ Some (ends.LinkFault count) → ⊥
+  not_none count e = absurd (let q = e in cc)
+
+  not_memory : (count : ℕ) → Some ends.Memory ≡ Some (ends.LinkFault count) → ⊥
+  not_memory count e = absurd (let q = e in cc)
+
+  not_bad : (count : ℕ) → Some ends.BadFrame ≡ Some (ends.LinkFault count) → ⊥
+  not_bad count e = absurd (let q = e in cc)
 
   pub peer_closed : (f : ServerEnd) (before : ℕ) (s : List ℕ) (p q : ℕ) (ended : Bool) → front s ≡ Waits → ended ≡ true → q ≡ p
       → FramesStop z h k f before [] s [] [] p q ended None []
@@ -200,19 +240,21 @@ module _ (z : ServerSettings) (h : Course) (k : ℕ) where
         wrote_is = refl;
         none_more = refl;
         calm = calm;
-      })
+      }) (λ count e. absurd (not_none count e))
 
   pub link_failed : (f : ServerEnd) (before : ℕ) (s a : List ℕ) (p q : ℕ) (ended : Bool) (why : ConnEnd) → why ≡ ends.LinkFault q → Rose p q
-      → FramesStop z h k f before [] s a [] p q ended (Some why) []
-  link_failed f before s a p q ended why is rose =
+      → front s ≡ Waits → a ≡ [] → FramesStop z h k f before [] s a [] p q ended (Some why) []
+  link_failed f before s a p q ended why is rose waits none =
       subst (λ (e : ConnEnd). FramesStop z h k f before [] s a [] p q ended (Some e) []) (sym is)
       (ends_here f before s a p q ended (Some (ends.LinkFault q))
-      (refl, record { rose = rose; lost = []; front_is = refl; none_more = refl }))
+      (refl, record { rose = rose; none_more = refl })
+      (λ count e. record { waits = ap (λ (l : List ℕ). front (s ++ l)) none ∙ (ap front (append-nil s) ∙ waits); wrote_is = refl }))
 
   pub lacked : (f : ServerEnd) (before : ℕ) (s a : List ℕ) (p q : ℕ) (ended : Bool) → q ≡ p
       → FramesStop z h k f before [] s a [] p q ended (Some ends.Memory) []
   lacked f before s a p q ended calm =
       ends_here f before s a p q ended (Some ends.Memory) (record { here = inl refl; wrote_is = refl; calm = calm })
+      (λ count e. absurd (not_memory count e))
 
   pub not_read : (f : ServerEnd) (before : ℕ) (s a : List ℕ) (p q : ℕ) (ended : Bool) (why : ConnEnd) → CannotRead (s ++ a) why → q ≡ p
       → FramesStop z h k f before [] s a [] p q ended (Some why) []
@@ -224,28 +266,49 @@ module _ (z : ServerSettings) (h : Course) (k : ℕ) where
         wrote_is = refl;
         none_more = refl;
         calm = calm;
-      })))
+      })) (λ count e. absurd (not_bad count e)))
   not_read f before s a p q ended why (inr memory) calm =
       subst (λ (e : ConnEnd). FramesStop z h k f before [] s a [] p q ended (Some e) []) (sym memory) (lacked f before s a p q ended calm)
 
   -- ---- a frame whose answer was not written whole
 
-  pub frame_lost : (f : ServerEnd) (before : ℕ) (xs : List Placed) (s r wrote lost : List ℕ) (w : ConnectionState) (p q : ℕ) (ended : Bool)
-      (why : ConnEnd) (m : FramesGo z h k f before xs s [] (wrote ++ lost) r w) → why ≡ ends.LinkFault q → Rose p q
-      → FramesStop z h k f before xs s [] wrote p q ended (Some why) m.seals
-  frame_lost f before xs s r wrote lost w p q ended why m is rose =
-      subst (λ (e : ConnEnd). FramesStop z h k f before xs s [] wrote p q ended (Some e) m.seals) (sym is) (record {
+  pub frame_lost : (f : ServerEnd) (before : ℕ) (xs : List Placed) (s r m wrote lost : List ℕ) (w : ConnectionState) (behind : ServerEnd)
+      (seals : List Seal) (p q : ℕ) (ended : Bool) (why : ConnEnd) → front s ≡ Whole m r
+      → Answers z h k f before m xs (wrote ++ lost) behind w.setups seals → why ≡ ends.LinkFault q → Rose p q
+      → FramesStop z h k f before xs s [] wrote p q ended (Some why) seals
+  frame_lost f before xs s r m wrote lost w behind seals p q ended why whole one is rose =
+      subst (λ (e : ConnEnd). FramesStop z h k f before xs s [] wrote p q ended (Some e) seals) (sym is) (record {
         answered = xs;
         last = [];
         turns_are = sym (append-nil xs);
-        frames = m.frames;
+        frames = m ∷ [];
         rest = r;
-        framed = m.framed;
+        framed = (r, ap front (append-nil s) ∙ whole, refl);
         said = wrote ++ lost;
-        behind = m.behind;
+        behind = behind;
         setups = w.setups;
-        answers = m.answers;
-        stops = (refl, record { rose = rose; lost = lost; front_is = refl; none_more = refl });
+        answers = answers_one z h k f behind before w.setups m xs (wrote ++ lost) seals one;
+        stops = (refl, record { rose = rose; none_more = refl });
+        failed = λ count e. inr (record {
+          early = [];
+          frame = m;
+          frames_are = refl;
+          turns_early = [];
+          own = xs;
+          turns_are = refl;
+          whole = [];
+          part = wrote;
+          lost = lost;
+          wrote_is = refl;
+          said_is = refl;
+          middle = f;
+          between = before;
+          made = [];
+          more = seals;
+          seals_are = refl;
+          answered = answers_none z h k f before;
+          answer = one;
+        });
       })
 
   -- ---- a frame that was not answered
@@ -264,6 +327,7 @@ module _ (z : ServerSettings) (h : Course) (k : ℕ) where
     setups = before;
     answers = answers_none z h k f before;
     stops = by why stops;
+    failed = λ count e. absurd (not_failed count e);
   }
     where
       here : Frames (s ++ []) (m ∷ []) r
@@ -273,6 +337,13 @@ module _ (z : ServerSettings) (h : Course) (k : ℕ) where
       no_fault : (count : ℕ) (o : Option world.ConnEnd) → EndsAs (ends.LinkFault count) o → ⊥
       no_fault count None is = is
       no_fault count (Some e) is = is
+
+      not_failed : (count : ℕ) → Some why ≡ Some (ends.LinkFault count) → ⊥
+      not_failed count e =
+          let is : why ≡ ends.LinkFault count = (let q = e in cc) in
+          let b : StopsFrame z h k f before m xs (ends.LinkFault count) =
+          subst (λ (x : ConnEnd). StopsFrame z h k f before m xs x) is stops in
+          no_fault count b.step.step.ends b.cause
 
       by : (e : ConnEnd) → StopsFrame z h k f before m xs e → By f before (s ++ []) [] [] xs p p ended (Some e)
       by ends.Memory b = record { here = inr (m, r, here, b); wrote_is = refl; calm = refl }

@@ -11,7 +11,8 @@ use Rattle.conn_ends.specs.Shown.{ShowsEnd}
 use Rattle.conn_ends.specs.declared.end.ConnEnd.{ConnEnd}
 use Rattle.conn_ends.specs.declared.end.ConnEnd.TheVariants.{Memory}
 use Rattle.serve_turns.specs.connection_turns.Passing.{CannotRead, Feeds, FrameTaken, FramesGo, FramesStop, GoesOn}
-use Rattle.serve_turns.specs.connection_turns.Passing.{NextFrame, Passed, Puts, Stops, TakesAll}
+use Rattle.serve_turns.specs.connection_turns.Passing.{NextFrame, Puts, Stops, TakesAll}
+use Rattle.serve_turns.specs.link_serving.Passage.{Passed}
 use Rattle.serve_turns.specs.declared.connection_turns.state.ConnectionState.{ConnectionState}
 use Rattle.serve_turns.specs.declared.event_book.turn.Answer.{Answer}
 use Rattle.serve_turns.specs.declared.event_book.turn.Turn.{Turn}
@@ -147,12 +148,10 @@ module _ {B K : Type 0} (told : Type 0) (given written : K → List ℕ) (faults
       subst (λ (x : Result (List ℕ) ConnEnd). FrameTaken v d m x e w) fails.answer_is taken in
       stops_on u v w c d s r l k n (Some why) on (stop_here v w d r k n (Some why) [] fails.wrote said.turns fails.passed said.own
       (λ z p f meets shows bound.
-      let one = said.comes z p f meets shows bound in
-      let go = going.frame_goes z p d.conn.id f d.setups said.turns r q m (fails.wrote ++ fails.lost) e one.0 one.1 whole one.2 one.3
-      one.4 in (
-        go.seals,
-        going.frame_lost z p d.conn.id f d.setups said.turns r q fails.wrote fails.lost e (faults k) (faults n) (ended n) why go
-            fails.is fails.rose,
+      let one = said.comes z p f meets shows bound in (
+        one.1,
+        going.frame_lost z p d.conn.id f d.setups said.turns r q m fails.wrote fails.lost e one.0 one.1 (faults k) (faults n) (ended n) why
+            whole one.2 fails.is fails.rose,
       )))
   put u v w c d e s r q m l k n answer (Some why) on whole taken (inr refused) =
       let said : FrameTaken v d m (Err why) e w = subst (λ (x : Result (List ℕ) ConnEnd). FrameTaken v d m x e w) refused.0 taken in
@@ -220,8 +219,11 @@ module _ {B K : Type 0} (told : Type 0) (given written : K → List ℕ) (faults
       (λ z p f meets shows bound. ([], going.peer_closed z p d.conn.id f d.setups r (faults k) (faults n) (ended n) waits end calm))
   fed_off v d r q k n (Some why) waits (came, passed, same, inl failed) =
       stop_here v v d r k n (Some why) came [] [] passed (sym (append-nil v.own))
-      (λ z p f meets shows bound.
-      ([], going.link_failed z p d.conn.id f d.setups r came (faults k) (faults n) (ended n) why failed.0 failed.1))
+      (λ z p f meets shows bound. (
+        [],
+        going.link_failed z p d.conn.id f d.setups r came (faults k) (faults n) (ended n) why failed.0 failed.1
+            waits failed.2,
+      ))
   fed_off v d r q k n (Some why) waits (came, passed, same, inr lacked) =
       stop_here v v d r k n (Some why) came [] [] passed (sym (append-nil v.own))
       (λ z p f meets shows bound.

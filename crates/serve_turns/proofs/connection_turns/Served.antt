@@ -18,6 +18,7 @@ use Rattle.serve_turns.specs.declared.event_book.turn.What.TheVariants.{Accept, 
 use Rattle.serve_turns.specs.declared.link_serving.ended.Ended.{Ended}
 use Rattle.serve_turns.specs.declared.shared_book.view.View.{View}
 use Rattle.serve_turns.specs.event_book.History.{Placed}
+use Rattle.serve_turns.specs.link_serving.Passage.{Passage, ServesOn}
 use Rattle.serve_turns.proofs.connection_turns.Chains.{meet_front}
 use Rattle.serve_turns.proofs.connection_turns.Linking.{passed_none}
 
@@ -213,39 +214,68 @@ module _ {B K : Type 0} (told : Type 0) (given written : K → List ℕ) (faults
   let_go guid number v u w l first why end hears refused goes is =
       let_go_by guid number v u w l first why end (has_lost first) refl hears refused goes is
 
-  pub serves_by : (guid : List ℕ) (number : ℕ) (v w : View B Turn Answer) (l n : K) (end : Ended)
-      → OnLink told given written faults ended guid number v l end w n → Serves guid number v end w
-  serves_by guid number v w l n end h =
+  -- a link that hears of its connection's end gives and takes nothing then
+  pub serves_by : (serves : ℕ → Passage → View B Turn Answer → Ended → View B Turn Answer → Type 0) (place : ℕ) (guid : List ℕ)
+      (number : ℕ) (v w : View B Turn Answer) (l m n : K) (end : Ended)
+      → ((p : Passage) → Serves guid number p v end w → serves place p v end w)
+      → OnLink told given written faults ended guid number v l end w m → (told → (given n ≡ given m) × (written n ≡ written m))
+      → ended n ≡ ended m → faults n ≡ faults m → ServesOn told given written faults ended serves place v l end w n
+  serves_by serves place guid number v w l m n end is h still open_still calm =
       record {
-        came = h.came;
-        wrote = h.wrote;
-        faults = faults l;
-        faults' = faults n;
-        ended = ended n;
-        served = h.served;
+        passage = record {
+          came = h.came;
+          wrote = h.wrote;
+          faults = faults l;
+          faults' = faults m;
+          ended = ended m;
+        };
+        passes = record {
+          bytes = record {
+            given_is = λ t. (still t).0 ∙ h.passed.given_is t;
+            written_is = λ t. (still t).1 ∙ h.passed.written_is t;
+          };
+          before = refl;
+          behind = sym calm;
+          closed = sym open_still;
+        };
+        served = is (record { came = h.came; wrote = h.wrote; faults = faults l; faults' = faults m; ended = ended m }) h.served;
       }
 
-module _ {B : Type 0} where
   -- a link that was let go with no turn
-  pub serves_none : (guid : List ℕ) (number : ℕ) (v : View B Turn Answer) (end : Ended) → end ≡ ended_by Memory → Serves guid number v end v
-  serves_none guid number v end is =
+  pub serves_none : (serves : ℕ → Passage → View B Turn Answer → Ended → View B Turn Answer → Type 0) (place : ℕ) (guid : List ℕ)
+      (number : ℕ) (v : View B Turn Answer) (l n : K) (end : Ended)
+      → ((p : Passage) → Serves guid number p v end v → serves place p v end v) → end ≡ ended_by Memory
+      → (told → (given n ≡ given l) × (written n ≡ written l)) → faults n ≡ faults l
+      → ServesOn told given written faults ended serves place v l end v n
+  serves_none serves place guid number v l n end as_served is still calm =
       record {
-        came = [];
-        wrote = [];
-        faults = 0;
-        faults' = 0;
-        ended = false;
-        served = record {
+        passage = record {
+          came = [];
+          wrote = [];
+          faults = faults l;
+          faults' = faults n;
+          ended = ended n;
+        };
+        passes = record {
+          bytes = record {
+            given_is = λ t. (still t).0 ∙ sym (append-nil (given l));
+            written_is = λ t. (still t).1 ∙ sym (append-nil (written l));
+          };
+          before = refl;
+          behind = refl;
+          closed = refl;
+        };
+        served = as_served (record { came = []; wrote = []; faults = faults l; faults' = faults n; ended = ended n }) (record {
           turns = [];
           own = sym (append-nil v.own);
           by = λ z h server meets. (
             [],
             inr (inr (inr (record {
               none = refl;
-              idle = idle 0;
+              idle = record { nothing_came = refl; nothing_written = refl; calm = calm };
               end_is = is;
               none_sealed = refl;
             }))),
           );
-        };
+        });
       }

@@ -15,7 +15,8 @@ use Rattle.conn_ends.specs.Shown.{ShowsEnd}
 use Rattle.conn_ends.specs.declared.end.ConnEnd.{ConnEnd}
 use Rattle.serve_turns.specs.connection_turns.Due.{AnswerIsDue, IsAnswerDue, IsTakenIn, IsUnderWay}
 use Rattle.serve_turns.specs.connection_turns.Frames.{Answers, AnswersAll, AreGiven}
-use Rattle.serve_turns.specs.connection_turns.Passing.{FrameTaken, FramesGo, GoesOn, NextFrame, Passed, Stops}
+use Rattle.serve_turns.specs.connection_turns.Passing.{FrameTaken, FramesGo, GoesOn, NextFrame, Stops}
+use Rattle.serve_turns.specs.link_serving.Passage.{Passed}
 use Rattle.serve_turns.specs.connection_turns.Turning.{HearsOnce, IsThe}
 use Rattle.serve_turns.specs.connection_turns.Ending.{refusal_of}
 use Rattle.serve_turns.specs.declared.connection_turns.state.ConnectionState.{ConnectionState}

@@ -8,7 +8,8 @@ use Rattle.spec_world.specs.Ends.{ServerEnd, Logons, first_server_end}
 use Rattle.spec_world.specs.Settings.{ServerSettings}
 use Rattle.serve_turns.specs.connection_turns.Ending.{refusal_of}
 use Rattle.serve_turns.specs.connection_turns.Frames.{AnswersAll}
-use Rattle.serve_turns.specs.connection_turns.Passing.{FramesGo, Passed}
+use Rattle.serve_turns.specs.connection_turns.Passing.{FramesGo}
+use Rattle.serve_turns.specs.link_serving.Passage.{Passed}
 use Rattle.serve_turns.specs.connection_turns.Turning.{IsThe}
 use Rattle.serve_turns.specs.declared.connection_turns.state.ConnectionState.{ConnectionState}
 use Rattle.serve_turns.specs.declared.event_book.book.EventBook.{EventBook}

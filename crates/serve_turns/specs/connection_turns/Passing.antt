@@ -16,16 +16,12 @@ use Rattle.serve_turns.specs.declared.event_book.turn.Answer.{Answer}
 use Rattle.serve_turns.specs.declared.event_book.turn.Turn.{Turn}
 use Rattle.serve_turns.specs.declared.shared_book.view.View.{View}
 use Rattle.serve_turns.specs.event_book.History.{AllMeet, Course, Placed}
+use Rattle.serve_turns.specs.link_serving.Passage.{Passed}
 
--- the link gave these bytes and took those, where it tells them
+-- the link took these bytes and gave none
 module _ {K : Type 0} (told : Type 0) (given written : K → List ℕ) where
-  pub record Passed (old new : K) (came wrote : List ℕ) : Type 0 where
-    pub given_is : told → given new ≡ given old ++ came
-    pub written_is : told → written new ≡ written old ++ wrote
-
-  -- it took these bytes and gave none
   abbrev pub HasWritten : K → K → List ℕ → Type 0
-  HasWritten old new wrote = Passed old new [] wrote
+  HasWritten old new wrote = Passed told given written old new [] wrote
 
 module _ {K : Type 0} (told : Type 0) (given written : K → List ℕ) (faults : K → ℕ) where
   -- the link failed in the middle of an answer: its count of faults rose, and a front of the answer was written
@@ -43,10 +39,11 @@ module _ {K : Type 0} (told : Type 0) (given written : K → List ℕ) (faults :
       (bytes : List ℕ) × (answer ≡ Ok bytes) × HasWritten told given written old new bytes × (faults new ≡ faults old)
   Puts old answer new (Some why) = PutFails old answer new why ⊎ ((answer ≡ Err why) × (new ≡ old))
 
-  -- why a stream could not be fed: the link failed, or its bytes found no memory
-  abbrev pub CannotFeed : K → K → ConnEnd → Type 0
-  CannotFeed old new why =
-      ((why ≡ LinkFault (faults new)) × Rose (faults old) (faults new)) ⊎ ((why ≡ Memory) × (faults new ≡ faults old))
+  -- why a stream could not be fed: the link failed and gave nothing, or the bytes that it gave found no memory
+  abbrev pub CannotFeed : K → K → List ℕ → ConnEnd → Type 0
+  CannotFeed old new came why =
+      ((why ≡ LinkFault (faults new)) × Rose (faults old) (faults new) × (came ≡ []))
+      ⊎ ((why ≡ Memory) × (faults new ≡ faults old))
 
   module _ (ended : K → Bool) where
     -- what a link gave was put behind a stream; or the peer sends no more; or the connection ends so, and the stream stays
@@ -56,7 +53,7 @@ module _ {K : Type 0} (told : Type 0) (given written : K → List ℕ) (faults :
     Feeds old stream new stream' (Err None) =
         Passed told given written old new [] [] × (faults new ≡ faults old) × (ended new ≡ true) × (stream' ≡ stream)
     Feeds old stream new stream' (Err (Some why)) =
-        (came : List ℕ) × Passed told given written old new came [] × (stream' ≡ stream) × CannotFeed old new why
+        (came : List ℕ) × Passed told given written old new came [] × (stream' ≡ stream) × CannotFeed old new came why
 
 -- what stands at the front of these bytes is no frame, or it found no memory
 abbrev pub CannotRead : List ℕ → ConnEnd → Type 0
@@ -107,12 +104,37 @@ pub record IsClosed (rest wrote said : List ℕ) (last : List Placed) (faults fa
   pub none_more : last ≡ []
   pub calm : faults' ≡ faults
 
--- the link failed: a front of the answers was written
-pub record HasFailed (wrote said : List ℕ) (last : List Placed) (faults faults' : ℕ) : Type 0 where
+-- the link failed
+pub record HasFailed (last : List Placed) (faults faults' : ℕ) : Type 0 where
   pub rose : Rose faults faults'
-  pub lost : List ℕ
-  pub front_is : wrote ++ lost ≡ said
   pub none_more : last ≡ []
+
+-- It failed in a read: no whole frame is left, and each answer was written.
+pub record HasFailedReading (rest wrote said : List ℕ) : Type 0 where
+  pub waits : front rest ≡ Waits
+  pub wrote_is : wrote ≡ said
+
+-- It failed in a write: the answers to all frames but the last were written, and a front of that one's.
+pub record HasFailedWriting (z : ServerSettings) (h : Course) (k : ℕ) (f : ServerEnd) (before : ℕ) (frames : List (List ℕ))
+    (turns : List Placed) (wrote said : List ℕ) (behind : ServerEnd) (setups : ℕ) (seals : List Seal) : Type 0 where
+  pub early : List (List ℕ)
+  pub frame : List ℕ
+  pub frames_are : frames ≡ early ++ frame ∷ []
+  pub turns_early : List Placed
+  pub own : List Placed
+  pub turns_are : turns ≡ turns_early ++ own
+  pub whole : List ℕ
+  pub part : List ℕ
+  pub lost : List ℕ
+  pub wrote_is : wrote ≡ whole ++ part
+  pub said_is : said ≡ whole ++ (part ++ lost)
+  pub middle : ServerEnd
+  pub between : ℕ
+  pub made : List Seal
+  pub more : List Seal
+  pub seals_are : seals ≡ made ++ more
+  pub answered : AnswersAll z h k f before early turns_early whole middle between made
+  pub answer : Answers z h k middle between frame own (part ++ lost) behind setups more
 
 -- the next frame ended the connection, for its own cause; its events stand
 pub record WasEnded (z : ServerSettings) (h : Course) (k : ℕ) (f : ServerEnd) (before : ℕ) (rest wrote said : List ℕ) (last : List Placed)
@@ -143,7 +165,7 @@ abbrev pub StopsBy : ServerSettings → Course → ℕ → ServerEnd → ℕ →
     → Option ConnEnd → Type 0
 StopsBy z h k f before rest wrote said last faults faults' ended None = IsClosed rest wrote said last faults faults' ended
 StopsBy z h k f before rest wrote said last faults faults' ended (Some (LinkFault count)) =
-    (count ≡ faults') × HasFailed wrote said last faults faults'
+    (count ≡ faults') × HasFailed last faults faults'
 StopsBy z h k f before rest wrote said last faults faults' ended (Some Memory) =
     HasLacked z h k f before rest wrote said last faults faults'
 StopsBy z h k f before rest wrote said last faults faults' ended (Some BadFrame) =
@@ -151,7 +173,8 @@ StopsBy z h k f before rest wrote said last faults faults' ended (Some BadFrame)
 StopsBy z h k f before rest wrote said last faults faults' ended (Some why) =
     WasEnded z h k f before rest wrote said last faults faults' why
 
--- frames were answered up to where no further one was, and why
+-- Frames were answered up to where no further one was, and why. Where the link failed, each whole frame that came before was answered, or it
+-- failed in the last answer.
 pub record FramesStop (z : ServerSettings) (h : Course) (k : ℕ) (f : ServerEnd) (before : ℕ) (turns : List Placed)
     (stream came wrote : List ℕ) (faults faults' : ℕ) (ended : Bool) (why : Option ConnEnd) (seals : List Seal) : Type 0 where
   pub answered : List Placed
@@ -165,6 +188,8 @@ pub record FramesStop (z : ServerSettings) (h : Course) (k : ℕ) (f : ServerEnd
   pub setups : ℕ
   pub answers : AnswersAll z h k f before frames answered said behind setups seals
   pub stops : StopsBy z h k behind setups rest wrote said last faults faults' ended why
+  pub failed : (count : ℕ) → why ≡ Some (LinkFault count)
+      → HasFailedReading rest wrote said ⊎ HasFailedWriting z h k f before frames answered wrote said behind setups seals
 
 -- ---- over a link, in code
 

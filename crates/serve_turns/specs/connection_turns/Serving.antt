@@ -7,7 +7,7 @@ use Rattle.conn_ends.specs.Shown.{ShowsEnd}
 use Rattle.conn_ends.specs.declared.end.ConnEnd.{ConnEnd}
 use Rattle.conn_ends.specs.declared.end.ConnEnd.TheVariants.{Memory}
 use Rattle.serve_turns.specs.connection_turns.Ending.{ended_by, ended_of, has_lost, refusal_of}
-use Rattle.serve_turns.specs.connection_turns.Passing.{FramesStop, Passed, Stops}
+use Rattle.serve_turns.specs.connection_turns.Passing.{FramesStop, Stops}
 use Rattle.conn_core.specs.frame_events.Dealing.{EventAnswer}
 use Rattle.serve_turns.specs.connection_turns.Turning.{HearsOnce, IsThe}
 use Rattle.serve_turns.specs.declared.connection_turns.state.ConnectionState.{ConnectionState}
@@ -17,6 +17,7 @@ use Rattle.serve_turns.specs.declared.event_book.turn.What.TheVariants.{Accept, 
 use Rattle.serve_turns.specs.declared.link_serving.ended.Ended.{Ended}
 use Rattle.serve_turns.specs.declared.shared_book.view.View.{View}
 use Rattle.serve_turns.specs.event_book.History.{AllMeet, Course, Placed}
+use Rattle.serve_turns.specs.link_serving.Passage.{Passage, Passed}
 
 -- nothing came, nothing was written, and the link didn't fail
 pub record IsTurnIdle (came wrote : List ℕ) (faults faults' : ℕ) : Type 0 where
@@ -100,14 +101,9 @@ pub record IsServedOn {B : Type 0} (guid : List ℕ) (number : ℕ) (v : View B 
       → (seals : List Seal) × WasServedBy z h number (made ∷ turns) came wrote faults faults' ended end seals
 
 module _ {B : Type 0} where
-  -- it was served so over some link
-  pub record Serves (guid : List ℕ) (number : ℕ) (v : View B Turn Answer) (end : Ended) (w : View B Turn Answer) : Type 0 where
-    pub came : List ℕ
-    pub wrote : List ℕ
-    pub faults : ℕ
-    pub faults' : ℕ
-    pub ended : Bool
-    pub served : IsServed guid number v came wrote faults faults' ended end w
+  -- it was served so, by what passed over its link
+  abbrev pub Serves : List ℕ → ℕ → Passage → View B Turn Answer → Ended → View B Turn Answer → Type 0
+  Serves guid number p v end w = IsServed guid number v p.came p.wrote p.faults p.faults' p.ended end w
 
 module _ {B : Type 0} where
   -- one that was not taken in: a turn where the reply to the first one was lost

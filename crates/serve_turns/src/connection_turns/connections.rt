@@ -220,7 +220,7 @@ where
     ghost use Rattle.serve_turns.specs.connection_turns.Ending.{stops_behind};
     ghost use Rattle.serve_turns.specs.connection_turns.Serving.{Serves};
 
-    ghost serves = { λ service number from end to. Serves service.guid (number % 2 ^ 32) from end to };
+    ghost serves = { λ service number passed from end to. Serves service.guid (number % 2 ^ 32) passed from end to };
 
     ghost stops = { λ _ end. stops_behind end };
 

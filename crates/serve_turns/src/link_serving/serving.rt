@@ -3,6 +3,7 @@ ghost use Rattle.std.specs.Prelude.{◌≡◌, ◌+◌, ◌<◌, ◌≤◌, ◌^
 ghost use Rattle.serve_turns.specs.declared.shared_book.view.View.{View};
 ghost use Rattle.serve_turns.specs.shared_book.Turns.{rejoined, with_made};
 ghost use Rattle.serve_turns.specs.shared_book.Words.{lasting, view_of, IsSameSeat, IsSeatAt, IsSeatOf};
+ghost use Rattle.serve_turns.specs.link_serving.Passage.{IsNewLink, IsOfLink, Passage, ServesOn, ServesOver};
 ghost use Rattle.serve_turns.specs.link_serving.Serving.{AreServed, IsNewSeat, Leaves, Link};
 
 use crate::shared_book::{Book, BookSeat, SharedBook};
@@ -13,8 +14,8 @@ use std::sync::Wait;
 pub trait Service<B: Book>: Sync {
     type End: Drop + Send;
 
-    /// The number of the link, what the seat knew, how it ended, and what the seat knows then.
-    ghost serves: { Self → ℕ → View B B.Event B.Reply → Self.End → View B B.Event B.Reply → Type 0 };
+    /// The number of the link, what passed over it, what the seat knew, how it ended, and what the seat knows then.
+    ghost serves: { Self → ℕ → Passage → View B B.Event B.Reply → Self.End → View B B.Event B.Reply → Type 0 };
 
     /// Behind which ends no further link is to be accepted.
     ghost stops: { Self → Self.End → Bool };
@@ -31,11 +32,13 @@ pub trait Service<B: Book>: Sync {
     ) -> Self::End
         requires own { IsSeatOf book.now seat.old }
         ensures same { IsSameSeat seat.old seat.new }
-        ensures serves { serves self.now number (view_of seat.old) result (view_of seat.new) };
+        ensures serves { ServesOn L.told L.given L.written L.faults L.ended (serves self.now) number (view_of seat.old) link.old result
+            (view_of seat.new) link.new };
 
     /// Lets a link go that the book hears nothing of, whatever its number, where it can't be served.
     fn turn_away<L: Link>(&self, link: &mut L) -> Self::End
-        ensures { (number : ℕ) (view : View B B.Event B.Reply) → serves self.now number view result view };
+        ensures { (number : ℕ) (view : View B B.Event B.Reply)
+            → ServesOn L.told L.given L.written L.faults L.ended (serves self.now) number view link.old result view link.new };
 
     /// Whether no further link is to be accepted behind one that ended so.
     fn halts(&self, end: &Self::End) -> bool
@@ -63,7 +66,7 @@ fn put_end<X: Drop>(ends: &mut Vec<Option<X>>, place: usize, end: X)
 
 /// Takes in what a served link left: its seat has ended, with its number and its entries, its history is kept, and its end stands at its
 /// place. True where no further link is to be accepted behind it.
-pub fn entered<B: Book, S: Service<B>>(
+pub fn entered<B: Book, S: Service<B>, L: Link>(
     book: &SharedBook<B>,
     service: &S,
     roll: &mut Roll<B, S::End>,
@@ -73,11 +76,12 @@ pub fn entered<B: Book, S: Service<B>>(
 ) -> bool
     requires own { IsSeatOf book.now roll.old.seat × IsSeatOf book.now seat }
     requires by { (from : View B B.Event B.Reply) × IsNewSeat (view_of roll.old.seat).opening from
-        × (lasting (view_of seat) ≡ lasting from) × S.serves service.now (place + 1) from end (view_of seat) }
+        × (lasting (view_of seat) ≡ lasting from)
+        × ServesOver (IsOfLink L.told L.given L.written L.faults L.ended) (S.serves service.now) (place + 1) from end (view_of seat) }
     ensures same { IsSeatAt roll.old.seat roll.new.seat }
     ensures served { (running rest : List Link) (count : ℕ) → Leaves (place, (view_of seat).number) running rest
-        → AreServed (S.serves service.now) running count roll.old.ends.items (view_of roll.old.seat)
-        → AreServed (S.serves service.now) rest count roll.new.ends.items (view_of roll.new.seat) }
+        → AreServed (ServesOver (IsOfLink L.told L.given L.written L.faults L.ended) (S.serves service.now)) running count roll.old.ends.items (view_of roll.old.seat)
+        → AreServed (ServesOver (IsOfLink L.told L.given L.written L.faults L.ended) (S.serves service.now)) rest count roll.new.ends.items (view_of roll.new.seat) }
     ensures rejoins { view_of roll.new.seat ≡ rejoined (view_of roll.old.seat) (view_of seat) }
     ensures halts { result ≡ S.stops service.now end }
     ensures told { place < length roll.old.ends.items → get_or roll.new.ends.items place None ≡ Some end }
@@ -102,10 +106,11 @@ pub fn serve_briefly<W: Wait, L: Link, B: Book, S: Service<B>>(
 ) -> bool
     requires own { IsSeatOf book.now roll.old.seat }
     requires few { place + 1 < 2 ^ 64 }
+    requires fresh { IsNewLink L.told L.given L.written L.faults L.ended link.old }
     ensures same { IsSeatAt roll.old.seat roll.new.seat }
     ensures opening { (view_of roll.new.seat).opening ≡ (view_of roll.old.seat).opening }
-    ensures served { (running : List Link) → AreServed (S.serves service.now) running place roll.old.ends.items (view_of roll.old.seat)
-        → AreServed (S.serves service.now) running (place + 1) roll.new.ends.items (view_of roll.new.seat) }
+    ensures served { (running : List Link) → AreServed (ServesOver (IsOfLink L.told L.given L.written L.faults L.ended) (S.serves service.now)) running place roll.old.ends.items (view_of roll.old.seat)
+        → AreServed (ServesOver (IsOfLink L.told L.given L.written L.faults L.ended) (S.serves service.now)) running (place + 1) roll.new.ends.items (view_of roll.new.seat) }
     ensures rejoins { (number : ℕ) × (ended : View B B.Event B.Reply)
         × (view_of roll.new.seat ≡ rejoined (with_made number (view_of roll.old.seat)) ended) }
     ensures told { (end : S.End) × (result ≡ S.stops service.now end)
@@ -115,5 +120,5 @@ pub fn serve_briefly<W: Wait, L: Link, B: Book, S: Service<B>>(
 {
     let mut seat = book.seat(rt, &mut roll.seat);
     let end = service.serve(rt, link, book, &mut seat, place as u64 + 1, true);
-    entered(book, service, roll, place, end, seat)
+    entered::<B, S, L>(book, service, roll, place, end, seat)
 }

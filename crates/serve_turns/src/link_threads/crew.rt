@@ -2,6 +2,7 @@
 ghost use Rattle.std.specs.Prelude.{◌≡◌, ◌+◌, ◌<◌, ◌≤◌, ◌^◌, ℕ, [], length, map, IfSome, OnOk};
 ghost use Rattle.std.specs.List.{All};
 ghost use Rattle.serve_turns.specs.shared_book.Words.{view_of, IsSeatOf};
+ghost use Rattle.serve_turns.specs.link_serving.Passage.{IsNewLink, IsOfLink, ServesOver};
 ghost use Rattle.serve_turns.specs.link_serving.Serving.{AreServed, IsNewSeat};
 ghost use Rattle.serve_turns.specs.link_threads.Covering.{AreCovered, HaveEnds};
 
@@ -19,13 +20,16 @@ const MOST: usize = 256;
 
 /// Threads that serve links, and what is left of those that have ended.
 #[derive(Drop)]
-pub(crate) struct Crew<B: Book, S: Service<B>> {
+pub(crate) struct Crew<B: Book, S: Service<B>, L: Link> {
     pub roll: Roll<B, S::End>,
-    pub running: Vec<Running<B, S>>,
+    pub running: Vec<Running<B, S, L>>,
 }
 
 /// Which of the running threads serves the link at a place, if one does.
-fn found<B: Book, S: Service<B>>(running: &[Running<B, S>], place: usize) -> Option<usize>
+fn found<B: Book, S: Service<B>, L: Link>(
+    running: &[Running<B, S, L>],
+    place: usize,
+) -> Option<usize>
     ensures { IfSome result (λ at. at < length running.now) }
 {
     for (at, child) in running.iter().enumerate() {
@@ -37,11 +41,11 @@ fn found<B: Book, S: Service<B>>(running: &[Running<B, S>], place: usize) -> Opt
 }
 
 /// Waits for the thread that serves the link at a place, where it runs.
-fn join_one<B: Book, S: Service<B>, R: Threads>(
+fn join_one<B: Book, S: Service<B>, L: Link, R: Threads>(
     rt: &R,
     book: &SharedBook<B>,
     service: &S,
-    crew: &mut Crew<B, S>,
+    crew: &mut Crew<B, S, L>,
     place: usize,
 )
     requires own { IsSeatOf book.now crew.old.roll.seat }
@@ -50,9 +54,9 @@ fn join_one<B: Book, S: Service<B>, R: Threads>(
         × IsNewSeat (view_of crew.old.roll.seat).opening (view_of c.handle.promise.seat.value)) crew.old.running.items }
     ensures own { IsSeatOf book.now crew.new.roll.seat }
     ensures opening { (view_of crew.new.roll.seat).opening ≡ (view_of crew.old.roll.seat).opening }
-    ensures served { (n : ℕ) → AreServed (S.serves service.now) (map (λ c. (c.place, (view_of c.handle.promise.seat.value).number)) crew.old.running.items)
+    ensures served { (n : ℕ) → AreServed (ServesOver (IsOfLink L.told L.given L.written L.faults L.ended) (S.serves service.now)) (map (λ c. (c.place, (view_of c.handle.promise.seat.value).number)) crew.old.running.items)
         n crew.old.roll.ends.items (view_of crew.old.roll.seat)
-        → AreServed (S.serves service.now) (map (λ c. (c.place, (view_of c.handle.promise.seat.value).number)) crew.new.running.items)
+        → AreServed (ServesOver (IsOfLink L.told L.given L.written L.faults L.ended) (S.serves service.now)) (map (λ c. (c.place, (view_of c.handle.promise.seat.value).number)) crew.new.running.items)
         n crew.new.roll.ends.items (view_of crew.new.roll.seat) }
     ensures running { All (λ c. IsSeatOf book.now c.handle.promise.seat.value
         × (c.handle.promise.service.value ≡ service.now)
@@ -68,11 +72,11 @@ fn join_one<B: Book, S: Service<B>, R: Threads>(
 }
 
 /// Joins the threads that have noted their end.
-pub(crate) fn join_ended<B: Book, S: Service<B>, R: Threads + Wait>(
+pub(crate) fn join_ended<B: Book, S: Service<B>, L: Link, R: Threads + Wait>(
     rt: &R,
     book: &SharedBook<B>,
     service: &S,
-    crew: &mut Crew<B, S>,
+    crew: &mut Crew<B, S, L>,
     ended: &EndedList,
 )
     requires own { IsSeatOf book.now crew.old.roll.seat }
@@ -81,9 +85,9 @@ pub(crate) fn join_ended<B: Book, S: Service<B>, R: Threads + Wait>(
         × IsNewSeat (view_of crew.old.roll.seat).opening (view_of c.handle.promise.seat.value)) crew.old.running.items }
     ensures own { IsSeatOf book.now crew.new.roll.seat }
     ensures opening { (view_of crew.new.roll.seat).opening ≡ (view_of crew.old.roll.seat).opening }
-    ensures served { (n : ℕ) → AreServed (S.serves service.now) (map (λ c. (c.place, (view_of c.handle.promise.seat.value).number)) crew.old.running.items)
+    ensures served { (n : ℕ) → AreServed (ServesOver (IsOfLink L.told L.given L.written L.faults L.ended) (S.serves service.now)) (map (λ c. (c.place, (view_of c.handle.promise.seat.value).number)) crew.old.running.items)
         n crew.old.roll.ends.items (view_of crew.old.roll.seat)
-        → AreServed (S.serves service.now) (map (λ c. (c.place, (view_of c.handle.promise.seat.value).number)) crew.new.running.items)
+        → AreServed (ServesOver (IsOfLink L.told L.given L.written L.faults L.ended) (S.serves service.now)) (map (λ c. (c.place, (view_of c.handle.promise.seat.value).number)) crew.new.running.items)
         n crew.new.roll.ends.items (view_of crew.new.roll.seat) }
     ensures running { All (λ c. IsSeatOf book.now c.handle.promise.seat.value
         × (c.handle.promise.service.value ≡ service.now)
@@ -102,11 +106,11 @@ pub(crate) fn join_ended<B: Book, S: Service<B>, R: Threads + Wait>(
 }
 
 /// Waits for all threads.
-pub(crate) fn join_all<B: Book, S: Service<B>, R: Threads>(
+pub(crate) fn join_all<B: Book, S: Service<B>, L: Link, R: Threads>(
     rt: &R,
     book: &SharedBook<B>,
     service: &S,
-    crew: &mut Crew<B, S>,
+    crew: &mut Crew<B, S, L>,
 )
     requires own { IsSeatOf book.now crew.old.roll.seat }
     requires running { All (λ c. IsSeatOf book.now c.handle.promise.seat.value
@@ -114,9 +118,9 @@ pub(crate) fn join_all<B: Book, S: Service<B>, R: Threads>(
         × IsNewSeat (view_of crew.old.roll.seat).opening (view_of c.handle.promise.seat.value)) crew.old.running.items }
     ensures own { IsSeatOf book.now crew.new.roll.seat }
     ensures opening { (view_of crew.new.roll.seat).opening ≡ (view_of crew.old.roll.seat).opening }
-    ensures served { (n : ℕ) → AreServed (S.serves service.now) (map (λ c. (c.place, (view_of c.handle.promise.seat.value).number)) crew.old.running.items)
+    ensures served { (n : ℕ) → AreServed (ServesOver (IsOfLink L.told L.given L.written L.faults L.ended) (S.serves service.now)) (map (λ c. (c.place, (view_of c.handle.promise.seat.value).number)) crew.old.running.items)
         n crew.old.roll.ends.items (view_of crew.old.roll.seat)
-        → AreServed (S.serves service.now) [] n crew.new.roll.ends.items (view_of crew.new.roll.seat) }
+        → AreServed (ServesOver (IsOfLink L.told L.given L.written L.faults L.ended) (S.serves service.now)) [] n crew.new.roll.ends.items (view_of crew.new.roll.seat) }
     ensures running { All (λ c. IsSeatOf book.now c.handle.promise.seat.value
         × (c.handle.promise.service.value ≡ service.now)
         × IsNewSeat (view_of crew.old.roll.seat).opening (view_of c.handle.promise.seat.value)) crew.new.running.items }
@@ -136,7 +140,7 @@ pub(crate) fn begin<'s, E, W, L, B, S>(
     scope: &Scope<'s, E>,
     book: &'s SharedBook<B>,
     service: &'s S,
-    crew: &mut Crew<B, S>,
+    crew: &mut Crew<B, S, L>,
     ended: &'s EndedList,
     mut link: L,
     place: usize,
@@ -150,15 +154,16 @@ where
     B::Event: Send + 's,
     B::Reply: Send + 's,
     requires few { place + 1 < 2 ^ 64 }
+    requires fresh { IsNewLink L.told L.given L.written L.faults L.ended link }
     requires own { IsSeatOf book.now crew.old.roll.seat }
     requires running { All (λ c. IsSeatOf book.now c.handle.promise.seat.value
         × (c.handle.promise.service.value ≡ service.now)
         × IsNewSeat (view_of crew.old.roll.seat).opening (view_of c.handle.promise.seat.value)) crew.old.running.items }
     ensures own { IsSeatOf book.now crew.new.roll.seat }
     ensures opening { (view_of crew.new.roll.seat).opening ≡ (view_of crew.old.roll.seat).opening }
-    ensures served { AreServed (S.serves service.now) (map (λ c. (c.place, (view_of c.handle.promise.seat.value).number)) crew.old.running.items)
+    ensures served { AreServed (ServesOver (IsOfLink L.told L.given L.written L.faults L.ended) (S.serves service.now)) (map (λ c. (c.place, (view_of c.handle.promise.seat.value).number)) crew.old.running.items)
         place crew.old.roll.ends.items (view_of crew.old.roll.seat)
-        → AreServed (S.serves service.now) (map (λ c. (c.place, (view_of c.handle.promise.seat.value).number)) crew.new.running.items)
+        → AreServed (ServesOver (IsOfLink L.told L.given L.written L.faults L.ended) (S.serves service.now)) (map (λ c. (c.place, (view_of c.handle.promise.seat.value).number)) crew.new.running.items)
         (place + 1) crew.new.roll.ends.items (view_of crew.new.roll.seat) }
     ensures running { All (λ c. IsSeatOf book.now c.handle.promise.seat.value
         × (c.handle.promise.service.value ≡ service.now)
@@ -182,7 +187,7 @@ where
             Ok(())
         }
         Err((end, seat)) => {
-            entered(book, service, &mut crew.roll, place, end, seat);
+            entered::<B, S, L>(book, service, &mut crew.roll, place, end, seat);
             Ok(())
         }
     }

@@ -3,6 +3,7 @@ ghost use Rattle.std.specs.Prelude.{◌≡◌, ◌+◌, ◌<◌, ◌≤◌, ◌^
 ghost use Rattle.std.specs.List.{All};
 ghost use Rattle.serve_turns.specs.shared_book.Words.{view_of, IsSeatOf};
 ghost use Rattle.base_outside.specs.streams.Faults.{Rose};
+ghost use Rattle.serve_turns.specs.link_serving.Passage.{IsOfLink, ServesOver};
 ghost use Rattle.serve_turns.specs.link_serving.Serving.{AreServed, IsNewSeat};
 ghost use Rattle.serve_turns.specs.link_threads.Covering.{AreCovered, HaveEnds};
 ghost use Rattle.serve_turns.specs.declared.link_threads.links.Halt.TheVariants as halts;
@@ -44,7 +45,7 @@ fn accept_each<'s, E, W, N, B, S>(
     net: &mut N,
     book: &'s SharedBook<B>,
     service: &'s S,
-    crew: &mut Crew<B, S>,
+    crew: &mut Crew<B, S, N::L>,
     ended: &'s EndedList,
     count: usize,
 ) -> Halt
@@ -58,14 +59,14 @@ where
     B::Event: Send + 's,
     B::Reply: Send + 's,
     requires own { IsSeatOf book.now crew.old.roll.seat }
-    requires served { AreServed (S.serves service.now) (map (λ c. (c.place, (view_of c.handle.promise.seat.value).number)) crew.old.running.items)
+    requires served { AreServed (ServesOver (IsOfLink N.L.told N.L.given N.L.written N.L.faults N.L.ended) (S.serves service.now)) (map (λ c. (c.place, (view_of c.handle.promise.seat.value).number)) crew.old.running.items)
         0 crew.old.roll.ends.items (view_of crew.old.roll.seat) }
     requires running { All (λ c. IsSeatOf book.now c.handle.promise.seat.value
         × (c.handle.promise.service.value ≡ service.now)
         × IsNewSeat (view_of crew.old.roll.seat).opening (view_of c.handle.promise.seat.value)) crew.old.running.items }
     ensures own { IsSeatOf book.now crew.new.roll.seat }
     ensures opening { (view_of crew.new.roll.seat).opening ≡ (view_of crew.old.roll.seat).opening }
-    ensures served { AreServed (S.serves service.now) (map (λ c. (c.place, (view_of c.handle.promise.seat.value).number)) crew.new.running.items)
+    ensures served { AreServed (ServesOver (IsOfLink N.L.told N.L.given N.L.written N.L.faults N.L.ended) (S.serves service.now)) (map (λ c. (c.place, (view_of c.handle.promise.seat.value).number)) crew.new.running.items)
         count crew.new.roll.ends.items (view_of crew.new.roll.seat) }
     ensures running { All (λ c. IsSeatOf book.now c.handle.promise.seat.value
         × (c.handle.promise.service.value ≡ service.now)
@@ -102,7 +103,7 @@ fn in_scope<'s, E, W, N, B, S>(
     mut net: N,
     book: &'s SharedBook<B>,
     service: &'s S,
-    mut crew: Crew<B, S>,
+    mut crew: Crew<B, S, N::L>,
     ended: &'s EndedList,
     count: usize,
 ) -> Served<B, S::End, N>
@@ -116,14 +117,14 @@ where
     B::Event: Send + 's,
     B::Reply: Send + 's,
     requires own { IsSeatOf book.now crew.roll.seat }
-    requires served { AreServed (S.serves service.now) (map (λ c. (c.place, (view_of c.handle.promise.seat.value).number)) crew.running.items)
+    requires served { AreServed (ServesOver (IsOfLink N.L.told N.L.given N.L.written N.L.faults N.L.ended) (S.serves service.now)) (map (λ c. (c.place, (view_of c.handle.promise.seat.value).number)) crew.running.items)
         0 crew.roll.ends.items (view_of crew.roll.seat) }
     requires running { All (λ c. IsSeatOf book.now c.handle.promise.seat.value
         × (c.handle.promise.service.value ≡ service.now)
         × IsNewSeat (view_of crew.roll.seat).opening (view_of c.handle.promise.seat.value)) crew.running.items }
     ensures own { IsSeatOf book.now result.roll.seat }
     ensures opening { (view_of result.roll.seat).opening ≡ (view_of crew.roll.seat).opening }
-    ensures served { AreServed (S.serves service.now) [] count result.roll.ends.items (view_of result.roll.seat) }
+    ensures served { AreServed (ServesOver (IsOfLink N.L.told N.L.given N.L.written N.L.faults N.L.ended) (S.serves service.now)) [] count result.roll.ends.items (view_of result.roll.seat) }
     ensures count { length result.roll.ends.items ≡ length crew.roll.ends.items }
     ensures ends { result.halt ≡ halts.Count → HaveEnds count result.roll.ends.items }
     ensures net { result.halt ≡ halts.NetFault → Rose (N.faults net) (N.faults result.net) }
@@ -158,10 +159,10 @@ where
     B::Event: Send,
     B::Reply: Send,
     requires own { IsSeatOf book.now roll.seat }
-    requires served { AreServed (S.serves service.now) [] 0 roll.ends.items (view_of roll.seat) }
+    requires served { AreServed (ServesOver (IsOfLink N.L.told N.L.given N.L.written N.L.faults N.L.ended) (S.serves service.now)) [] 0 roll.ends.items (view_of roll.seat) }
     ensures own { IsSeatOf book.now result.roll.seat }
     ensures opening { (view_of result.roll.seat).opening ≡ (view_of roll.seat).opening }
-    ensures served { AreServed (S.serves service.now) [] count result.roll.ends.items (view_of result.roll.seat) }
+    ensures served { AreServed (ServesOver (IsOfLink N.L.told N.L.given N.L.written N.L.faults N.L.ended) (S.serves service.now)) [] count result.roll.ends.items (view_of result.roll.seat) }
     ensures count { length result.roll.ends.items ≡ length roll.ends.items }
     ensures ends { result.halt ≡ halts.Count → HaveEnds count result.roll.ends.items }
     ensures net { result.halt ≡ halts.NetFault → Rose (N.faults net) (N.faults result.net) }
@@ -179,7 +180,7 @@ where
         rt,
         move |scope| -> Served<B, S::End, N>
             requires { IsSeatOf book.now crew.roll.seat
-                × AreServed (S.serves service.now)
+                × AreServed (ServesOver (IsOfLink N.L.told N.L.given N.L.written N.L.faults N.L.ended) (S.serves service.now))
                 (map (λ c. (c.place, (view_of c.handle.promise.seat.value).number)) crew.running.items)
                 0 crew.roll.ends.items (view_of crew.roll.seat)
                 × All (λ c. IsSeatOf book.now c.handle.promise.seat.value
@@ -189,7 +190,7 @@ where
                 × ((view_of result.roll.seat).opening ≡ (view_of crew.roll.seat).opening)
                 × (length result.roll.ends.items ≡ length crew.roll.ends.items)
                 × (result.halt ≡ halts.Count → HaveEnds count result.roll.ends.items)
-                × AreServed (S.serves service.entry.now) [] count result.roll.ends.items (view_of result.roll.seat)
+                × AreServed (ServesOver (IsOfLink N.L.told N.L.given N.L.written N.L.faults N.L.ended) (S.serves service.entry.now)) [] count result.roll.ends.items (view_of result.roll.seat)
                 × (result.halt ≡ halts.NetFault → Rose (N.faults net) (N.faults result.net))
                 × (N.listens_at result.net ≡ N.listens_at net)
                 × (result.halt ≡ halts.Count → N.accepted net + count < 2 ^ 64

@@ -1,31 +1,35 @@
 //! A thread that serves one link.
 ghost use Rattle.std.specs.Prelude.{◌≡◌, ◌+◌, ◌<◌, ◌≤◌, ◌^◌, ℕ, List, None, Some, length, get_or, IfOk, IfErr};
 ghost use Rattle.serve_turns.specs.shared_book.Words.{lasting, view_of, AreOfOneBook, IsSeatAt, IsSeatOf};
+ghost use Rattle.serve_turns.specs.link_serving.Passage.{IsNewLink, IsOfLink, ServesOver};
 ghost use Rattle.serve_turns.specs.link_serving.Serving.{AreServed, IsNewSeat, Leaves, Link};
 
 use crate::link_serving::{Roll, Service, entered};
 use crate::link_threads::ended_list::EndedList;
 use crate::shared_book::{Book, BookSeat, SharedBook};
 use base_outside::Link;
+use std::marker::PhantomData;
 use std::snapshot::Snapshot;
 use std::sync::Wait;
 use std::thread::{Promise, PromisedHandle, Scope, SpawnError, Threads};
 
-/// What a thread promises that serves a link: how it ended, as the service says, and its seat, which is of the same book, took in no other
-/// seat and made none.
+/// What a thread promises that serves a link, which was new: how it ended, as the service says of what passed over it, and its seat, which is
+/// of the same book, took in no other seat and made none.
 #[derive(Drop)]
-pub(crate) struct ServesLink<B: Book, S: Service<B>> {
+pub(crate) struct ServesLink<B: Book, S: Service<B>, L: Link> {
     service: Snapshot<S>,
     seat: Snapshot<BookSeat<B>>,
     place: usize,
+    link: PhantomData<L>,
 }
 
-impl<B: Book, S: Service<B>> Promise<(S::End, BookSeat<B>)> for ServesLink<B, S> {
+impl<B: Book, S: Service<B>, L: Link> Promise<(S::End, BookSeat<B>)> for ServesLink<B, S, L> {
     ghost use Rattle.std.specs.Prelude.{◌+◌};
+    ghost use Rattle.serve_turns.specs.link_serving.Passage.{IsOfLink, ServesOver};
     ghost use Rattle.serve_turns.specs.shared_book.Words.{lasting, view_of, AreOfOneBook};
 
     ghost kept_by = { λ p r. AreOfOneBook p.seat.value r.1 × (lasting (view_of r.1) ≡ lasting (view_of p.seat.value))
-        × S.serves p.service.value (p.place + 1) (view_of p.seat.value) r.0 (view_of r.1) };
+        × ServesOver (IsOfLink L.told L.given L.written L.faults L.ended) (S.serves p.service.value) (p.place + 1) (view_of p.seat.value) r.0 (view_of r.1) };
 }
 
 /// Serves a link that it owns, and notes that it has ended. One that was turned away is let go.
@@ -40,9 +44,10 @@ fn served<B: Book, S: Service<B>, W: Wait, L: Link + Drop>(
 ) -> (S::End, BookSeat<B>)
     requires own { IsSeatOf book.now seat }
     requires few { place + 1 < 2 ^ 64 }
+    requires fresh { IsNewLink L.told L.given L.written L.faults L.ended link }
     ensures own { AreOfOneBook seat result.1 }
     ensures lasts { lasting (view_of result.1) ≡ lasting (view_of seat) }
-    ensures serves { S.serves service.now (place + 1) (view_of seat) result.0 (view_of result.1) }
+    ensures serves { ServesOver (IsOfLink L.told L.given L.written L.faults L.ended) (S.serves service.now) (place + 1) (view_of seat) result.0 (view_of result.1) }
 {
     let turned_away = ended.is_turned_away(rt, place);
     if turned_away {
@@ -58,9 +63,9 @@ fn served<B: Book, S: Service<B>, W: Wait, L: Link + Drop>(
 
 /// A thread that serves the link at a place.
 #[derive(Drop)]
-pub(crate) struct Running<B: Book, S: Service<B>> {
+pub(crate) struct Running<B: Book, S: Service<B>, L: Link> {
     pub place: usize,
-    pub handle: PromisedHandle<(S::End, BookSeat<B>), ServesLink<B, S>>,
+    pub handle: PromisedHandle<(S::End, BookSeat<B>), ServesLink<B, S, L>>,
     ghost placed: { handle.promise.place ≡ place },
 }
 
@@ -74,7 +79,7 @@ pub(crate) fn begun<'s, E, W, L, B, S>(
     seat: BookSeat<B>,
     place: usize,
     ended: &'s EndedList,
-) -> Result<Running<B, S>, (S::End, BookSeat<B>)>
+) -> Result<Running<B, S, L>, (S::End, BookSeat<B>)>
 where
     W: Wait + Threads + Sync + 's,
     L: Link + Drop + Send + 's,
@@ -85,24 +90,26 @@ where
     B::Reply: Send + 's,
     requires own { IsSeatOf book.now seat }
     requires few { place + 1 < 2 ^ 64 }
+    requires fresh { IsNewLink L.told L.given L.written L.faults L.ended link }
     ensures runs { IfOk result (λ r. IsSeatOf book.now r.handle.promise.seat.value
         × (r.handle.promise.service.value ≡ service.now)) }
     ensures place { IfOk result (λ r. r.place ≡ place) }
     ensures seat { IfOk result (λ r. view_of r.handle.promise.seat.value ≡ view_of seat) }
     ensures done { IfErr result (λ d. IsSeatOf book.now d.1 × (lasting (view_of d.1) ≡ lasting (view_of seat))
-        × S.serves service.now (place + 1) (view_of seat) d.0 (view_of d.1)) }
+        × ServesOver (IsOfLink L.told L.given L.written L.faults L.ended) (S.serves service.now) (place + 1) (view_of seat) d.0 (view_of d.1)) }
 {
     let promise = ServesLink {
         service: Snapshot::of(service),
         seat: Snapshot::of(&seat),
         place,
+        link: PhantomData,
     };
     let child = scope.spawn_with(
         promise,
         move || -> (S::End, BookSeat<B>)
-            requires { IsSeatOf book.now seat × (place + 1 < 2 ^ 64) }
+            requires { IsSeatOf book.now seat × (place + 1 < 2 ^ 64) × IsNewLink L.told L.given L.written L.faults L.ended link }
             ensures { AreOfOneBook seat result.1 × (lasting (view_of result.1) ≡ lasting (view_of seat))
-                × S.serves service.entry.now (place + 1) (view_of seat) result.0 (view_of result.1) }
+                × ServesOver (IsOfLink L.told L.given L.written L.faults L.ended) (S.serves service.entry.now) (place + 1) (view_of seat) result.0 (view_of result.1) }
         { served(rt, service, link, book, seat, place, ended) },
     );
     match child {
@@ -116,12 +123,12 @@ where
 }
 
 /// Waits for the end of a thread, and takes in what it left. True where no further link is to be accepted behind it.
-pub(crate) fn finished<B: Book, S: Service<B>, R: Threads>(
+pub(crate) fn finished<B: Book, S: Service<B>, L: Link, R: Threads>(
     rt: &R,
     book: &SharedBook<B>,
     service: &S,
     roll: &mut Roll<B, S::End>,
-    child: Running<B, S>,
+    child: Running<B, S, L>,
 ) -> bool
     requires own { IsSeatOf book.now roll.old.seat }
     requires runs { IsSeatOf book.now child.handle.promise.seat.value
@@ -130,8 +137,8 @@ pub(crate) fn finished<B: Book, S: Service<B>, R: Threads>(
     ensures same { IsSeatAt roll.old.seat roll.new.seat }
     ensures served { (running rest : List Link) (count : ℕ)
         → Leaves (child.place, (view_of child.handle.promise.seat.value).number) running rest
-        → AreServed (S.serves service.now) running count roll.old.ends.items (view_of roll.old.seat)
-        → AreServed (S.serves service.now) rest count roll.new.ends.items (view_of roll.new.seat) }
+        → AreServed (ServesOver (IsOfLink L.told L.given L.written L.faults L.ended) (S.serves service.now)) running count roll.old.ends.items (view_of roll.old.seat)
+        → AreServed (ServesOver (IsOfLink L.told L.given L.written L.faults L.ended) (S.serves service.now)) rest count roll.new.ends.items (view_of roll.new.seat) }
     ensures told { child.place < length roll.old.ends.items
         → (end : S.End) × (get_or roll.new.ends.items child.place None ≡ Some end) }
     ensures others { (at : ℕ) → (at ≡ child.place → ⊥) → get_or roll.new.ends.items at None ≡ get_or roll.old.ends.items at None }
@@ -140,5 +147,5 @@ pub(crate) fn finished<B: Book, S: Service<B>, R: Threads>(
 {
     let Running { place, handle } = child;
     let (end, seat) = handle.join(rt);
-    entered(book, service, roll, place, end, seat)
+    entered::<B, S, L>(book, service, roll, place, end, seat)
 }

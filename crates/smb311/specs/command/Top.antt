@@ -3,6 +3,7 @@ use Rattle.std.specs.Prelude.{◌≡◌, ℕ, Bool, false, List, [], ◌∷◌, 
 use Rattle.serve_command.specs.server_settings.Words.{is_serve}
 use Rattle.serve_command.specs.declared.server_settings.words.Said.{Said}
 use Rattle.base_outside.specs.declared.streams.address.Address.{Address}
+use Rattle.serve_turns.specs.link_serving.Passage.{Passage}
 use Rattle.serve_command.specs.Ends.{ServingEnds}
 use Rattle.serve_command.specs.Printing.{Prints, usage_line}
 use Rattle.serve_command.specs.declared.ending.Ending.{Ending}
@@ -28,13 +29,13 @@ serve_status NoJournal = 9
 serve_status JournalFull = 10
 
 -- Of source and sink it is told how often they had failed, before and behind, of a source also what it had left, of a sink what it held, and of
--- net and disk what is left of them.
+-- net and disk what is left of them; and what holds of all that passed over a link which the net accepted.
 module _ {D N : Type 0} (told : Type 0) (seen : D → List ℕ) (may_leave : D → List ℕ → Type 0) (faults : D → ℕ)
-    (listens_at : N → Option Address) (links : N → ℕ) (net_faults : N → ℕ) (disk : D) (net : N) (disk' : Option D) (net' : N)
+    (listens_at : N → Option Address) (links : N → ℕ) (net_faults : N → ℕ) (over : Passage → Type 0) (disk : D) (net : N) (disk' : Option D) (net' : N)
     (left left' : Option (List ℕ)) (source source' : ℕ) (written written' : Option (List ℕ)) (sink sink' : ℕ) where
   -- by what the words say: where that is nothing, the usage is printed, and source, net and disk are as they were
   abbrev pub Serves : Option Said → Ending → Type 0
   Serves None ending = (left' ≡ left) × (source' ≡ source) × (net' ≡ net) × (disk' ≡ Some disk)
       × Prints written written' sink sink' usage_line Usage ending
-  Serves (Some said) ending = ServingEnds told seen may_leave faults listens_at links net_faults said disk left left' source source'
+  Serves (Some said) ending = ServingEnds told seen may_leave faults listens_at links net_faults over said disk left left' source source'
       written written' sink sink' net net' disk' ending

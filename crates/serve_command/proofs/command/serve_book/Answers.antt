@@ -1,5 +1,6 @@
 use Rattle.std.proofs.Common.{ap, subst, ℕ}
 use Rattle.std.specs.Prelude.{Some}
+use Rattle.serve_turns.specs.link_serving.Passage.{IsOfLink, Passage}
 use Rattle.serve_turns.specs.shared_book.Words.{view_of}
 use Rattle.serve_command.specs.Serving.{AreServedBy, serving_accepted}
 use Rattle.serve_command.proofs.Counted.{counted}
@@ -9,8 +10,10 @@ use Rattle.serve_command.proofs.Wholes.{whole_of}
 use Rattle.serve_command.proofs.command.serve_book.Goals as goal
 
 pub returns : goal.returns
-returns g c = λ server from opening begins. (let opens = still_opens server _ _ opening c.serve_links-served.ensures.opening in
-    let served = subst (λ (n : ℕ). AreServedBy n (view_of c.serve_links-served.result.roll.seat) c.serve_links-served.result.roll.ends.items)
+returns g c = λ server from opening begins. (let over : Passage → Type 0 =
+    IsOfLink g.N.L.Link.told g.N.L.Link.given g.N.L.Link.written g.N.L.Link.faults g.N.L.Link.ended in
+    let opens = still_opens server _ _ opening c.serve_links-served.ensures.opening in
+    let served = subst (λ (n : ℕ). AreServedBy over n (view_of c.serve_links-served.result.roll.seat) c.serve_links-served.result.roll.ends.items)
     c.accepted-count.ensures c.serve_links-served.ensures.served in
     record {
       view = view_of c.serve_links-served.result.roll.seat;
@@ -28,7 +31,7 @@ returns g c = λ server from opening begins. (let opens = still_opens server _ _
           (behind_of _ _ _ _ _ _ _ _ _ _ _ c.as_slice.ensures.value c.left_of-left.ensures.failed c.behind-ending.ensures)
           c.accepted-count.ensures c.requires.room c.serve_links-served.ensures.count c.serve_links-served.ensures.ends
           c.serve_links-served.ensures.accepted;
-      whole = whole_of g.D.Disk.told g.D.Disk.seen g.D.Disk.may_leave (serving_accepted c.args.said.now.bound) server from
+      whole = whole_of g.D.Disk.told g.D.Disk.seen g.D.Disk.may_leave over (serving_accepted c.args.said.now.bound) server from
           (view_of c.serve_links-served.result.roll.seat) c.serve_links-served.result.roll.ends.items c.closed-last.result opens served
           c.closed-last.ensures begins;
       tells = behind_of _ _ _ _ _ _ _ _ _ _ _ c.as_slice.ensures.value c.left_of-left.ensures.failed c.behind-ending.ensures;

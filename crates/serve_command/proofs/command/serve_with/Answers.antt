@@ -12,7 +12,7 @@ returns-in-Ok g c = (let begins = c.in-Ok.ensures.holds in
       c.in-Ok.server,
       begins,
       c.in-Ok.ensures.config,
-      serves_still _ _ _ _ _ _ _ _ _ _ _ _ _ _ _ _ _ _ _ _ _ c.watch.ensures.place c.watch.ensures.accepted c.watch.ensures.calm
+      serves_still _ _ _ _ _ _ _ _ _ _ _ _ _ _ _ _ _ _ _ _ _ _ c.watch.ensures.place c.watch.ensures.accepted c.watch.ensures.calm
           (rw c.fault_count-before.ensures at served),
     ))
 

@@ -5,6 +5,7 @@ use Rattle.serve_turns.specs.link_serving.Serving.{AreServed, IsNewSeat}
 use Rattle.serve_turns.specs.shared_book.Words.{view_of, IsSeatOf}
 use Rattle.serve_turns.proofs.link_serving.Rolls.{at_once_served, new_seat, one_more_served, those_served}
 use Rattle.serve_turns.proofs.link_threads.Covering.{begun_covered, ended_covered, same_covered}
+use Rattle.serve_turns.specs.link_serving.Passage.{IsOfLink, ServesOver}
 use Rattle.serve_turns.proofs.link_threads.crew.begin.Goals as goal
 
 pub returns-then-full-clause-covered : goal.returns-then-full-clause-covered
@@ -36,7 +37,7 @@ returns-in-Err-clause-covered g c = λ was.
 pub returns-in_err-reserve-clause-served : goal.returns-in_err-reserve-clause-served
 returns-in_err-reserve-clause-served g c = λ was.
     let crew = c.args.crew.now in
-    those_served (g.S.Service.serves c.args.service.now) (λ r. (r.place, (view_of r.handle.promise.seat.value).number)) crew.running.items
+    those_served (ServesOver (IsOfLink g.L.Link.told g.L.Link.given g.L.Link.written g.L.Link.faults g.L.Link.ended) (g.S.Service.serves c.args.service.now)) (λ r. (r.place, (view_of r.handle.promise.seat.value).number)) crew.running.items
     c.reserve.new.self.items c.args.place (c.args.place + 1) crew.roll.ends.items (view_of crew.roll.seat) c.reserve.ensures.items
     (omega arith) was
 
@@ -46,7 +47,7 @@ returns-in_ok-push-in-Ok-clause-served g c = λ was.
     let child = c.in-Ok.child in
     let e = c.in-Ok.ensures in
     let n = (view_of c.seat-seat.result).number in
-    one_more_served (g.S.Service.serves c.args.service.now) (λ r. (r.place, (view_of r.handle.promise.seat.value).number))
+    one_more_served (ServesOver (IsOfLink g.L.Link.told g.L.Link.given g.L.Link.written g.L.Link.faults g.L.Link.ended) (g.S.Service.serves c.args.service.now)) (λ r. (r.place, (view_of r.handle.promise.seat.value).number))
     crew.running.items c.reserve.new.self.items c.push.new.self.items child c.args.place n crew.roll.ends.items
     (view_of crew.roll.seat) (view_of c.seat-seat.new.from) c.reserve.ensures.items c.in_ok-push-in-Ok.ensures.items
     (λ i. (e.place i, (e.seat i).number)) c.seat-seat.ensures.made was
@@ -73,9 +74,9 @@ returns-in-Err-clause-served g c = λ was.
     let crew = c.args.crew.now in
     let e = c.entered.ensures in
     let running = c.reserve.new.self.items in
-    at_once_served (g.S.Service.serves c.args.service.now) crew.roll.ends.items c.entered.new.roll.ends.items c.args.place
+    at_once_served (ServesOver (IsOfLink g.L.Link.told g.L.Link.given g.L.Link.written g.L.Link.faults g.L.Link.ended) (g.S.Service.serves c.args.service.now)) crew.roll.ends.items c.entered.new.roll.ends.items c.args.place
     (view_of c.seat-seat.result).number (view_of c.in-Err.seat).number (view_of crew.roll.seat) (view_of c.seat-seat.new.from)
     (view_of c.entered.new.roll.seat) e.served (ap (λ x. x.1.0) c.in-Err.ensures.done.1) c.seat-seat.ensures.made
     (map (λ r. (r.place, (view_of r.handle.promise.seat.value).number)) running)
-    (those_served (g.S.Service.serves c.args.service.now) (λ r. (r.place, (view_of r.handle.promise.seat.value).number)) crew.running.items
+    (those_served (ServesOver (IsOfLink g.L.Link.told g.L.Link.given g.L.Link.written g.L.Link.faults g.L.Link.ended) (g.S.Service.serves c.args.service.now)) (λ r. (r.place, (view_of r.handle.promise.seat.value).number)) crew.running.items
     running c.args.place c.args.place crew.roll.ends.items (view_of crew.roll.seat) c.reserve.ensures.items (omega arith) was)

@@ -5,6 +5,7 @@ use Rattle.serve_turns.specs.link_serving.Serving.{IsNewSeat}
 use Rattle.serve_turns.specs.shared_book.Words.{view_of, IsSeatOf}
 use Rattle.serve_turns.proofs.link_serving.Rolls.{leaves, none_served, popped_stays, popped_was}
 use Rattle.serve_turns.proofs.link_threads.Covering.{all_ended, left_covered, popped}
+use Rattle.serve_turns.specs.link_serving.Passage.{IsOfLink, ServesOver}
 use Rattle.serve_turns.proofs.link_threads.crew.join_all.Goals as goal
 
 pub loop-child-preserved : goal.loop-child-preserved
@@ -44,5 +45,5 @@ pub returns-clause-served : goal.returns-clause-served
 returns-clause-served g c = λ n was.
     let i = c.loop-child.invariant in
     let crew = c.loop-child.crew in
-    none_served (g.S.Service.serves c.args.service.now) (λ r. (r.place, (view_of r.handle.promise.seat.value).number)) crew.running.items n
+    none_served (ServesOver (IsOfLink g.L.Link.told g.L.Link.given g.L.Link.written g.L.Link.faults g.L.Link.ended) (g.S.Service.serves c.args.service.now)) (λ r. (r.place, (view_of r.handle.promise.seat.value).number)) crew.running.items n
     crew.roll.ends.items (view_of crew.roll.seat) (sym crew.running.ok.0 ∙ c.in_default.ensures.cases.0) (i.4 n was)

@@ -5,6 +5,7 @@ use Rattle.serve_turns.specs.shared_book.Words.{view_of, IsSeatOf}
 use Rattle.serve_turns.proofs.link_serving.Rolls.{more_served}
 use Rattle.serve_turns.proofs.link_threads.Accepting.{more_accepted, none_accepted}
 use Rattle.serve_turns.proofs.link_threads.Covering.{none_covered}
+use Rattle.serve_turns.specs.link_serving.Passage.{IsOfLink, ServesOver}
 use Rattle.serve_turns.proofs.link_threads.links.accept_each.Goals as goal
 
 pub loop-place-init : goal.loop-place-init
@@ -50,7 +51,7 @@ pub returns-in_default-clause-served : goal.returns-in_default-clause-served
 returns-in_default-clause-served g c =
     let i = c.loop-place.invariant in
     let crew = c.loop-place.crew in
-    more_served (g.S.Service.serves c.args.service.now)
+    more_served (ServesOver (IsOfLink g.N.L.Link.told g.N.L.Link.given g.N.L.Link.written g.N.L.Link.faults g.N.L.Link.ended) (g.S.Service.serves c.args.service.now))
     (map (λ r. (r.place, (view_of r.handle.promise.seat.value).number)) crew.running.items) c.loop-place.place c.args.count
     crew.roll.ends.items (view_of crew.roll.seat) i.9 i.4
 
@@ -58,7 +59,7 @@ pub returns-then-is_halted-clause-served : goal.returns-then-is_halted-clause-se
 returns-then-is_halted-clause-served g c =
     let i = c.loop-place.invariant in
     let crew = c.loop-place.crew in
-    more_served (g.S.Service.serves c.args.service.now)
+    more_served (ServesOver (IsOfLink g.N.L.Link.told g.N.L.Link.given g.N.L.Link.written g.N.L.Link.faults g.N.L.Link.ended) (g.S.Service.serves c.args.service.now))
     (map (λ r. (r.place, (view_of r.handle.promise.seat.value).number)) crew.running.items) c.loop-place.place c.args.count
     crew.roll.ends.items (view_of crew.roll.seat) i.9 i.4
 
@@ -66,7 +67,7 @@ pub returns-in-Err-clause-served : goal.returns-in-Err-clause-served
 returns-in-Err-clause-served g c =
     let i = c.loop-place.invariant in
     let crew = c.begin.new.crew in
-    more_served (g.S.Service.serves c.args.service.now)
+    more_served (ServesOver (IsOfLink g.N.L.Link.told g.N.L.Link.given g.N.L.Link.written g.N.L.Link.faults g.N.L.Link.ended) (g.S.Service.serves c.args.service.now))
     (map (λ r. (r.place, (view_of r.handle.promise.seat.value).number)) crew.running.items) (c.loop-place.place + 1) c.args.count
     crew.roll.ends.items (view_of crew.roll.seat) (omega (arith, c.loop-place-test.true))
     (c.begin.ensures.served (c.join_ended.ensures.served c.loop-place.place i.4))
@@ -75,6 +76,6 @@ pub returns-clause-served : goal.returns-clause-served
 returns-clause-served g c =
     let i = c.loop-place.invariant in
     let crew = c.loop-place.crew in
-    more_served (g.S.Service.serves c.args.service.now)
+    more_served (ServesOver (IsOfLink g.N.L.Link.told g.N.L.Link.given g.N.L.Link.written g.N.L.Link.faults g.N.L.Link.ended) (g.S.Service.serves c.args.service.now))
     (map (λ r. (r.place, (view_of r.handle.promise.seat.value).number)) crew.running.items) c.loop-place.place c.args.count
     crew.roll.ends.items (view_of crew.roll.seat) i.9 i.4

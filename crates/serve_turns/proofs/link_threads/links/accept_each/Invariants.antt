@@ -3,6 +3,7 @@ use Rattle.std.specs.List.{All}
 use Rattle.serve_turns.specs.shared_book.Words.{view_of, IsSeatOf}
 use Rattle.serve_turns.specs.link_serving.Serving.{AreServed, IsNewSeat}
 use Rattle.serve_turns.specs.link_threads.Covering.{AreCovered}
+use Rattle.serve_turns.specs.link_serving.Passage.{IsOfLink, ServesOver}
 use Rattle.serve_turns.proofs.link_threads.links.accept_each.Given as goal
 
 abbrev pub invariant-loop-place : goal.invariant-loop-place
@@ -11,7 +12,7 @@ invariant-loop-place g l =
     × ((view_of l.crew.roll.seat).opening ≡ (view_of l.initial.crew.roll.seat).opening)
     × (length l.crew.roll.ends.items ≡ length l.initial.crew.roll.ends.items)
     × AreCovered (λ c. c.place) l.place l.crew.roll.ends.items l.crew.running.items
-    × AreServed (g.S.Service.serves l.service) (map (λ c. (c.place, (view_of c.handle.promise.seat.value).number)) l.crew.running.items)
+    × AreServed (ServesOver (IsOfLink g.N.L.Link.told g.N.L.Link.given g.N.L.Link.written g.N.L.Link.faults g.N.L.Link.ended) (g.S.Service.serves l.service)) (map (λ c. (c.place, (view_of c.handle.promise.seat.value).number)) l.crew.running.items)
     l.place l.crew.roll.ends.items (view_of l.crew.roll.seat)
     × All (λ c. IsSeatOf l.book c.handle.promise.seat.value × (c.handle.promise.service.value ≡ l.service)
     × IsNewSeat (view_of l.crew.roll.seat).opening (view_of c.handle.promise.seat.value)) l.crew.running.items
