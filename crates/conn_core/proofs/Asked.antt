@@ -5,7 +5,7 @@ use Rattle.spec_world.specs.Ends.{ServerEnd, ConnEnd}
 use Rattle.spec_world.specs.Messages.{HeardMessage}
 use Rattle.spec_world.specs.Hearing.{Checked, Frame, FrameText, is_negotiate, turn_end, behind_turn, in_front, checked_as, bars}
 use Rattle.spec_world.specs.Hearing.{checked_in, checked_behind, checked_text}
-use Rattle.conn_ends.proofs.frame_messages.Greets.{in_turn}
+use Rattle.conn_core.proofs.frame_messages.Greets.{in_turn}
 use Rattle.conn_core.specs.message_replies.Replying.{AreAsked}
 use Rattle.conn_core.specs.frame_events.Dealing.{Alone}
 use Rattle.conn_core.proofs.frame_events.Alone.{alone}

@@ -18,14 +18,14 @@ use Rattle.spec_world.specs.Connection.{ConnectionStep, Going, answered, answere
 use Rattle.spec_world.specs.Given.{GivenStep, dealt_step}
 use Rattle.spec_world.specs.Mishaps.{Mishap, Owned}
 use Rattle.spec_world.specs.Notes as notes
-use Rattle.conn_ends.specs.declared.conn.Conn.{Conn}
-use Rattle.conn_ends.specs.declared.end.ConnEnd.{ConnEnd}
-use Rattle.conn_ends.specs.declared.end.ConnEnd.TheVariants.{BadFrame, OutsideWindow, SecondNegotiate, Unsealable}
-use Rattle.conn_ends.specs.declared.end.ConnEnd.TheVariants.{Spent, Full, LinkFault, Stopped, Memory}
-use Rattle.conn_ends.specs.Shown.{IsEnd, MaySeal, ShowsEnd}
-use Rattle.conn_ends.specs.declared.frame_messages.checked.CheckedFrame.{CheckedFrame}
-use Rattle.conn_ends.specs.frame_messages.Checking.{EndsAll, CheckGoesOn, GreetsFirst, NoneGreets, ShowsFrame}
-use Rattle.conn_ends.specs.reply_sealing.Saying.{all_framed}
+use Rattle.conn_core.specs.declared.conn.Conn.{Conn}
+use Rattle.conn_core.specs.declared.end.ConnEnd.{ConnEnd}
+use Rattle.conn_core.specs.declared.end.ConnEnd.TheVariants.{BadFrame, OutsideWindow, SecondNegotiate, Unsealable}
+use Rattle.conn_core.specs.declared.end.ConnEnd.TheVariants.{Spent, Full, LinkFault, Stopped, Memory}
+use Rattle.conn_core.specs.Shown.{IsEnd, MaySeal, ShowsEnd}
+use Rattle.conn_core.specs.declared.frame_messages.checked.CheckedFrame.{CheckedFrame}
+use Rattle.conn_core.specs.frame_messages.Checking.{EndsAll, CheckGoesOn, GreetsFirst, NoneGreets, ShowsFrame}
+use Rattle.conn_core.specs.reply_sealing.Saying.{all_framed}
 use Rattle.conn_core.specs.served.Replies.{some_acted, some_lacked}
 use Rattle.conn_core.specs.served.Serving.{Showing}
 use Rattle.conn_core.specs.message_replies.Replying.{AreAsked, AreMessagesSaid}

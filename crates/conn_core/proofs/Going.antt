@@ -11,8 +11,8 @@ use Rattle.spec_world.specs.Hearing as hearing
 use Rattle.spec_world.specs.Hearing.{Frame, FrameText, check_frame, checked_behind, checked_in, checked_text, text_of}
 use Rattle.spec_world.specs.Answering as answering
 use Rattle.spec_world.specs.Connection.{Going, answered_with, ended_by}
-use Rattle.conn_ends.specs.declared.end.ConnEnd.TheVariants.{Stopped}
-use Rattle.conn_ends.specs.frame_messages.Checking.{EndsAll}
+use Rattle.conn_core.specs.declared.end.ConnEnd.TheVariants.{Stopped}
+use Rattle.conn_core.specs.frame_messages.Checking.{EndsAll}
 use Rattle.conn_core.specs.reply_frames.Replying.{EndsAs, walk_replied}
 
 abbrev stops : {X : Type 0} → Result X ends.ConnEnd → Bool

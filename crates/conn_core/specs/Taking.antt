@@ -12,9 +12,9 @@ use Rattle.spec_world.specs.Connection.{ConnectionStep}
 use Rattle.spec_world.specs.Given.{GivenStep}
 use Rattle.spec_world.specs.Mishaps.{Mishap, owned_of, AreLeft}
 use Rattle.spec_world.specs.Notes as notes
-use Rattle.conn_ends.specs.declared.conn.Conn.{Conn}
-use Rattle.conn_ends.specs.declared.end.ConnEnd.{ConnEnd}
-use Rattle.conn_ends.specs.declared.end.ConnEnd.TheVariants.{Memory, Stopped}
+use Rattle.conn_core.specs.declared.conn.Conn.{Conn}
+use Rattle.conn_core.specs.declared.end.ConnEnd.{ConnEnd}
+use Rattle.conn_core.specs.declared.end.ConnEnd.TheVariants.{Memory, Stopped}
 use Rattle.conn_core.specs.served.Replies.{some_acted, some_lacked}
 use Rattle.conn_core.specs.served.Serving.{Showing}
 use Rattle.conn_core.specs.reply_frames.Replying.{EndsAs, WalkGoes}

@@ -8,8 +8,8 @@ ghost use Rattle.spec_world.specs.Settings.{ServerSettings};
 ghost use Rattle.spec_world.specs.Ends.{ServerEnd, Logons};
 ghost use Rattle.spec_world.specs.Hearing as hearing;
 ghost use Rattle.spec_world.specs.Answering as answering;
-ghost use Rattle.conn_ends.specs.Shown.{MaySeal, ShowsEnd};
-ghost use Rattle.conn_ends.specs.frame_messages.Checking.{AllHaveMessages, AreInOrder, GreetsFirst, ShowsFrame};
+ghost use Rattle.conn_core.specs.Shown.{MaySeal, ShowsEnd};
+ghost use Rattle.conn_core.specs.frame_messages.Checking.{AllHaveMessages, AreInOrder, GreetsFirst, ShowsFrame};
 ghost use Rattle.conn_core.specs.served.Replies.{some_acted, some_lacked};
 ghost use Rattle.conn_core.specs.served.Serving.{Onward};
 ghost use Rattle.conn_core.specs.message_replies.Replying.{AreAsked, AreMessagesShort};
@@ -17,11 +17,12 @@ ghost use Rattle.conn_core.specs.frame_events.Dealing.{Alone, taken_records};
 ghost use Rattle.conn_core.specs.reply_frames.Replying.{AreAnswers, walk_replied};
 ghost use Rattle.conn_core.specs.Taking.{FrameFinishes, HaltsAt, IsEnded, FrameServes, FrameTakes};
 
-use crate::end::{Ended, at_once};
+use crate::conn::Conn;
+use crate::end::{ConnEnd, Ended, at_once};
 use crate::frame_events::{Dealt, Moment, carry_out, dealt_for};
+use crate::frame_messages::{CheckedFrame, check};
 use crate::reply_frames::{Answered, answered_with};
 use crate::served::Serve;
-use conn_ends::{CheckedFrame, Conn, ConnEnd, check};
 use std::alloc::AllocError;
 use wire_bytes::Bytes;
 

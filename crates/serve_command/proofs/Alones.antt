@@ -21,8 +21,8 @@ use Rattle.spec_world.specs.Mishaps.{Mishap, Lacks, Halts, Owned, own_given, own
 use Rattle.spec_world.specs.Related.{Turn, Fails, Goes, turn_of}
 use Rattle.spec_world.specs.Settings.{ServerSettings}
 use Rattle.law_ties.specs.lone_server.Single.{SingleEvents, given_heard, given_next, given_turn, single_givens, singles}
-use Rattle.conn_ends.specs.declared.frame_messages.checked.Checked as code
-use Rattle.conn_ends.specs.frame_messages.Checking.{message_in}
+use Rattle.conn_core.specs.declared.frame_messages.checked.Checked as code
+use Rattle.conn_core.specs.frame_messages.Checking.{message_in}
 use Rattle.conn_core.specs.declared.served.error.ServeError.TheVariants as errors
 use Rattle.conn_core.specs.frame_events.Dealing.{EventAnswer}
 use Rattle.conn_core.specs.frame_events.Shared.{asked_all, asked_in, asks_it, first_dealt}

@@ -1,7 +1,6 @@
 // The turns of a connection at a server that only counts them, and what its link hears.
 use base_outside::{Failed, Link, MemClock, MemLink, News, SentName, Standing};
-use conn_core::{Reply, Serve, ServeError};
-use conn_ends::Progress;
+use conn_core::{Progress, Reply, Serve, ServeError};
 use rand_chacha::ChaCha20Rng;
 use rand_core::SeedableRng;
 use serve_turns::{ConnEnd, Connections, Ended, EventBook, Service, SharedBook};

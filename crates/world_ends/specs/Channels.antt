@@ -6,8 +6,8 @@ use Rattle.spec_crypto.specs.sessions.Nonces.{last_counter}
 use Rattle.spec_crypto.specs.declared.sessions.material.Keys.{Keys}
 use Rattle.spec_world.specs.World.{Wires}
 use Rattle.spec_world.specs.Ends.{ClientEnd, ServerEnd}
-use Rattle.conn_ends.specs.declared.conn.Conn.{Conn}
-use Rattle.conn_ends.specs.Shown.{ShowsEnd}
+use Rattle.conn_core.specs.declared.conn.Conn.{Conn}
+use Rattle.conn_core.specs.Shown.{ShowsEnd}
 use Rattle.client_ends.specs.declared.ends.config.Bound.{Bound}
 use Rattle.client_ends.specs.declared.ends.config.ClientConfig.{ClientConfig}
 use Rattle.client_ends.specs.declared.ends.dialog.Dialog.{Dialog}

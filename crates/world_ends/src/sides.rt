@@ -1,5 +1,5 @@
 use client_ends::{Dialog, Line};
-use conn_ends::Conn;
+use conn_core::Conn;
 use std::alloc::Global;
 use std::collections::VecDeque;
 

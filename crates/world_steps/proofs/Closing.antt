@@ -2,7 +2,7 @@
 use Rattle.std.proofs.Common.{◌≡◌, ℕ, ◌==◌, Bool, true, false, if◌then◌else◌, refl, sym, subst, ◌∙◌, arith}
 use Rattle.std.proofs.Common.{List, [], slice_get, Option, Some, None, is_some}
 use Rattle.std.proofs.lemmas.Bool.Decides.{nat_tests}
-use Rattle.conn_ends.specs.declared.conn.Conn.{Conn}
+use Rattle.conn_core.specs.declared.conn.Conn.{Conn}
 use Rattle.spec_exchange.specs.Table.{put}
 use Rattle.spec_exchange.specs.Network.{Conn as Link, client_off, server_off}
 use Rattle.client_ends.specs.declared.ends.config.ClientConfig.{ClientConfig}

@@ -6,8 +6,8 @@ use Rattle.spec_world.specs.Ends.{ServerEnd, ConnEnd, BadFrame, SecondNegotiate}
 use Rattle.spec_world.specs.Messages.{HeardMessage}
 use Rattle.spec_world.specs.Hearing.{Checked, Frame, is_negotiate, turn_end, behind_turn, in_front, end_by_id, outside_of, bars}
 use Rattle.spec_world.specs.Hearing.{checked_as, checked_in, checked_behind}
-use Rattle.conn_ends.specs.frame_messages.Checking.{NoneGreets, GreetsFirst}
-use Rattle.conn_ends.proofs.frame_messages.Greets.{in_turn, greets_first}
+use Rattle.conn_core.specs.frame_messages.Checking.{NoneGreets, GreetsFirst}
+use Rattle.conn_core.proofs.frame_messages.Greets.{in_turn, greets_first}
 use Rattle.conn_core.specs.frame_events.Dealing.{Alone}
 use Rattle.conn_core.proofs.frame_events.Turns.{one_checked}
 

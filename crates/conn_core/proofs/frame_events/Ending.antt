@@ -9,11 +9,11 @@ use Rattle.spec_world.specs.Hearing as hearing
 use Rattle.spec_world.specs.Related as related
 use Rattle.spec_world.specs.Mishaps.{Owned, owning, owned_all, LeaveAll}
 use Rattle.conn_core.specs.declared.served.error.ServeError.{ServeError}
-use Rattle.conn_ends.specs.declared.end.ConnEnd.{ConnEnd}
-use Rattle.conn_ends.specs.declared.end.ConnEnd.TheVariants as ends
-use Rattle.conn_ends.specs.declared.frame_messages.checked.Checked.{Checked}
-use Rattle.conn_ends.specs.declared.frame_messages.checked.CheckedFrame.{CheckedFrame}
-use Rattle.conn_ends.specs.frame_messages.Checking.{ShowsMessages}
+use Rattle.conn_core.specs.declared.end.ConnEnd.{ConnEnd}
+use Rattle.conn_core.specs.declared.end.ConnEnd.TheVariants as ends
+use Rattle.conn_core.specs.declared.frame_messages.checked.Checked.{Checked}
+use Rattle.conn_core.specs.declared.frame_messages.checked.CheckedFrame.{CheckedFrame}
+use Rattle.conn_core.specs.frame_messages.Checking.{ShowsMessages}
 use Rattle.conn_core.specs.declared.served.serve.Reply.{Reply}
 use Rattle.conn_core.specs.served.Replies.{some_acted, some_lacked}
 use Rattle.conn_core.specs.served.Serving.{Showing}

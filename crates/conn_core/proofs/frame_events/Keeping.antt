@@ -7,8 +7,8 @@ use Rattle.spec_wire.specs.declared.messages.header.Header.{Header}
 use Rattle.spec_wire.specs.declared.messages.header.Span.{Span}
 use Rattle.spec_world.specs.Hearing as hearing
 use Rattle.spec_world.specs.Related.{Carry, Turn, Goes, Fails, turn_of, failed_as, can_follow, file_place, with_file, with_file_at, with_ids}
-use Rattle.conn_ends.specs.declared.frame_messages.checked.Checked.{Checked}
-use Rattle.conn_ends.specs.frame_messages.Checking.{IsDenied, ShowsGoing, message_in}
+use Rattle.conn_core.specs.declared.frame_messages.checked.Checked.{Checked}
+use Rattle.conn_core.specs.frame_messages.Checking.{IsDenied, ShowsGoing, message_in}
 use Rattle.conn_core.specs.related.Carrying.{Inherits, IsCarried}
 
 pub record Keeps (c t : hearing.Checked) : Type 0 where

@@ -4,10 +4,10 @@ use Rattle.std.proofs.Common.{◌++◌, length, Option, Some, None, slice_get, �
 use Rattle.std.proofs.Common.{refl, sym, ap, subst, ◌∙◌, arith}
 use Rattle.std.proofs.lemmas.Option.{slice_get_within}
 use Rattle.spec_world.specs.Hearing as hearing
-use Rattle.conn_ends.specs.declared.frame_messages.checked.Checked.{Checked}
-use Rattle.conn_ends.specs.declared.frame_messages.checked.CheckedFrame.{CheckedFrame}
-use Rattle.conn_ends.specs.frame_messages.Checking.{AreInOrder, ShowsGoing, ShowsMessages, message_in}
-use Rattle.conn_ends.proofs.frame_messages.Places.{apart}
+use Rattle.conn_core.specs.declared.frame_messages.checked.Checked.{Checked}
+use Rattle.conn_core.specs.declared.frame_messages.checked.CheckedFrame.{CheckedFrame}
+use Rattle.conn_core.specs.frame_messages.Checking.{AreInOrder, ShowsGoing, ShowsMessages, message_in}
+use Rattle.conn_core.proofs.frame_messages.Places.{apart}
 use Rattle.conn_core.specs.related.Carrying.{SameOthers}
 use Rattle.conn_core.specs.message_replies.Replying.{ShowsTaken}
 use Rattle.conn_core.proofs.frame_events.Turns.{one_checked}

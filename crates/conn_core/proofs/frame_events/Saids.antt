@@ -8,7 +8,7 @@ use Rattle.spec_world.specs.Hearing as hearing
 use Rattle.spec_world.specs.Answering as answering
 use Rattle.spec_world.specs.Connection.{said_failed}
 use Rattle.conn_core.specs.declared.served.error.ServeError.{ServeError}
-use Rattle.conn_ends.specs.declared.frame_messages.checked.Checked.{Checked}
+use Rattle.conn_core.specs.declared.frame_messages.checked.Checked.{Checked}
 use Rattle.conn_core.specs.declared.served.serve.Reply.{Reply}
 use Rattle.conn_core.specs.message_replies.Replying.{AreMessagesSaid, FailRightly, FailsAt, Later, MessageSays}
 use Rattle.conn_core.specs.message_replies.Replying.{SaysAside, SaysReply, SaysThis, aside_status, said_aside}

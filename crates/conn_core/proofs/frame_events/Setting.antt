@@ -23,12 +23,12 @@ use Rattle.server_checks.specs.declared.setups.setup.SetupHeard.{SetupHeard}
 use Rattle.conn_core.specs.declared.served.error.ServeError.{ServeError}
 use Rattle.conn_core.specs.declared.served.error.ServeError.TheVariants as errors
 use Rattle.server_checks.specs.declared.event_heard.event.ServerEvent.TheVariants as events
-use Rattle.conn_ends.specs.declared.conn.Progress.{Progress}
-use Rattle.conn_ends.specs.declared.conn.Progress.TheVariants.{Stays, Refused, Interim, Final}
-use Rattle.conn_ends.specs.declared.frame_messages.checked.Checked.{Checked}
-use Rattle.conn_ends.specs.frame_messages.Checking.{IsDenied, ShowsGoing, message_in}
-use Rattle.conn_ends.proofs.frame_messages.Headers.{one_number}
-use Rattle.conn_ends.specs.reply_sealing.Saying.{AreProgressKeys, MovesAs}
+use Rattle.conn_core.specs.declared.conn.Progress.{Progress}
+use Rattle.conn_core.specs.declared.conn.Progress.TheVariants.{Stays, Refused, Interim, Final}
+use Rattle.conn_core.specs.declared.frame_messages.checked.Checked.{Checked}
+use Rattle.conn_core.specs.frame_messages.Checking.{IsDenied, ShowsGoing, message_in}
+use Rattle.conn_core.proofs.frame_messages.Headers.{one_number}
+use Rattle.conn_core.specs.reply_sealing.Saying.{AreProgressKeys, MovesAs}
 use Rattle.conn_core.specs.served.Serving.{ServerAnswers, IsProgress, LeftBy, ServerServes, Showing, has_own_signature, refusal_due}
 use Rattle.conn_core.specs.declared.served.serve.Reply.{Reply}
 use Rattle.conn_core.specs.message_replies.Replying.{MessageSetsUp, progress_signer}

@@ -23,11 +23,11 @@ use Rattle.spec_world.specs.Mishaps.{Owned}
 use Rattle.spec_world.specs.Connection.{heard_message, said_failed, went_by, went_heard, went_turn}
 use Rattle.spec_world.specs.Given as gives
 use Rattle.spec_world.specs.Given.{Given, Answered, NoMemory, Stops, has_event, is_past_setups, went_refused}
-use Rattle.conn_ends.specs.declared.conn.Progress.{Progress}
-use Rattle.conn_ends.specs.declared.conn.Progress.TheVariants.{Stays}
-use Rattle.conn_ends.specs.declared.frame_messages.checked.Checked.{Checked}
-use Rattle.conn_ends.specs.declared.frame_messages.checked.CheckedFrame.{CheckedFrame}
-use Rattle.conn_ends.specs.reply_sealing.Saying.{AreProgressKeys, MovesAs}
+use Rattle.conn_core.specs.declared.conn.Progress.{Progress}
+use Rattle.conn_core.specs.declared.conn.Progress.TheVariants.{Stays}
+use Rattle.conn_core.specs.declared.frame_messages.checked.Checked.{Checked}
+use Rattle.conn_core.specs.declared.frame_messages.checked.CheckedFrame.{CheckedFrame}
+use Rattle.conn_core.specs.reply_sealing.Saying.{AreProgressKeys, MovesAs}
 use Rattle.conn_core.specs.declared.frame_events.handing.Dealt.{Dealt}
 use Rattle.conn_core.specs.declared.related.related.Carry.{Carry}
 use Rattle.conn_core.specs.declared.served.error.ServeError.{ServeError}

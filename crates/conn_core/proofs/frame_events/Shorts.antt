@@ -4,13 +4,13 @@ use Rattle.std.proofs.Common.{inr, sym, ap, subst, ◌∙◌}
 use Rattle.std.proofs.Common.{length-append, arith}
 use Rattle.spec_wire.specs.messages.Error.{error_response_spelling, error_response_table}
 use Rattle.spec_commands.proofs.Lengths.{total, length_fields}
-use Rattle.conn_ends.specs.declared.frame_messages.checked.Checked.{Checked}
+use Rattle.conn_core.specs.declared.frame_messages.checked.Checked.{Checked}
 use Rattle.conn_core.specs.served.Refusing.{IsMessageRefused}
 use Rattle.conn_core.specs.declared.served.error.ServeError.{ServeError}
 use Rattle.conn_core.specs.declared.served.serve.Reply.{Reply}
 use Rattle.conn_core.specs.served.Serving.{IsServerShort}
-use Rattle.conn_ends.specs.declared.end.ConnEnd.{ConnEnd}
-use Rattle.conn_ends.specs.declared.end.ConnEnd.TheVariants as ends
+use Rattle.conn_core.specs.declared.end.ConnEnd.{ConnEnd}
+use Rattle.conn_core.specs.declared.end.ConnEnd.TheVariants as ends
 use Rattle.conn_core.specs.declared.related.related.Carry.{Carry}
 use Rattle.conn_core.specs.message_replies.Replying.{AreMessagesShort}
 use Rattle.conn_core.specs.frame_events.Dealing.{AddsTo, EventAnswer, AreShortIf, event_listed}

@@ -16,9 +16,9 @@ use Rattle.spec_world.specs.Connection.{said_failed}
 use Rattle.spec_world.specs.Mishaps.{Mishap, Owned}
 use Rattle.spec_world.specs.Notes.{has_acted}
 use Rattle.conn_core.specs.declared.served.error.ServeError.{ServeError}
-use Rattle.conn_ends.specs.declared.frame_messages.checked.Checked.{Checked}
-use Rattle.conn_ends.specs.declared.frame_messages.checked.CheckedFrame.{CheckedFrame}
-use Rattle.conn_ends.specs.frame_messages.Checking.{AreInOrder, ShowsGoing}
+use Rattle.conn_core.specs.declared.frame_messages.checked.Checked.{Checked}
+use Rattle.conn_core.specs.declared.frame_messages.checked.CheckedFrame.{CheckedFrame}
+use Rattle.conn_core.specs.frame_messages.Checking.{AreInOrder, ShowsGoing}
 use Rattle.conn_core.specs.related.Carrying.{SameOthers}
 use Rattle.conn_core.specs.declared.served.serve.Reply.{Reply}
 use Rattle.conn_core.specs.served.Replies.{some_acted, some_lacked}

@@ -18,12 +18,12 @@ use Rattle.spec_world.specs.Given.{has_event}
 use Rattle.spec_world.specs.Mishaps.{Halts, Lacks, Owned, LeaveAll, owned_all, owning}
 use Rattle.conn_core.specs.declared.served.error.ServeError.{ServeError}
 use Rattle.conn_core.specs.declared.served.error.ServeError.TheVariants as errors
-use Rattle.conn_ends.specs.declared.end.ConnEnd.{ConnEnd}
-use Rattle.conn_ends.specs.declared.end.ConnEnd.TheVariants as ends
-use Rattle.conn_ends.specs.declared.end.ConnEnd.TheVariants.{Stopped}
-use Rattle.conn_ends.specs.declared.frame_messages.checked.Checked.{Checked}
-use Rattle.conn_ends.specs.declared.frame_messages.checked.CheckedFrame.{CheckedFrame}
-use Rattle.conn_ends.specs.frame_messages.Checking.{ShowsGoing, message_in}
+use Rattle.conn_core.specs.declared.end.ConnEnd.{ConnEnd}
+use Rattle.conn_core.specs.declared.end.ConnEnd.TheVariants as ends
+use Rattle.conn_core.specs.declared.end.ConnEnd.TheVariants.{Stopped}
+use Rattle.conn_core.specs.declared.frame_messages.checked.Checked.{Checked}
+use Rattle.conn_core.specs.declared.frame_messages.checked.CheckedFrame.{CheckedFrame}
+use Rattle.conn_core.specs.frame_messages.Checking.{ShowsGoing, message_in}
 use Rattle.conn_core.specs.related.Carrying.{RelatedCarries, Inherits, IsCarried, SameOthers, carry_of}
 use Rattle.conn_core.specs.declared.related.related.Carry.{Carry}
 use Rattle.conn_core.specs.declared.served.serve.Reply.{Reply}

@@ -17,8 +17,8 @@ use Rattle.server_checks.specs.setups.Setups.{request_of, setup_logons, setup_me
 use Rattle.server_checks.specs.declared.setups.setup.SetupHeard.{SetupHeard}
 use Rattle.server_checks.specs.declared.event_heard.event.ServerEvent.{ServerEvent}
 use Rattle.server_checks.specs.declared.event_heard.event.ServerEvent.TheVariants as events
-use Rattle.conn_ends.specs.declared.frame_messages.checked.Checked.{Checked}
-use Rattle.conn_ends.specs.frame_messages.Checking.{IsDenied, ShowsGoing, message_in}
+use Rattle.conn_core.specs.declared.frame_messages.checked.Checked.{Checked}
+use Rattle.conn_core.specs.frame_messages.Checking.{IsDenied, ShowsGoing, message_in}
 use Rattle.conn_core.specs.declared.served.error.ServeError.{ServeError}
 use Rattle.conn_core.specs.declared.served.error.ServeError.TheVariants as errors
 use Rattle.conn_core.specs.declared.served.serve.Reply.{Reply}

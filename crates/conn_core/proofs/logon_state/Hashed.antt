@@ -6,12 +6,12 @@ use Rattle.spec_world.specs.Hearing as hearing
 use Rattle.spec_world.specs.Answering as answering
 use Rattle.spec_world.specs.Logon as logon
 use Rattle.spec_world.specs.Related.{file_place}
-use Rattle.conn_ends.specs.declared.conn.Progress.{Progress}
-use Rattle.conn_ends.specs.declared.conn.Progress.TheVariants.{Stays, Refused, Interim, Final}
-use Rattle.conn_ends.specs.declared.frame_messages.checked.Checked.{Checked}
-use Rattle.conn_ends.specs.frame_messages.Checking.{ShowsGoing, message_in}
+use Rattle.conn_core.specs.declared.conn.Progress.{Progress}
+use Rattle.conn_core.specs.declared.conn.Progress.TheVariants.{Stays, Refused, Interim, Final}
+use Rattle.conn_core.specs.declared.frame_messages.checked.Checked.{Checked}
+use Rattle.conn_core.specs.frame_messages.Checking.{ShowsGoing, message_in}
 use Rattle.conn_core.specs.message_replies.Replying.{SettlesBy}
-use Rattle.conn_ends.specs.reply_sealing.Saying.{MovesAs}
+use Rattle.conn_core.specs.reply_sealing.Saying.{MovesAs}
 use Rattle.conn_core.specs.logon_state.Behind.{IsHashed}
 use Rattle.conn_core.proofs.logon_state.Moved.{is_it}
 

@@ -12,7 +12,7 @@ use Rattle.spec_world.specs.Answering as answering
 use Rattle.spec_world.specs.Logon as logon
 use Rattle.spec_world.specs.Logon.{greeting_transcript}
 use Rattle.spec_world.specs.Negotiate.{negotiated, client_told}
-use Rattle.conn_ends.specs.declared.conn.Greeting.{Greeting}
+use Rattle.conn_core.specs.declared.conn.Greeting.{Greeting}
 use Rattle.conn_core.specs.declared.logon_state.behind.Behind.{Behind}
 use Rattle.conn_core.specs.logon_state.Behind.{ShowsBehind}
 

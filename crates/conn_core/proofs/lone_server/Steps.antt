@@ -14,9 +14,9 @@ use Rattle.spec_world.specs.Given.{GivenStep}
 use Rattle.spec_world.specs.Mishaps.{owned_step}
 use Rattle.spec_world.specs.Notes as notes
 use Rattle.law_ties.specs.lone_server.Own.{NothingBefell, OwnStep}
-use Rattle.conn_ends.specs.declared.conn.Conn.{Conn}
-use Rattle.conn_ends.specs.declared.end.ConnEnd.{ConnEnd}
-use Rattle.conn_ends.specs.declared.end.ConnEnd.TheVariants as causes
+use Rattle.conn_core.specs.declared.conn.Conn.{Conn}
+use Rattle.conn_core.specs.declared.end.ConnEnd.{ConnEnd}
+use Rattle.conn_core.specs.declared.end.ConnEnd.TheVariants as causes
 use Rattle.conn_core.specs.served.Serving.{Showing}
 use Rattle.conn_core.specs.frame_events.Dealing.{taken_records}
 use Rattle.conn_core.specs.frame_events.Written.{AreWritten}

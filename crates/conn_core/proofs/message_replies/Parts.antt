@@ -25,12 +25,12 @@ use Rattle.spec_world.specs.Logon as logon
 use Rattle.spec_world.specs.Answering as answering
 use Rattle.spec_world.specs.Connection.{said_failed}
 use Rattle.conn_core.specs.declared.served.error.ServeError.{ServeError}
-use Rattle.conn_ends.specs.declared.conn.Progress.{Progress}
-use Rattle.conn_ends.specs.declared.conn.Progress.TheVariants.{Stays}
-use Rattle.conn_ends.specs.declared.frame_messages.checked.Checked.{Checked}
+use Rattle.conn_core.specs.declared.conn.Progress.{Progress}
+use Rattle.conn_core.specs.declared.conn.Progress.TheVariants.{Stays}
+use Rattle.conn_core.specs.declared.frame_messages.checked.Checked.{Checked}
 use Rattle.conn_core.specs.declared.served.serve.Reply.{Reply}
-use Rattle.conn_ends.specs.declared.reply_sealing.said.Said.{Said}
-use Rattle.conn_ends.specs.reply_sealing.Saying.{IsReplySaid, MovesAs}
+use Rattle.conn_core.specs.declared.reply_sealing.said.Said.{Said}
+use Rattle.conn_core.specs.reply_sealing.Saying.{IsReplySaid, MovesAs}
 use Rattle.conn_core.specs.related.Carrying.{breaks_form, is_broken}
 use Rattle.conn_core.specs.declared.message_replies.plain.Named.{Named}
 use Rattle.conn_core.specs.message_replies.Replying.{AreMessagesShort, IsLike, IsShortAnswer, SaidIf, SaidOf}

@@ -13,11 +13,11 @@ use Rattle.spec_world.specs.Answering as answering
 use Rattle.spec_world.specs.Connection.{said_failed}
 use Rattle.conn_core.specs.declared.served.error.ServeError.{ServeError}
 use Rattle.conn_core.specs.declared.served.error.ServeError.TheVariants as errors
-use Rattle.conn_ends.specs.declared.conn.Progress.{Progress}
-use Rattle.conn_ends.specs.declared.conn.Progress.TheVariants.{Stays, Refused, Interim, Final}
-use Rattle.conn_ends.specs.declared.frame_messages.checked.Checked.{Checked}
+use Rattle.conn_core.specs.declared.conn.Progress.{Progress}
+use Rattle.conn_core.specs.declared.conn.Progress.TheVariants.{Stays, Refused, Interim, Final}
+use Rattle.conn_core.specs.declared.frame_messages.checked.Checked.{Checked}
 use Rattle.conn_core.specs.declared.served.serve.Reply.{Reply}
-use Rattle.conn_ends.specs.reply_sealing.Saying.{AreProgressKeys, MovesAs}
+use Rattle.conn_core.specs.reply_sealing.Saying.{AreProgressKeys, MovesAs}
 use Rattle.conn_core.specs.message_replies.Replying.{AreMessagesSaid, AreSound, FailRightly, FailsAt, IsMessageAnswered}
 use Rattle.conn_core.specs.message_replies.Replying.{IsSound, Later, MessageSays, MessageSetsUp, SettlesBy}
 use Rattle.conn_core.specs.message_replies.Replying.{aside_status, echo_due, negotiate_due, said_aside}

@@ -4,7 +4,7 @@ use Rattle.spec_wire.specs.declared.messages.header.Header.{Header}
 use Rattle.spec_exchange.specs.Status.{success}
 use Rattle.spec_world.specs.Hearing as hearing
 use Rattle.spec_world.specs.Related as related
-use Rattle.conn_ends.specs.declared.frame_messages.checked.Checked.{Checked}
+use Rattle.conn_core.specs.declared.frame_messages.checked.Checked.{Checked}
 use Rattle.conn_core.specs.declared.related.related.Carry.{Carry}
 use Rattle.conn_core.specs.related.Carrying.{carry_of, file_told, handed_before, status_before, IsCarried}
 use Rattle.conn_core.proofs.message_replies.Parts.{differs}

@@ -2,8 +2,8 @@
 use Rattle.std.proofs.Common.{◌≡◌, ℕ, List, Option, Some, set, slice_get, sym, subst}
 use Rattle.std.proofs.lemmas.List.Elements.{All-set}
 use Rattle.std.proofs.lemmas.Option.{get_or_from_slice_get, slice_get_within}
-use Rattle.conn_ends.specs.declared.frame_messages.checked.Checked.{Checked}
-use Rattle.conn_ends.specs.frame_messages.Checking.{AllDenied, IsDenied}
+use Rattle.conn_core.specs.declared.frame_messages.checked.Checked.{Checked}
+use Rattle.conn_core.specs.frame_messages.Checking.{AllDenied, IsDenied}
 
 pub denied_at : (ms : List Checked) (i : ℕ) (m : Checked) → slice_get ms i ≡ Some m → AllDenied ms → IsDenied m.fault
 denied_at ms i m here all =

@@ -5,7 +5,7 @@ use borrow.Rule.Slice.PartMut.{put_mid}
 use Rattle.std.proofs.lemmas.List.{drop-drop}
 use Rattle.spec_wire.specs.messages.Places.{bytes_at}
 use Rattle.spec_world.specs.Related as related
-use Rattle.conn_ends.proofs.frame_messages.Headers.{at_least, too_few}
+use Rattle.conn_core.proofs.frame_messages.Headers.{at_least, too_few}
 
 by_true : {X : Type 0} (b : Bool) (x y : X) → b ≡ true → x ≡ (if b then x else y)
 by_true true x y e = refl

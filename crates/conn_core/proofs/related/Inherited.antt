@@ -6,9 +6,9 @@ use Rattle.spec_wire.specs.declared.messages.header.Header.{Header}
 use Rattle.spec_wire.specs.declared.messages.header.Span.{Span}
 use Rattle.spec_world.specs.Hearing as hearing
 use Rattle.spec_world.specs.Related as related
-use Rattle.conn_ends.specs.declared.frame_messages.checked.Checked.{Checked}
-use Rattle.conn_ends.specs.declared.frame_messages.checked.CheckedFrame.{CheckedFrame}
-use Rattle.conn_ends.specs.frame_messages.Checking.{InOrder, AreInOrder, HasMessage, places_of, bytes_of, message_in}
+use Rattle.conn_core.specs.declared.frame_messages.checked.Checked.{Checked}
+use Rattle.conn_core.specs.declared.frame_messages.checked.CheckedFrame.{CheckedFrame}
+use Rattle.conn_core.specs.frame_messages.Checking.{InOrder, AreInOrder, HasMessage, places_of, bytes_of, message_in}
 use Rattle.conn_core.specs.declared.related.related.Carry.{Carry}
 use Rattle.conn_core.specs.related.Carrying.{carry_of, follows, IsCarried, Inherits, TakesOver, SameOthers, AreApart}
 use Rattle.conn_core.proofs.related.Placed.{itself, before_it, behind_it, put_long}

@@ -3,7 +3,7 @@ use Rattle.std.proofs.Common.{◌≡◌, ℕ, ◌+◌, ◌-◌, ◌≤◌, List,
 use borrow.Rule.Slice.PartMut.{put_mid}
 use Rattle.std.proofs.lemmas.List.{drop-drop, drop-take, drop_at, take_at, take-append-le, take-take, length-take-le}
 use Rattle.spec_wire.specs.declared.messages.header.Span.{Span}
-use Rattle.conn_ends.specs.frame_messages.Checking.{bytes_of}
+use Rattle.conn_core.specs.frame_messages.Checking.{bytes_of}
 
 -- the place itself
 pub itself : (s : Span) (old new part : List ℕ) → s.start ≤ s.end → s.end ≤ length old → length part ≡ s.end - s.start

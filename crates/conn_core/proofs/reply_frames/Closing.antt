@@ -7,10 +7,10 @@ use Rattle.spec_wire.specs.credits.Window.{HeldIds}
 use Rattle.spec_world.specs.Settings.{ServerSettings}
 use Rattle.spec_world.specs.Ends.{ServerEnd}
 use Rattle.spec_world.specs.Answering as answering
-use Rattle.conn_ends.specs.declared.conn.Conn.{Conn}
-use Rattle.conn_ends.specs.declared.end.ConnEnd.{ConnEnd}
-use Rattle.conn_ends.specs.declared.reply_sealing.said.Said.{Said}
-use Rattle.conn_ends.specs.reply_sealing.Joining.{NextIs}
+use Rattle.conn_core.specs.declared.conn.Conn.{Conn}
+use Rattle.conn_core.specs.declared.end.ConnEnd.{ConnEnd}
+use Rattle.conn_core.specs.declared.reply_sealing.said.Said.{Said}
+use Rattle.conn_core.specs.reply_sealing.Joining.{NextIs}
 use Rattle.conn_core.specs.declared.message_replies.saying.Answers.{Answers}
 use Rattle.conn_core.specs.declared.reply_frames.adding.Joining.{Joining}
 use Rattle.conn_core.specs.declared.reply_frames.adding.Walk.{Walk}

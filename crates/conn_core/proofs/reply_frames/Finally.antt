@@ -15,17 +15,17 @@ use Rattle.spec_world.specs.Hearing as hearing
 use Rattle.spec_world.specs.Answering as answering
 use Rattle.spec_world.specs.Answering.{SaidReply, concatenated, each_joined, frames_by, has_nonces, sealed_each, told_each}
 use Rattle.spec_world.specs.Connection.{ConnectionStep, Going, answered_in, answered_with, ended_by, last_status}
-use Rattle.conn_ends.specs.declared.conn.Conn.{Conn}
-use Rattle.conn_ends.specs.declared.conn.Logon.{Logon}
-use Rattle.conn_ends.specs.declared.end.ConnEnd.{ConnEnd}
-use Rattle.conn_ends.specs.declared.end.ConnEnd.TheVariants.{BadFrame, OutsideWindow, SecondNegotiate, Unsealable}
-use Rattle.conn_ends.specs.declared.end.ConnEnd.TheVariants.{Spent, Full, LinkFault, Stopped, Memory}
-use Rattle.conn_ends.specs.Shown.{ShowsEnd}
-use Rattle.conn_ends.specs.declared.reply_sealing.frames.Frames.{Frames}
-use Rattle.conn_ends.specs.reply_sealing.Saying.{all_framed}
-use Rattle.conn_ends.specs.reply_sealing.Joining.{frames_of, nonces_behind, open_part, reply_rows}
+use Rattle.conn_core.specs.declared.conn.Conn.{Conn}
+use Rattle.conn_core.specs.declared.conn.Logon.{Logon}
+use Rattle.conn_core.specs.declared.end.ConnEnd.{ConnEnd}
+use Rattle.conn_core.specs.declared.end.ConnEnd.TheVariants.{BadFrame, OutsideWindow, SecondNegotiate, Unsealable}
+use Rattle.conn_core.specs.declared.end.ConnEnd.TheVariants.{Spent, Full, LinkFault, Stopped, Memory}
+use Rattle.conn_core.specs.Shown.{ShowsEnd}
+use Rattle.conn_core.specs.declared.reply_sealing.frames.Frames.{Frames}
+use Rattle.conn_core.specs.reply_sealing.Saying.{all_framed}
+use Rattle.conn_core.specs.reply_sealing.Joining.{frames_of, nonces_behind, open_part, reply_rows}
 use Rattle.law_ties.proofs.wire_facts.Ciphers.{short}
-use Rattle.conn_ends.proofs.reply_sealing.Gathering.{rows_are}
+use Rattle.conn_core.proofs.reply_sealing.Gathering.{rows_are}
 use Rattle.conn_core.specs.declared.message_replies.saying.Answers.{Answers}
 use Rattle.conn_core.specs.message_replies.Replying.{AreMessagesSaid, HelloOf}
 use Rattle.conn_core.specs.declared.logon_state.behind.Behind.{Behind}

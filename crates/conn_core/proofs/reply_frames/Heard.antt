@@ -12,7 +12,7 @@ use Rattle.spec_world.specs.Logon as logon
 use Rattle.spec_world.specs.Answering as answering
 use Rattle.spec_world.specs.Answering.{first_text, later_texts, server_end_behind, told_each}
 use Rattle.conn_core.specs.declared.served.error.ServeError.{ServeError}
-use Rattle.conn_ends.specs.declared.frame_messages.checked.Checked.{Checked}
+use Rattle.conn_core.specs.declared.frame_messages.checked.Checked.{Checked}
 use Rattle.conn_core.specs.declared.served.serve.Reply.{Reply}
 use Rattle.conn_core.specs.message_replies.Replying.{AreAsked, AreMessagesSaid, AskedBy, Later, MessageSays, aside_status}
 use Rattle.conn_core.proofs.message_replies.Saids.{is_request}

@@ -5,7 +5,7 @@ use Rattle.spec_wire.specs.credits.Window.{HeldIds}
 use Rattle.spec_world.specs.Settings.{ServerSettings}
 use Rattle.spec_world.specs.Ends.{ServerEnd}
 use Rattle.spec_world.specs.Answering as answering
-use Rattle.conn_ends.specs.declared.conn.Conn.{Conn}
+use Rattle.conn_core.specs.declared.conn.Conn.{Conn}
 use Rattle.conn_core.specs.declared.message_replies.saying.Answers.{Answers}
 use Rattle.conn_core.specs.declared.reply_frames.adding.Joining.{Joining}
 use Rattle.conn_core.specs.declared.reply_frames.adding.Walk.{Walk}

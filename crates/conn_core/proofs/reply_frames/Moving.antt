@@ -11,15 +11,15 @@ use Rattle.spec_world.specs.Logon as logon
 use Rattle.spec_world.specs.Answering as answering
 use Rattle.spec_world.specs.Answering.{SaidReply, concatenated, each_joined, said_text, server_end_behind, text_limit}
 use Rattle.spec_world.specs.Answering.{told_each, whole_size}
-use Rattle.conn_ends.specs.declared.end.ConnEnd.{ConnEnd}
-use Rattle.conn_ends.specs.declared.end.ConnEnd.TheVariants.{BadFrame, OutsideWindow, SecondNegotiate, Unsealable}
-use Rattle.conn_ends.specs.declared.end.ConnEnd.TheVariants.{Spent, Full, LinkFault, Stopped, Memory}
-use Rattle.conn_ends.specs.declared.frame_messages.checked.Checked.{Checked}
-use Rattle.conn_ends.specs.declared.reply_sealing.frames.Frames.{Frames}
-use Rattle.conn_ends.specs.declared.reply_sealing.said.Said as code
+use Rattle.conn_core.specs.declared.end.ConnEnd.{ConnEnd}
+use Rattle.conn_core.specs.declared.end.ConnEnd.TheVariants.{BadFrame, OutsideWindow, SecondNegotiate, Unsealable}
+use Rattle.conn_core.specs.declared.end.ConnEnd.TheVariants.{Spent, Full, LinkFault, Stopped, Memory}
+use Rattle.conn_core.specs.declared.frame_messages.checked.Checked.{Checked}
+use Rattle.conn_core.specs.declared.reply_sealing.frames.Frames.{Frames}
+use Rattle.conn_core.specs.declared.reply_sealing.said.Said as code
 use Rattle.conn_core.specs.declared.message_replies.saying.Answers.{Answers}
-use Rattle.conn_ends.specs.reply_sealing.Joining.{IsWritten, joins_next, nonces_behind, reply_rows}
-use Rattle.conn_ends.proofs.reply_sealing.Placing.{concatenated_more}
+use Rattle.conn_core.specs.reply_sealing.Joining.{IsWritten, joins_next, nonces_behind, reply_rows}
+use Rattle.conn_core.proofs.reply_sealing.Placing.{concatenated_more}
 use Rattle.conn_core.specs.declared.logon_state.behind.Behind.{Behind}
 use Rattle.conn_core.specs.logon_state.Behind.{ShowsBehind}
 use Rattle.conn_core.specs.reply_frames.Adding.{Added, AddsWith, IsReply, IsWaiting}

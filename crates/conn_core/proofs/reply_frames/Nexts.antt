@@ -9,14 +9,14 @@ use Rattle.spec_world.specs.Settings.{ServerSettings}
 use Rattle.spec_world.specs.Ends.{ServerEnd}
 use Rattle.spec_world.specs.Hearing as hearing
 use Rattle.spec_world.specs.Answering as answering
-use Rattle.conn_ends.specs.declared.conn.Conn.{Conn}
-use Rattle.conn_ends.specs.declared.conn.Logon.{Logon}
-use Rattle.conn_ends.specs.declared.end.ConnEnd.{ConnEnd}
-use Rattle.conn_ends.specs.declared.frame_messages.checked.Checked.{Checked}
-use Rattle.conn_ends.specs.frame_messages.Checking.{HasMessage}
-use Rattle.conn_ends.specs.declared.reply_sealing.frames.Frames.{Frames}
-use Rattle.conn_ends.specs.declared.reply_sealing.said.Said.{Said}
-use Rattle.conn_ends.specs.reply_sealing.Saying.{CanPut, CanPutIf}
+use Rattle.conn_core.specs.declared.conn.Conn.{Conn}
+use Rattle.conn_core.specs.declared.conn.Logon.{Logon}
+use Rattle.conn_core.specs.declared.end.ConnEnd.{ConnEnd}
+use Rattle.conn_core.specs.declared.frame_messages.checked.Checked.{Checked}
+use Rattle.conn_core.specs.frame_messages.Checking.{HasMessage}
+use Rattle.conn_core.specs.declared.reply_sealing.frames.Frames.{Frames}
+use Rattle.conn_core.specs.declared.reply_sealing.said.Said.{Said}
+use Rattle.conn_core.specs.reply_sealing.Saying.{CanPut, CanPutIf}
 use Rattle.conn_core.specs.declared.message_replies.saying.Answers.{Answers}
 use Rattle.conn_core.specs.message_replies.Replying.{AreMessagesSaid, HelloFor, IsShown, MessageKept, SaysNext, has_message_event}
 use Rattle.conn_core.specs.declared.reply_frames.adding.Joining.{Joining}

@@ -5,13 +5,13 @@ use Rattle.spec_crypto.specs.declared.sessions.material.Keys.{Keys}
 use Rattle.spec_crypto.specs.sessions.Nonces.{NonceState}
 use Rattle.spec_world.specs.Ends.{ServerEnd}
 use Rattle.spec_world.specs.Answering as answering
-use Rattle.conn_ends.specs.declared.end.ConnEnd.{ConnEnd}
-use Rattle.conn_ends.specs.declared.end.ConnEnd.TheVariants.{BadFrame, OutsideWindow, SecondNegotiate, Unsealable}
-use Rattle.conn_ends.specs.declared.end.ConnEnd.TheVariants.{Spent, Full, LinkFault, Stopped, Memory}
-use Rattle.conn_ends.specs.declared.reply_sealing.frames.Frames.{Frames}
-use Rattle.conn_ends.specs.declared.reply_sealing.frames.Placed.{Placed}
-use Rattle.conn_ends.specs.declared.reply_sealing.said.Said.{Said}
-use Rattle.conn_ends.specs.reply_sealing.Joining.{ReplyEndsBy, HasReplyRoom, IsPlaced, RoomBehind, joins_next}
+use Rattle.conn_core.specs.declared.end.ConnEnd.{ConnEnd}
+use Rattle.conn_core.specs.declared.end.ConnEnd.TheVariants.{BadFrame, OutsideWindow, SecondNegotiate, Unsealable}
+use Rattle.conn_core.specs.declared.end.ConnEnd.TheVariants.{Spent, Full, LinkFault, Stopped, Memory}
+use Rattle.conn_core.specs.declared.reply_sealing.frames.Frames.{Frames}
+use Rattle.conn_core.specs.declared.reply_sealing.frames.Placed.{Placed}
+use Rattle.conn_core.specs.declared.reply_sealing.said.Said.{Said}
+use Rattle.conn_core.specs.reply_sealing.Joining.{ReplyEndsBy, HasReplyRoom, IsPlaced, RoomBehind, joins_next}
 use Rattle.conn_core.specs.declared.logon_state.behind.Behind.{Behind}
 use Rattle.conn_core.specs.logon_state.Behind.{ShowsBehind}
 use Rattle.conn_core.specs.reply_frames.Adding.{Added, AddsWith, NextFits, AnswerPuts, later_of}

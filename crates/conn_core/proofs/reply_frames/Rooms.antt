@@ -4,10 +4,10 @@ use Rattle.std.specs.Prelude.{slice_get, IfOk, Result}
 use Rattle.std.proofs.lemmas.Bool.Decides.{nat_tests}
 use Rattle.spec_wire.specs.declared.messages.header.Header.{Header}
 use Rattle.spec_world.specs.Hearing as hearing
-use Rattle.conn_ends.specs.declared.frame_messages.checked.Checked.{Checked}
-use Rattle.conn_ends.specs.frame_messages.Checking.{ShowsGoing, message_in}
-use Rattle.conn_ends.specs.declared.negotiating.greeting.Hello.{Hello}
-use Rattle.conn_ends.specs.negotiating.Greeting.{IsHello}
+use Rattle.conn_core.specs.declared.frame_messages.checked.Checked.{Checked}
+use Rattle.conn_core.specs.frame_messages.Checking.{ShowsGoing, message_in}
+use Rattle.conn_core.specs.declared.negotiating.greeting.Hello.{Hello}
+use Rattle.conn_core.specs.negotiating.Greeting.{IsHello}
 use Rattle.conn_core.specs.message_replies.Replying.{HelloOf, ShowsTaken}
 use Rattle.conn_core.specs.reply_frames.Walking.{first_greets}
 

@@ -3,7 +3,7 @@ use Rattle.std.proofs.Common.{◌≡◌, ℕ, ◌+◌, nat_le, Bool, true, false
 use Rattle.std.proofs.Common.{drop, refl, sym, ap, ◌∙◌}
 use Rattle.std.proofs.lemmas.List.{append-nil, drop_at}
 use Rattle.spec_world.specs.Answering.{SaidReply, said_text, said_size, whole_size, text_limit, concatenated, each_joined}
-use Rattle.conn_ends.specs.reply_sealing.Joining.{joins_next, reply_rows}
+use Rattle.conn_core.specs.reply_sealing.Joining.{joins_next, reply_rows}
 use Rattle.conn_core.specs.reply_frames.Joined.{next_of}
 
 -- the rows behind one more reply

@@ -10,12 +10,12 @@ use Rattle.spec_world.specs.Ends.{ServerEnd}
 use Rattle.spec_world.specs.Hearing as hearing
 use Rattle.spec_world.specs.Answering as answering
 use Rattle.spec_world.specs.Connection.{last_status}
-use Rattle.conn_ends.specs.declared.conn.Conn.{Conn}
-use Rattle.conn_ends.specs.declared.conn.Logon.{Logon}
-use Rattle.conn_ends.specs.declared.frame_messages.checked.Checked.{Checked}
-use Rattle.conn_ends.specs.frame_messages.Checking.{ShowsGoing}
-use Rattle.conn_ends.specs.declared.reply_sealing.said.Said.{Said}
-use Rattle.conn_ends.specs.reply_sealing.Saying.{IsReplySaid}
+use Rattle.conn_core.specs.declared.conn.Conn.{Conn}
+use Rattle.conn_core.specs.declared.conn.Logon.{Logon}
+use Rattle.conn_core.specs.declared.frame_messages.checked.Checked.{Checked}
+use Rattle.conn_core.specs.frame_messages.Checking.{ShowsGoing}
+use Rattle.conn_core.specs.declared.reply_sealing.said.Said.{Said}
+use Rattle.conn_core.specs.reply_sealing.Saying.{IsReplySaid}
 use Rattle.conn_core.specs.declared.message_replies.saying.Answers.{Answers}
 use Rattle.conn_core.specs.message_replies.Replying.{AreMessagesSaid, AreSound, HelloFor, IsShown, IsSound, SaysNext}
 use Rattle.conn_core.specs.message_replies.Replying.{ShowsTaken, has_message_event}

@@ -14,18 +14,18 @@ use Rattle.spec_world.specs.Answering as answering
 use Rattle.spec_world.specs.Answering.{concatenated, each_joined, sealed_each, text_limit}
 use Rattle.spec_world.specs.Connection.{last_status}
 use Rattle.conn_core.specs.declared.served.error.ServeError.{ServeError}
-use Rattle.conn_ends.specs.declared.conn.Conn.{Conn}
-use Rattle.conn_ends.specs.declared.end.ConnEnd.{ConnEnd}
-use Rattle.conn_ends.specs.declared.end.ConnEnd.TheVariants.{BadFrame, OutsideWindow, SecondNegotiate, Unsealable}
-use Rattle.conn_ends.specs.declared.end.ConnEnd.TheVariants.{Spent, Full, LinkFault, Stopped, Memory}
-use Rattle.conn_ends.specs.declared.frame_messages.checked.Checked.{Checked}
-use Rattle.conn_ends.specs.frame_messages.Checking.{GreetsFirst, NoneGreets}
+use Rattle.conn_core.specs.declared.conn.Conn.{Conn}
+use Rattle.conn_core.specs.declared.end.ConnEnd.{ConnEnd}
+use Rattle.conn_core.specs.declared.end.ConnEnd.TheVariants.{BadFrame, OutsideWindow, SecondNegotiate, Unsealable}
+use Rattle.conn_core.specs.declared.end.ConnEnd.TheVariants.{Spent, Full, LinkFault, Stopped, Memory}
+use Rattle.conn_core.specs.declared.frame_messages.checked.Checked.{Checked}
+use Rattle.conn_core.specs.frame_messages.Checking.{GreetsFirst, NoneGreets}
 use Rattle.conn_core.specs.declared.served.serve.Reply.{Reply}
-use Rattle.conn_ends.specs.declared.negotiating.greeting.Hello.{Hello}
-use Rattle.conn_ends.specs.declared.reply_sealing.frames.Frames.{Frames}
-use Rattle.conn_ends.specs.declared.reply_sealing.said.Said.{Said}
-use Rattle.conn_ends.specs.reply_sealing.Saying.{all_framed}
-use Rattle.conn_ends.specs.reply_sealing.Joining.{IsWritten, frames_of, nonces_behind, open_part, reply_rows}
+use Rattle.conn_core.specs.declared.negotiating.greeting.Hello.{Hello}
+use Rattle.conn_core.specs.declared.reply_sealing.frames.Frames.{Frames}
+use Rattle.conn_core.specs.declared.reply_sealing.said.Said.{Said}
+use Rattle.conn_core.specs.reply_sealing.Saying.{all_framed}
+use Rattle.conn_core.specs.reply_sealing.Joining.{IsWritten, frames_of, nonces_behind, open_part, reply_rows}
 use Rattle.conn_core.specs.declared.message_replies.saying.Answers.{Answers}
 use Rattle.conn_core.specs.message_replies.Replying.{AreMessagesSaid, HelloOf}
 use Rattle.conn_core.proofs.message_replies.Sounds.{all_sound}

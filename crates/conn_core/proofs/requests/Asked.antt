@@ -17,9 +17,9 @@ use Rattle.spec_world.specs.Negotiate.{client_told, negotiate_status}
 use Rattle.spec_world.specs.Settings.{ServerSettings}
 use Rattle.spec_world.specs.Connection as connection
 use Rattle.spec_world.specs.Connection.{heard_message}
-use Rattle.conn_ends.specs.declared.frame_messages.checked.Checked.{Checked}
-use Rattle.conn_ends.specs.frame_messages.Checking.{ShowsGoing, message_in}
-use Rattle.conn_ends.proofs.frame_messages.Headers.{one_number}
+use Rattle.conn_core.specs.declared.frame_messages.checked.Checked.{Checked}
+use Rattle.conn_core.specs.frame_messages.Checking.{ShowsGoing, message_in}
+use Rattle.conn_core.proofs.frame_messages.Headers.{one_number}
 use Rattle.conn_core.specs.declared.requests.hearing.Told.{Told as Tells}
 use Rattle.conn_core.specs.requests.Asking.{IsGreetingTold, IsRequestTold}
 use Rattle.conn_core.specs.requests.Telling.{told_logons, told_message}

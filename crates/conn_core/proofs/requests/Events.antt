@@ -12,7 +12,7 @@ use Rattle.spec_world.specs.Settings.{ServerSettings}
 use Rattle.spec_world.specs.Connection as connection
 use Rattle.spec_world.specs.Connection.{heard_message}
 use Rattle.spec_world.specs.Given.{has_event}
-use Rattle.conn_ends.proofs.frame_messages.Headers.{one_number}
+use Rattle.conn_core.proofs.frame_messages.Headers.{one_number}
 use Rattle.conn_core.specs.message_replies.Replying.{echo_due, negotiate_due}
 use Rattle.conn_core.proofs.requests.Found.{aside_placed, heard_due, placed_command, placed_none, placed_some}
 use Rattle.conn_core.proofs.requests.Plain.{named_event}

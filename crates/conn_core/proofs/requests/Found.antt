@@ -27,9 +27,9 @@ use Rattle.spec_world.specs.Connection as connection
 use Rattle.spec_world.specs.Connection.{heard_message}
 use Rattle.server_checks.specs.declared.event_heard.event.ServerEvent.TheVariants as events
 use Rattle.server_checks.specs.declared.setups.setup.SetupHeard.{SetupHeard}
-use Rattle.conn_ends.specs.declared.frame_messages.checked.Checked.{Checked}
-use Rattle.conn_ends.specs.frame_messages.Checking.{IsDenied}
-use Rattle.conn_ends.proofs.frame_messages.Headers.{one_number, true_is_not_false}
+use Rattle.conn_core.specs.declared.frame_messages.checked.Checked.{Checked}
+use Rattle.conn_core.specs.frame_messages.Checking.{IsDenied}
+use Rattle.conn_core.proofs.frame_messages.Headers.{one_number, true_is_not_false}
 use Rattle.conn_core.specs.related.Carrying.{IsCarried, breaks_form, is_broken}
 use Rattle.conn_core.specs.served.Serving.{IsServerPlain}
 use Rattle.conn_core.specs.declared.requests.hearing.Told.{Told as Tells}

@@ -3,10 +3,10 @@ use Rattle.std.proofs.Common.{◌≡◌, ℕ, ◌==◌, true, List, Some, None, 
 use Rattle.spec_wire.specs.declared.messages.header.Header.{Header}
 use Rattle.spec_world.specs.Hearing as hearing
 use Rattle.spec_world.specs.Related.{file_place}
-use Rattle.conn_ends.specs.declared.frame_messages.checked.Checked.{Checked}
-use Rattle.conn_ends.specs.declared.frame_messages.checked.CheckedFrame.{CheckedFrame}
-use Rattle.conn_ends.specs.frame_messages.Checking.{ShowsGoing, IsDenied, message_in}
-use Rattle.conn_ends.proofs.frame_messages.Headers.{one_number}
+use Rattle.conn_core.specs.declared.frame_messages.checked.Checked.{Checked}
+use Rattle.conn_core.specs.declared.frame_messages.checked.CheckedFrame.{CheckedFrame}
+use Rattle.conn_core.specs.frame_messages.Checking.{ShowsGoing, IsDenied, message_in}
+use Rattle.conn_core.proofs.frame_messages.Headers.{one_number}
 use Rattle.conn_core.specs.related.Carrying.{IsCarried}
 use Rattle.conn_core.proofs.related.Inherited.{some_same}
 use Rattle.conn_core.proofs.requests.Found.{none_named}

@@ -35,7 +35,7 @@ use Rattle.spec_commands.specs.CommandOf as requests
 use Rattle.spec_commands.specs.CommandOf.{Told, unless, named_command}
 use Rattle.spec_commands.specs.Ids.{file_of}
 use Rattle.spec_commands.specs.Text.{text_in}
-use Rattle.conn_ends.proofs.frame_messages.Headers.{true_is_not_false}
+use Rattle.conn_core.proofs.frame_messages.Headers.{true_is_not_false}
 use Rattle.spec_world.specs.Given.{has_event}
 use Rattle.conn_core.specs.served.Serving.{IsServerPlain}
 

@@ -10,7 +10,7 @@ use Rattle.spec_exchange.specs.Step.{Says, where_it_fits, event_answer, expire, 
 use Rattle.spec_exchange.specs.Step.{due, step, with_deadlines}
 use Rattle.spec_exchange.specs.Verdict.{Verdict, Refuse}
 use Rattle.spec_world.specs.Logon as logon
-use Rattle.conn_ends.specs.frame_messages.Checking.{IsDenied}
+use Rattle.conn_core.specs.frame_messages.Checking.{IsDenied}
 use Rattle.spec_commands.specs.ReplyBody.{seals_in}
 
 -- ---- the status of a message that is refused, whatever expires in front of it

@@ -8,11 +8,11 @@ use Rattle.spec_world.specs.Hearing as hearing
 use Rattle.spec_world.specs.Related as related
 use Rattle.spec_world.specs.Mishaps.{Mishap, Owned, owning, owned_all, LeaveAll}
 use Rattle.spec_world.specs.Notes.{has_acted}
-use Rattle.conn_ends.specs.declared.end.ConnEnd.{ConnEnd}
-use Rattle.conn_ends.specs.declared.end.ConnEnd.TheVariants.{Memory, Stopped}
-use Rattle.conn_ends.specs.declared.frame_messages.checked.Checked.{Checked}
-use Rattle.conn_ends.specs.declared.frame_messages.checked.CheckedFrame.{CheckedFrame}
-use Rattle.conn_ends.specs.frame_messages.Checking.{ShowsGoing}
+use Rattle.conn_core.specs.declared.end.ConnEnd.{ConnEnd}
+use Rattle.conn_core.specs.declared.end.ConnEnd.TheVariants.{Memory, Stopped}
+use Rattle.conn_core.specs.declared.frame_messages.checked.Checked.{Checked}
+use Rattle.conn_core.specs.declared.frame_messages.checked.CheckedFrame.{CheckedFrame}
+use Rattle.conn_core.specs.frame_messages.Checking.{ShowsGoing}
 use Rattle.conn_core.specs.related.Carrying.{carry_of}
 use Rattle.conn_core.specs.declared.related.related.Carry.{Carry}
 use Rattle.conn_core.specs.served.Replies.{some_acted, some_lacked}

@@ -10,8 +10,8 @@ use Rattle.spec_world.specs.Hearing as hearing
 use Rattle.spec_world.specs.Logon.{answer_token_by, progress, token_in}
 use Rattle.spec_world.specs.Connection.{said_to}
 use Rattle.spec_world.specs.Given.{has_event}
-use Rattle.conn_ends.specs.declared.frame_messages.checked.Checked.{Checked}
-use Rattle.conn_ends.specs.frame_messages.Checking.{ShowsGoing, message_in}
+use Rattle.conn_core.specs.declared.frame_messages.checked.Checked.{Checked}
+use Rattle.conn_core.specs.frame_messages.Checking.{ShowsGoing, message_in}
 use Rattle.conn_core.specs.declared.requests.hearing.Told.{Told}
 use Rattle.conn_core.specs.declared.served.error.ServeError.{ServeError}
 use Rattle.conn_core.specs.declared.served.error.ServeError.TheVariants as errors

@@ -4,10 +4,10 @@ use Rattle.spec_crypto.specs.sessions.Nonces.{NonceState}
 use Rattle.spec_world.specs.Ends as ends
 use Rattle.spec_world.specs.Answering as answering
 use Rattle.conn_core.specs.declared.logon_state.behind.Behind.{Behind}
-use Rattle.conn_ends.specs.declared.conn.Logon.{Logon}
-use Rattle.conn_ends.specs.declared.conn.Progress.{Progress}
-use Rattle.conn_ends.specs.declared.conn.Progress.TheVariants.{Interim}
-use Rattle.conn_ends.specs.Shown.{ShowsGreeting, ShowsMaking, AreKnown}
+use Rattle.conn_core.specs.declared.conn.Logon.{Logon}
+use Rattle.conn_core.specs.declared.conn.Progress.{Progress}
+use Rattle.conn_core.specs.declared.conn.Progress.TheVariants.{Interim}
+use Rattle.conn_core.specs.Shown.{ShowsGreeting, ShowsMaking, AreKnown}
 
 pub record ShowsLogon (l : Logon) (f : ends.ServerEnd) : Type 0 where
   pub greeting : ShowsGreeting l.greeting f.greeting

@@ -5,9 +5,9 @@ use Rattle.spec_world.specs.Settings.{ServerSettings}
 use Rattle.spec_world.specs.Ends.{ServerEnd, Logons}
 use Rattle.spec_world.specs.Connection.{ConnectionStep, connection_step}
 use Rattle.spec_world.specs.Notes as notes
-use Rattle.conn_ends.specs.declared.conn.Conn.{Conn}
-use Rattle.conn_ends.specs.declared.end.ConnEnd.{ConnEnd}
-use Rattle.conn_ends.specs.declared.end.ConnEnd.TheVariants.{Memory, Stopped}
+use Rattle.conn_core.specs.declared.conn.Conn.{Conn}
+use Rattle.conn_core.specs.declared.end.ConnEnd.{ConnEnd}
+use Rattle.conn_core.specs.declared.end.ConnEnd.TheVariants.{Memory, Stopped}
 use Rattle.conn_core.specs.served.Serving.{Showing}
 use Rattle.conn_core.specs.frame_events.Dealing.{taken_records}
 use Rattle.conn_core.specs.reply_frames.Replying.{EndsAs, WalkGoes}

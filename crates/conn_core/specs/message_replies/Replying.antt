@@ -16,21 +16,21 @@ use Rattle.spec_world.specs.Hearing as hearing
 use Rattle.spec_world.specs.Logon as logon
 use Rattle.spec_world.specs.Answering as answering
 use Rattle.spec_world.specs.Connection.{said_failed}
-use Rattle.conn_ends.specs.declared.conn.Conn.{Conn}
-use Rattle.conn_ends.specs.declared.frame_messages.checked.Checked.{Checked}
+use Rattle.conn_core.specs.declared.conn.Conn.{Conn}
+use Rattle.conn_core.specs.declared.frame_messages.checked.Checked.{Checked}
 use Rattle.conn_core.specs.declared.served.serve.Reply.{Reply}
-use Rattle.conn_ends.specs.declared.conn.Progress.{Progress}
-use Rattle.conn_ends.specs.declared.conn.Progress.TheVariants.{Stays, Refused, Interim, Final}
+use Rattle.conn_core.specs.declared.conn.Progress.{Progress}
+use Rattle.conn_core.specs.declared.conn.Progress.TheVariants.{Stays, Refused, Interim, Final}
 use Rattle.conn_core.specs.declared.served.error.ServeError.{ServeError}
 use Rattle.conn_core.specs.declared.served.error.ServeError.TheVariants as errors
-use Rattle.conn_ends.specs.frame_messages.Checking.{ShowsGoing, message_in}
-use Rattle.conn_ends.specs.declared.frame_messages.checked.CheckedFrame.{CheckedFrame}
-use Rattle.conn_ends.specs.declared.negotiating.greeting.Hello.{Hello}
-use Rattle.conn_ends.specs.declared.reply_sealing.said.Said.{Said}
-use Rattle.conn_ends.specs.negotiating.Greeting.{IsHello}
+use Rattle.conn_core.specs.frame_messages.Checking.{ShowsGoing, message_in}
+use Rattle.conn_core.specs.declared.frame_messages.checked.CheckedFrame.{CheckedFrame}
+use Rattle.conn_core.specs.declared.negotiating.greeting.Hello.{Hello}
+use Rattle.conn_core.specs.declared.reply_sealing.said.Said.{Said}
+use Rattle.conn_core.specs.negotiating.Greeting.{IsHello}
 use Rattle.conn_core.specs.related.Carrying.{is_broken}
 use Rattle.conn_core.specs.served.Serving.{IsServerShort}
-use Rattle.conn_ends.specs.reply_sealing.Saying.{AreProgressKeys, IsReplySaid, MovesAs}
+use Rattle.conn_core.specs.reply_sealing.Saying.{AreProgressKeys, IsReplySaid, MovesAs}
 
 -- ---- one reply
 

@@ -9,9 +9,9 @@ use Rattle.spec_commands.specs.Ids.{file_id}
 use Rattle.spec_world.specs.Hearing as hearing
 use Rattle.spec_world.specs.Related as related
 use Rattle.conn_core.specs.declared.related.related.Carry.{Carry}
-use Rattle.conn_ends.specs.declared.frame_messages.checked.Checked.{Checked}
-use Rattle.conn_ends.specs.declared.frame_messages.checked.CheckedFrame.{CheckedFrame}
-use Rattle.conn_ends.specs.frame_messages.Checking.{message_in}
+use Rattle.conn_core.specs.declared.frame_messages.checked.Checked.{Checked}
+use Rattle.conn_core.specs.declared.frame_messages.checked.CheckedFrame.{CheckedFrame}
+use Rattle.conn_core.specs.frame_messages.Checking.{message_in}
 use Rattle.conn_core.specs.served.Serving.{IsNamed}
 use Rattle.conn_core.specs.declared.served.serve.Reply.{Reply}
 use Rattle.conn_core.specs.declared.served.error.ServeError.{ServeError}

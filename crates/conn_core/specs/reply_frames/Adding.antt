@@ -5,15 +5,15 @@ use Rattle.spec_crypto.specs.declared.sessions.material.Keys.{Keys}
 use Rattle.spec_crypto.specs.sessions.Nonces.{NonceState, last_counter}
 use Rattle.spec_world.specs.Ends.{ServerEnd}
 use Rattle.spec_world.specs.Answering as answering
-use Rattle.conn_ends.specs.declared.end.ConnEnd.{ConnEnd}
-use Rattle.conn_ends.specs.declared.end.ConnEnd.TheVariants.{Memory, Spent, Unsealable}
-use Rattle.conn_ends.specs.Shown.{MaySeal}
-use Rattle.conn_ends.specs.declared.frame_messages.checked.Checked.{Checked}
-use Rattle.conn_ends.specs.frame_messages.Checking.{HasMessage, ShowsGoing}
-use Rattle.conn_ends.specs.declared.reply_sealing.frames.Frames.{Frames}
-use Rattle.conn_ends.specs.declared.reply_sealing.said.Said.{Said}
-use Rattle.conn_ends.specs.reply_sealing.Saying.{CanPut, IsReplySaid}
-use Rattle.conn_ends.specs.reply_sealing.Joining.{ReplyAdds, FitsOpen, IsReplyBegun, joins_next}
+use Rattle.conn_core.specs.declared.end.ConnEnd.{ConnEnd}
+use Rattle.conn_core.specs.declared.end.ConnEnd.TheVariants.{Memory, Spent, Unsealable}
+use Rattle.conn_core.specs.Shown.{MaySeal}
+use Rattle.conn_core.specs.declared.frame_messages.checked.Checked.{Checked}
+use Rattle.conn_core.specs.frame_messages.Checking.{HasMessage, ShowsGoing}
+use Rattle.conn_core.specs.declared.reply_sealing.frames.Frames.{Frames}
+use Rattle.conn_core.specs.declared.reply_sealing.said.Said.{Said}
+use Rattle.conn_core.specs.reply_sealing.Saying.{CanPut, IsReplySaid}
+use Rattle.conn_core.specs.reply_sealing.Joining.{ReplyAdds, FitsOpen, IsReplyBegun, joins_next}
 use Rattle.conn_core.specs.declared.message_replies.saying.Answers.{Answers}
 use Rattle.conn_core.specs.message_replies.Replying.{HelloFor, IsSound}
 use Rattle.conn_core.specs.declared.logon_state.behind.Behind.{Behind}

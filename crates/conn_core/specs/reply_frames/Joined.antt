@@ -5,11 +5,11 @@ use Rattle.spec_crypto.specs.declared.sessions.material.Keys.{Keys}
 use Rattle.spec_crypto.specs.sessions.Nonces.{NonceState, last_counter}
 use Rattle.spec_world.specs.Ends.{ServerEnd}
 use Rattle.spec_world.specs.Answering as answering
-use Rattle.conn_ends.specs.declared.end.ConnEnd.{ConnEnd}
-use Rattle.conn_ends.specs.declared.end.ConnEnd.TheVariants.{Memory, Spent, Unsealable}
-use Rattle.conn_ends.specs.Shown.{MaySeal}
-use Rattle.conn_ends.specs.declared.reply_sealing.frames.Frames.{Frames}
-use Rattle.conn_ends.specs.reply_sealing.Joining.{IsWritten, reply_rows}
+use Rattle.conn_core.specs.declared.end.ConnEnd.{ConnEnd}
+use Rattle.conn_core.specs.declared.end.ConnEnd.TheVariants.{Memory, Spent, Unsealable}
+use Rattle.conn_core.specs.Shown.{MaySeal}
+use Rattle.conn_core.specs.declared.reply_sealing.frames.Frames.{Frames}
+use Rattle.conn_core.specs.reply_sealing.Joining.{IsWritten, reply_rows}
 use Rattle.conn_core.specs.declared.logon_state.behind.Behind.{Behind}
 use Rattle.conn_core.specs.logon_state.Behind.{ShowsBehind}
 

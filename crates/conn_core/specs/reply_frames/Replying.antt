@@ -10,14 +10,14 @@ use Rattle.spec_world.specs.Hearing as hearing
 use Rattle.spec_world.specs.Answering as answering
 use Rattle.spec_world.specs.Connection.{ConnectionStep, answered}
 use Rattle.conn_core.specs.declared.served.error.ServeError.{ServeError}
-use Rattle.conn_ends.specs.declared.conn.Conn.{Conn}
-use Rattle.conn_ends.specs.declared.end.ConnEnd.{ConnEnd}
-use Rattle.conn_ends.specs.declared.end.ConnEnd.TheVariants.{Memory}
-use Rattle.conn_ends.specs.Shown.{MaySeal, ShowsEnd, IsEnd}
-use Rattle.conn_ends.specs.declared.frame_messages.checked.CheckedFrame.{CheckedFrame}
-use Rattle.conn_ends.specs.frame_messages.Checking.{GreetsFirst}
+use Rattle.conn_core.specs.declared.conn.Conn.{Conn}
+use Rattle.conn_core.specs.declared.end.ConnEnd.{ConnEnd}
+use Rattle.conn_core.specs.declared.end.ConnEnd.TheVariants.{Memory}
+use Rattle.conn_core.specs.Shown.{MaySeal, ShowsEnd, IsEnd}
+use Rattle.conn_core.specs.declared.frame_messages.checked.CheckedFrame.{CheckedFrame}
+use Rattle.conn_core.specs.frame_messages.Checking.{GreetsFirst}
 use Rattle.conn_core.specs.declared.served.serve.Reply.{Reply}
-use Rattle.conn_ends.specs.reply_sealing.Saying.{all_framed}
+use Rattle.conn_core.specs.reply_sealing.Saying.{all_framed}
 use Rattle.conn_core.specs.message_replies.Replying.{AreAsked, AreMessagesSaid, FailRightly, ShowsTaken}
 use Rattle.conn_core.specs.declared.reply_frames.answering.Answered.{Answered}
 use Rattle.conn_core.specs.reply_frames.Joined.{AreAtMost}

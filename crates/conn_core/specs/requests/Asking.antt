@@ -9,7 +9,7 @@ use Rattle.spec_world.specs.Ends.{ServerEnd, Logons, chosen_on, client_on}
 use Rattle.spec_world.specs.Hearing as hearing
 use Rattle.spec_exchange.specs.Commands.{has_bit}
 use Rattle.wire_commands.specs.declared.values.setup.SetupForm.{SetupForm}
-use Rattle.conn_ends.specs.declared.frame_messages.checked.Checked.{Checked}
+use Rattle.conn_core.specs.declared.frame_messages.checked.Checked.{Checked}
 use Rattle.spec_world.specs.Logon.{full_transcript, token_in, token_shows}
 use Rattle.server_checks.specs.declared.event_heard.event.ServerEvent.{ServerEvent}
 use Rattle.server_checks.specs.declared.event_heard.event.ServerEvent.TheVariants as events

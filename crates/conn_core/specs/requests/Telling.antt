@@ -9,7 +9,7 @@ use Rattle.spec_world.specs.Ends.{ServerEnd, Logons, first_server_end}
 use Rattle.spec_world.specs.Hearing as hearing
 use Rattle.spec_world.specs.Connection.{heard_message}
 use Rattle.spec_world.specs.Logon.{Progress, Stays, Interim, Final, exported, pending_by, token_in}
-use Rattle.conn_ends.specs.declared.frame_messages.checked.Checked.{Checked}
+use Rattle.conn_core.specs.declared.frame_messages.checked.Checked.{Checked}
 use Rattle.conn_core.specs.declared.requests.hearing.Told.{Told}
 
 -- a connection's end of which this is told; nothing else of it is looked at

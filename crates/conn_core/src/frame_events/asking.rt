@@ -4,17 +4,17 @@ ghost use Rattle.spec_exchange.specs.State.{Record, Server};
 ghost use Rattle.spec_world.specs.Settings.{ServerSettings};
 ghost use Rattle.spec_world.specs.Ends.{Logons, ServerEnd};
 ghost use Rattle.spec_world.specs.Hearing as hearing;
-ghost use Rattle.conn_ends.specs.declared.frame_messages.checked.Checked.{Checked};
-ghost use Rattle.conn_ends.specs.frame_messages.Checking.{HasMessage, IsDenied, ShowsGoing};
+ghost use Rattle.conn_core.specs.declared.frame_messages.checked.Checked.{Checked};
+ghost use Rattle.conn_core.specs.frame_messages.Checking.{HasMessage, IsDenied, ShowsGoing};
 ghost use Rattle.conn_core.specs.served.Serving.{Onward};
 ghost use Rattle.conn_core.specs.message_replies.Replying.{has_message_event};
 ghost use Rattle.conn_core.specs.requests.Asking.{IsRequestTold};
 ghost use Rattle.conn_core.specs.frame_events.Dealing.{AreShortIf, GivesFor, stop_in};
 ghost use Rattle.conn_core.specs.frame_events.Telling.{ToldGives};
 
+use crate::frame_messages::CheckedFrame;
 use crate::requests::{Told, event};
 use crate::served::{Reply, Serve, ServeError};
-use conn_ends::CheckedFrame;
 use std::alloc::{AllocError, Global};
 
 /// Gives the server what a message asks of it, by what its connection tells. A message of which nothing is asked has no answer.

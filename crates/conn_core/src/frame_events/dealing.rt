@@ -6,10 +6,10 @@ ghost use Rattle.spec_world.specs.Settings.{ServerSettings};
 ghost use Rattle.spec_world.specs.Ends.{Logons, ServerEnd};
 ghost use Rattle.spec_world.specs.Hearing as hearing;
 ghost use Rattle.conn_core.specs.declared.served.error.ServeError.{ServeError};
-ghost use Rattle.conn_ends.specs.Shown.{ShowsEnd};
-ghost use Rattle.conn_ends.specs.declared.end.ConnEnd.TheVariants as ends;
-ghost use Rattle.conn_ends.specs.declared.frame_messages.checked.Checked.{Checked};
-ghost use Rattle.conn_ends.specs.frame_messages.Checking.{AreInOrder, HasMessage, ShowsFrame, ShowsGoing, message_in};
+ghost use Rattle.conn_core.specs.Shown.{ShowsEnd};
+ghost use Rattle.conn_core.specs.declared.end.ConnEnd.TheVariants as ends;
+ghost use Rattle.conn_core.specs.declared.frame_messages.checked.Checked.{Checked};
+ghost use Rattle.conn_core.specs.frame_messages.Checking.{AreInOrder, HasMessage, ShowsFrame, ShowsGoing, message_in};
 ghost use Rattle.conn_core.specs.related.Carrying.{carry_of};
 ghost use Rattle.conn_core.specs.declared.served.serve.Reply.{Reply};
 ghost use Rattle.conn_core.specs.served.Serving.{Onward};
@@ -18,13 +18,15 @@ ghost use Rattle.conn_core.specs.frame_events.Dealing.{Alone, AreShortIf, Deals,
 ghost use Rattle.conn_core.specs.frame_events.SoFar.{DealtSoFar, SoFarSteps};
 ghost use Rattle.spec_world.specs.Mishaps.{Owned};
 
+use crate::conn::Conn;
+use crate::end::ConnEnd;
 use crate::frame_events::asking::ask;
 use crate::frame_events::handing::{Dealt, goes, hand_on};
+use crate::frame_messages::CheckedFrame;
 use crate::message_replies::has_event;
 use crate::related::Carry;
 use crate::requests::told_of;
 use crate::served::{Reply, Serve, ServeError};
-use conn_ends::{CheckedFrame, Conn, ConnEnd};
 
 /// What the events of a frame are made with.
 #[derive(Clone, Copy, Debug)]

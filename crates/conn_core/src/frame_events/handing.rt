@@ -2,15 +2,16 @@
 ghost use Rattle.std.specs.Prelude.{◌≡◌, ◌≤◌, ◌<◌, ◌||◌, [], false, IfOk, None, Option, length, option_copied, option_map, slice_get, Some, vec_capacity};
 ghost use Rattle.spec_world.specs.Hearing as hearing;
 ghost use Rattle.spec_world.specs.Related.{failed_as, turn_of};
-ghost use Rattle.conn_ends.specs.declared.frame_messages.checked.Checked.{Checked};
-ghost use Rattle.conn_ends.specs.frame_messages.Checking.{AreDenied, AreInOrder, HasMessage, message_in};
+ghost use Rattle.conn_core.specs.declared.frame_messages.checked.Checked.{Checked};
+ghost use Rattle.conn_core.specs.frame_messages.Checking.{AreDenied, AreInOrder, HasMessage, message_in};
 ghost use Rattle.conn_core.specs.related.Carrying.{carry_of, Inherits, IsCarried, SameOthers};
 ghost use Rattle.conn_core.specs.frame_events.Dealing.{AreShortIf, DealsOne, EventAdds, RefusesOne, lost_by, stopped_by};
 ghost use Rattle.conn_core.specs.frame_events.Dealing as dealing;
 
+use crate::end::ConnEnd;
+use crate::frame_messages::{Checked, CheckedFrame};
 use crate::related::{Carry, carry, inherit};
 use crate::served::{Replies, Reply, ServeError};
-use conn_ends::{Checked, CheckedFrame, ConnEnd};
 use std::alloc::{AllocError, Global};
 
 const CANCEL: u16 = 12;

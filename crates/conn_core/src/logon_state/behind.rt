@@ -2,8 +2,10 @@
 ghost use Rattle.std.specs.Prelude.{◌≡◌, ◌++◌, ◌∷◌, ℕ, List, []};
 ghost use Rattle.spec_crypto.specs.sessions.Chain.{chain};
 
+use crate::conn::{Greeting, Logon, Progress};
 use crate::message_replies::Answers;
-use conn_ends::{Greeting, Hello, Logon, Progress, Said};
+use crate::negotiating::Hello;
+use crate::reply_sealing::Said;
 use crypto_sessions::{Chain, chain_law};
 
 const SUCCESS: u32 = 0;
@@ -36,11 +38,11 @@ impl Behind {
     ghost use Rattle.spec_world.specs.Ends.{ServerEnd};
     ghost use Rattle.spec_world.specs.Hearing as hearing;
     ghost use Rattle.spec_world.specs.Answering as answering;
-    ghost use Rattle.conn_ends.specs.declared.frame_messages.checked.Checked.{Checked};
-    ghost use Rattle.conn_ends.specs.frame_messages.Checking.{HasMessage, ShowsGoing};
-    ghost use Rattle.conn_ends.specs.negotiating.Greeting.{IsHello};
+    ghost use Rattle.conn_core.specs.declared.frame_messages.checked.Checked.{Checked};
+    ghost use Rattle.conn_core.specs.frame_messages.Checking.{HasMessage, ShowsGoing};
+    ghost use Rattle.conn_core.specs.negotiating.Greeting.{IsHello};
     ghost use Rattle.conn_core.specs.message_replies.Replying.{GreetsBy, HelloFor, IsSound, SettlesBy};
-    ghost use Rattle.conn_ends.specs.reply_sealing.Saying.{IsReplySaid, MovesAs};
+    ghost use Rattle.conn_core.specs.reply_sealing.Saying.{IsReplySaid, MovesAs};
     ghost use Rattle.conn_core.specs.logon_state.Behind.{IsHashed, ShowsBehind};
 
     /// A SESSION_SETUP's response moves the logon on: an interim one begins anew from NEGOTIATE.

@@ -4,13 +4,14 @@ ghost use Rattle.spec_exchange.specs.State.{Record, Server};
 ghost use Rattle.spec_crypto.specs.sessions.Nonces.{last_counter};
 ghost use Rattle.spec_world.specs.Settings.{ServerSettings};
 ghost use Rattle.spec_world.specs.Ends.{Logons, ServerEnd};
-ghost use Rattle.conn_ends.specs.Shown.{ShowsEnd};
+ghost use Rattle.conn_core.specs.Shown.{ShowsEnd};
 ghost use Rattle.conn_core.specs.served.Serving.{Onward};
 ghost use Rattle.conn_core.specs.lone_server.Own.{TakesOwn, goes_by, is_own_end, is_own_result};
 
+use crate::conn::Conn;
+use crate::end::ConnEnd;
 use crate::served::Serve;
 use crate::{Ended, Taken, take_frame};
-use conn_ends::{Conn, ConnEnd};
 use law_ties::{nothing_befell_law, own_step_law};
 
 /// An end that the connection's own step has: neither memory that ran out nor a server that stopped.

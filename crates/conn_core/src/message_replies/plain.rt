@@ -9,11 +9,13 @@ ghost use Rattle.spec_world.specs.Logon.{unless_faulty};
 ghost use Rattle.spec_world.specs.Hearing as hearing;
 ghost use Rattle.spec_world.specs.Answering as answering;
 ghost use Rattle.spec_world.specs.Connection.{said_failed};
-ghost use Rattle.conn_ends.specs.declared.conn.Progress.TheVariants.{Stays};
-ghost use Rattle.conn_ends.specs.reply_sealing.Saying.{CanPut, IsReplySaid};
+ghost use Rattle.conn_core.specs.declared.conn.Progress.TheVariants.{Stays};
+ghost use Rattle.conn_core.specs.reply_sealing.Saying.{CanPut, IsReplySaid};
 ghost use Rattle.conn_core.specs.message_replies.Replying.{Grants, IsLike, progress_signer};
 
-use conn_ends::{Checked, Conn, Progress, Said};
+use crate::conn::{Conn, Progress};
+use crate::frame_messages::Checked;
+use crate::reply_sealing::Said;
 use spec_crypto::Signer;
 use wire_bytes::Header;
 

@@ -7,20 +7,23 @@ ghost use Rattle.spec_world.specs.Settings.{ServerSettings};
 ghost use Rattle.spec_world.specs.Ends.{ServerEnd};
 ghost use Rattle.spec_world.specs.Hearing as hearing;
 ghost use Rattle.spec_world.specs.Answering as answering;
-ghost use Rattle.conn_ends.specs.declared.frame_messages.checked.Checked.{Checked};
-ghost use Rattle.conn_ends.specs.reply_sealing.Saying.{CanPut, CanPutIf, IsReplySaid};
-ghost use Rattle.conn_ends.specs.negotiating.Greeting.{IsHello, IsShortHello};
+ghost use Rattle.conn_core.specs.declared.frame_messages.checked.Checked.{Checked};
+ghost use Rattle.conn_core.specs.reply_sealing.Saying.{CanPut, CanPutIf, IsReplySaid};
+ghost use Rattle.conn_core.specs.negotiating.Greeting.{IsHello, IsShortHello};
 ghost use Rattle.conn_core.specs.served.Serving.{IsServerShort};
-ghost use Rattle.conn_ends.specs.frame_messages.Checking.{HasMessage};
+ghost use Rattle.conn_core.specs.frame_messages.Checking.{HasMessage};
 ghost use Rattle.conn_core.specs.related.Carrying as carrying;
 ghost use Rattle.conn_core.specs.message_replies.Replying as replying;
 ghost use Rattle.conn_core.specs.message_replies.Replying.{AreMessagesSaid, AreMessagesShort, Grants, HelloFor, IsLike, echo_due, negotiate_due};
 ghost use Rattle.conn_core.specs.message_replies.Replying.{IsSaidTo, IsShortAnswer, MessageKept, SaysNext, said_aside};
 
+use crate::conn::Conn;
+use crate::frame_messages::{Checked, CheckedFrame, is_probe};
 use crate::message_replies::plain::{Named, bare_or_error, own, plain, refusal, signer_of};
+use crate::negotiating::Hello;
 use crate::related::{bare_status, breaks_form};
+use crate::reply_sealing::Said;
 use crate::served::{Replies, Reply, ServeError};
-use conn_ends::{Checked, CheckedFrame, Conn, Hello, Said, is_probe};
 use spec_crypto::Signer;
 
 const SUCCESS: u32 = 0;

@@ -2,13 +2,13 @@
 ghost use Rattle.std.specs.Prelude.{◌≡◌, ◌≤◌, ◌<◌, ◌++◌, None, Some, slice_get, slice_set, option_copied, option_map, length, take, drop};
 ghost use Rattle.spec_world.specs.Hearing as hearing;
 ghost use Rattle.spec_world.specs.Related.{failed_as, turn_of, with_file};
-ghost use Rattle.conn_ends.specs.declared.frame_messages.checked.Checked.{Checked};
-ghost use Rattle.conn_ends.specs.frame_messages.Checking.{AreDenied, AreInOrder, HasMessage, bytes_of, message_in};
+ghost use Rattle.conn_core.specs.declared.frame_messages.checked.Checked.{Checked};
+ghost use Rattle.conn_core.specs.frame_messages.Checking.{AreDenied, AreInOrder, HasMessage, bytes_of, message_in};
 ghost use Rattle.conn_core.specs.related.Carrying.{carry_of, IsCarried, RelatedCarries, Inherits, SameOthers, TakesOver};
 
+use crate::frame_messages::{Checked, CheckedFrame};
 use crate::related::related::{Carry, behind_answer, behind_none, can_follow, put_file};
 use crate::served::{Reply, ServeError};
-use conn_ends::{Checked, CheckedFrame};
 use wire_bytes::Span;
 
 /// What a message and its answer hand on to a related one (MS-SMB2 3.3.5.2.7.2). `before` is what the message in front

@@ -8,8 +8,8 @@ ghost use Rattle.spec_world.specs.Related as related;
 ghost use Rattle.conn_core.specs.related.Carrying as carrying;
 ghost use Rattle.conn_core.specs.related.Carrying.{carry_of, file_told, handed_before, follows, status_before, IsCarried, RelatedCarries};
 
+use crate::frame_messages::Checked;
 use crate::served::{Reply, ServeError};
-use conn_ends::Checked;
 use spec_wire::MessageError;
 use wire_bytes::FixedOut;
 use wire_messages::read_echo_request;

@@ -6,19 +6,23 @@ ghost use Rattle.spec_world.specs.Settings.{ServerSettings};
 ghost use Rattle.spec_world.specs.Ends.{ServerEnd, Logons};
 ghost use Rattle.spec_world.specs.Hearing as hearing;
 ghost use Rattle.spec_world.specs.Answering as answering;
-ghost use Rattle.conn_ends.specs.Shown.{ShowsEnd};
-ghost use Rattle.conn_ends.specs.frame_messages.Checking.{AllHaveMessages};
-ghost use Rattle.conn_ends.specs.negotiating.Greeting.{IsShortHello};
+ghost use Rattle.conn_core.specs.Shown.{ShowsEnd};
+ghost use Rattle.conn_core.specs.frame_messages.Checking.{AllHaveMessages};
+ghost use Rattle.conn_core.specs.negotiating.Greeting.{IsShortHello};
 ghost use Rattle.conn_core.specs.message_replies.Replying.{AreMessagesShort, HelloOf};
 ghost use Rattle.conn_core.specs.logon_state.Behind.{NoncesBehind};
 ghost use Rattle.conn_core.specs.reply_frames.Replying.{AnswersWith, AreAnswers, WalkReplies as RepliesBy, walk_replied};
 
+use crate::conn::Conn;
+use crate::end::ConnEnd;
+use crate::frame_messages::CheckedFrame;
 use crate::logon_state::Behind;
 use crate::message_replies::Answers;
+use crate::negotiating::Hello;
 use crate::reply_frames::adding::{Joining, add_all};
 use crate::reply_frames::room::{hello_for, room_for};
+use crate::reply_sealing::Frames;
 use crate::served::Replies;
-use conn_ends::{CheckedFrame, Conn, ConnEnd, Frames, Hello};
 use crypto_sessions::Nonces;
 use wire_bytes::Bytes;
 

@@ -2,16 +2,18 @@
 ghost use Rattle.std.specs.Prelude.{◌≡◌, ◌≤◌, ℕ, List, [], true, Some, Ok, IfOk, length, slice_get};
 ghost use Rattle.spec_world.specs.Ends.{ServerEnd};
 ghost use Rattle.spec_world.specs.Hearing as hearing;
-ghost use Rattle.conn_ends.specs.Shown.{ShowsEnd};
-ghost use Rattle.conn_ends.specs.declared.frame_messages.checked.Checked.{Checked};
-ghost use Rattle.conn_ends.specs.frame_messages.Checking.{AllHaveMessages, HasMessage, message_in};
-ghost use Rattle.conn_ends.specs.negotiating.Greeting.{IsHello, IsShortHello};
+ghost use Rattle.conn_core.specs.Shown.{ShowsEnd};
+ghost use Rattle.conn_core.specs.declared.frame_messages.checked.Checked.{Checked};
+ghost use Rattle.conn_core.specs.frame_messages.Checking.{AllHaveMessages, HasMessage, message_in};
+ghost use Rattle.conn_core.specs.negotiating.Greeting.{IsHello, IsShortHello};
 ghost use Rattle.conn_core.specs.served.Replies.{some_lacked};
 ghost use Rattle.conn_core.specs.message_replies.Replying.{HelloOf, ShowsTaken};
 ghost use Rattle.conn_core.specs.reply_frames.Walking.{first_greets};
 
+use crate::conn::Conn;
+use crate::frame_messages::CheckedFrame;
 use crate::message_replies::Answers;
-use conn_ends::{CheckedFrame, Conn, Greeter, Hello, hello_to};
+use crate::negotiating::{Greeter, Hello, hello_to};
 use std::alloc::AllocError;
 use std::mem;
 

@@ -1,7 +1,8 @@
 //! The server as its connections see it.
+use crate::conn::Progress;
+use crate::frame_messages::Checked;
 use crate::served::error::ServeError;
 use base_outside::Standing;
-use conn_ends::{Checked, Progress};
 use server_checks::ServerEvent;
 use std::alloc::{AllocError, Global};
 use wire_bytes::Bytes;

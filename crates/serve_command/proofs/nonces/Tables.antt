@@ -20,8 +20,8 @@ use Rattle.law_nonces.proofs.negotiation.Going.{heard_is}
 use Rattle.law_nonces.proofs.server_nonces.Going.{heard_session}
 use Rattle.law_nonces.proofs.server_nonces.Telling.{one_grown}
 use Rattle.server_checks.specs.declared.event_heard.event.ServerEvent.TheVariants as events
-use Rattle.conn_ends.specs.declared.frame_messages.checked.Checked.{Checked}
-use Rattle.conn_ends.specs.frame_messages.Checking.{IsDenied, message_in}
+use Rattle.conn_core.specs.declared.frame_messages.checked.Checked.{Checked}
+use Rattle.conn_core.specs.frame_messages.Checking.{IsDenied, message_in}
 use Rattle.conn_core.specs.declared.requests.hearing.Told.{Told}
 use Rattle.conn_core.specs.declared.served.error.ServeError.{ServeError}
 use Rattle.conn_core.specs.declared.served.error.ServeError.TheVariants as errors

@@ -23,8 +23,8 @@ use Rattle.law_nonces.specs.event_nonces.Events.{DrawsAlong}
 use Rattle.law_nonces.specs.server_nonces.Numbering.{DrawsOn, IsKeyed, key_sessions, next_drawn}
 use Rattle.law_nonces.proofs.event_nonces.Seals.{RepliesFrom, ReplyFrom}
 use Rattle.law_nonces.proofs.server_nonces.Going.{IsAt, drawn_at as drawn_same, draws_at, heard_session, said_at}
-use Rattle.conn_ends.specs.declared.frame_messages.checked.Checked as code
-use Rattle.conn_ends.specs.frame_messages.Checking.{message_in}
+use Rattle.conn_core.specs.declared.frame_messages.checked.Checked as code
+use Rattle.conn_core.specs.frame_messages.Checking.{message_in}
 use Rattle.conn_core.specs.declared.served.error.ServeError.TheVariants as errors
 use Rattle.conn_core.specs.frame_events.Dealing.{EventAnswer}
 use Rattle.conn_core.specs.frame_events.Shared.{asked_all, asked_in, asks_it}

@@ -5,9 +5,9 @@ use Rattle.std.specs.Prelude.{◌==◌, ◌&&◌, ◌||◌, not, Result, None, S
 use Rattle.std.proofs.lemmas.Grind.{common_steps}
 use Rattle.std.proofs.lemmas.List.{append-nil, take_all, take_rest, take-append-drop}
 use Rattle.std.proofs.Math.Seq.{take-add}
-use Rattle.conn_ends.specs.Shown.{IsFrontEnd}
-use Rattle.conn_ends.specs.declared.end.ConnEnd.{ConnEnd}
-use Rattle.conn_ends.specs.declared.end.ConnEnd.TheVariants.{LinkFault, Memory}
+use Rattle.conn_core.specs.Shown.{IsFrontEnd}
+use Rattle.conn_core.specs.declared.end.ConnEnd.{ConnEnd}
+use Rattle.conn_core.specs.declared.end.ConnEnd.TheVariants.{LinkFault, Memory}
 use Rattle.serve_turns.specs.connection_turns.Passing.{Feeds, HasWritten, NextFrame, PutFails}
 use Rattle.serve_turns.specs.link_serving.Passage.{Passed}
 use Rattle.wire_bytes.specs.frames.Next.{FrameNextAnswers}

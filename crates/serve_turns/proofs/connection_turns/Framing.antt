@@ -15,12 +15,12 @@ use Rattle.spec_world.specs.Given.{GivenStep, dealt_step, given_of}
 use Rattle.spec_world.specs.Hearing as hearing
 use Rattle.spec_world.specs.Hearing.{Frame, FrameText, check_frame, checked_text}
 use Rattle.spec_world.specs.Settings.{ServerSettings}
-use Rattle.conn_ends.specs.Shown.{MaySeal, ShowsEnd}
-use Rattle.conn_ends.specs.declared.conn.Conn.{Conn}
-use Rattle.conn_ends.specs.declared.end.ConnEnd.{ConnEnd}
-use Rattle.conn_ends.specs.declared.end.ConnEnd.TheVariants as ends
-use Rattle.conn_ends.specs.declared.frame_messages.checked.CheckedFrame.{CheckedFrame}
-use Rattle.conn_ends.specs.frame_messages.Checking.{CheckGoesOn, EndsAll, GreetsFirst, ShowsFrame}
+use Rattle.conn_core.specs.Shown.{MaySeal, ShowsEnd}
+use Rattle.conn_core.specs.declared.conn.Conn.{Conn}
+use Rattle.conn_core.specs.declared.end.ConnEnd.{ConnEnd}
+use Rattle.conn_core.specs.declared.end.ConnEnd.TheVariants as ends
+use Rattle.conn_core.specs.declared.frame_messages.checked.CheckedFrame.{CheckedFrame}
+use Rattle.conn_core.specs.frame_messages.Checking.{CheckGoesOn, EndsAll, GreetsFirst, ShowsFrame}
 use Rattle.conn_core.specs.declared.frame_events.handing.Dealt.{Dealt}
 use Rattle.conn_core.specs.frame_events.Dealing.{Alone, GoesThrough}
 use Rattle.conn_core.specs.frame_events.Shared.{asked_all, first_dealt}

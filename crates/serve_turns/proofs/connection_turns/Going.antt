@@ -9,9 +9,9 @@ use Rattle.spec_world.specs.Answering.{Seal}
 use Rattle.spec_world.specs.Ends as world
 use Rattle.spec_world.specs.Ends.{ServerEnd}
 use Rattle.spec_world.specs.Settings.{ServerSettings}
-use Rattle.conn_ends.specs.Shown.{ShowsEnd}
-use Rattle.conn_ends.specs.declared.end.ConnEnd.{ConnEnd}
-use Rattle.conn_ends.specs.declared.end.ConnEnd.TheVariants as ends
+use Rattle.conn_core.specs.Shown.{ShowsEnd}
+use Rattle.conn_core.specs.declared.end.ConnEnd.{ConnEnd}
+use Rattle.conn_core.specs.declared.end.ConnEnd.TheVariants as ends
 use Rattle.conn_core.specs.reply_frames.Replying.{EndsAs}
 use Rattle.serve_turns.specs.connection_turns.Frames.{Answers, AnswersAll, StopsFrame}
 use Rattle.serve_turns.specs.connection_turns.Passing.{CannotRead, FramesGo, FramesStop, HasFailedReading, HasFailedWriting, StopsBy}

@@ -7,9 +7,9 @@ use Rattle.spec_wire.specs.messages.Frames.{Waits, Whole, front}
 use Rattle.spec_world.specs.Answering.{Seal}
 use Rattle.spec_world.specs.Ends.{ServerEnd}
 use Rattle.spec_world.specs.Settings.{ServerSettings}
-use Rattle.conn_ends.specs.Shown.{ShowsEnd}
-use Rattle.conn_ends.specs.declared.end.ConnEnd.{ConnEnd}
-use Rattle.conn_ends.specs.declared.end.ConnEnd.TheVariants.{Memory}
+use Rattle.conn_core.specs.Shown.{ShowsEnd}
+use Rattle.conn_core.specs.declared.end.ConnEnd.{ConnEnd}
+use Rattle.conn_core.specs.declared.end.ConnEnd.TheVariants.{Memory}
 use Rattle.serve_turns.specs.connection_turns.Passing.{CannotRead, Feeds, FrameTaken, FramesGo, FramesStop, GoesOn}
 use Rattle.serve_turns.specs.connection_turns.Passing.{NextFrame, Puts, Stops, TakesAll}
 use Rattle.serve_turns.specs.link_serving.Passage.{Passed}

@@ -19,11 +19,11 @@ use Rattle.spec_world.specs.Hearing as hearing
 use Rattle.spec_world.specs.Related as related
 use Rattle.spec_world.specs.Related.{Fails, Goes, failed_as, turn_of}
 use Rattle.spec_world.specs.Settings.{ServerSettings}
-use Rattle.conn_ends.specs.declared.end.ConnEnd.{ConnEnd}
-use Rattle.conn_ends.specs.declared.end.ConnEnd.TheVariants as ends
-use Rattle.conn_ends.specs.declared.frame_messages.checked.Checked.{Checked}
-use Rattle.conn_ends.specs.declared.frame_messages.checked.CheckedFrame.{CheckedFrame}
-use Rattle.conn_ends.specs.frame_messages.Checking.{ShowsGoing, message_in}
+use Rattle.conn_core.specs.declared.end.ConnEnd.{ConnEnd}
+use Rattle.conn_core.specs.declared.end.ConnEnd.TheVariants as ends
+use Rattle.conn_core.specs.declared.frame_messages.checked.Checked.{Checked}
+use Rattle.conn_core.specs.declared.frame_messages.checked.CheckedFrame.{CheckedFrame}
+use Rattle.conn_core.specs.frame_messages.Checking.{ShowsGoing, message_in}
 use Rattle.conn_core.specs.declared.frame_events.handing.Dealt.{Dealt}
 use Rattle.conn_core.specs.declared.related.related.Carry.{Carry}
 use Rattle.conn_core.specs.declared.requests.hearing.Told.{Told}

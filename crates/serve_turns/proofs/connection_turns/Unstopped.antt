@@ -11,8 +11,8 @@ use Rattle.conn_core.specs.declared.served.error.ServeError.TheVariants as error
 use Rattle.conn_core.specs.declared.served.serve.Reply.{Reply}
 use Rattle.conn_core.specs.served.Serving.{ServerServes}
 use Rattle.server_checks.specs.declared.event_heard.event.ServerEvent.TheVariants as events
-use Rattle.conn_ends.specs.declared.frame_messages.checked.Checked as code
-use Rattle.conn_ends.specs.frame_messages.Checking.{message_in}
+use Rattle.conn_core.specs.declared.frame_messages.checked.Checked as code
+use Rattle.conn_core.specs.frame_messages.Checking.{message_in}
 use Rattle.spec_exchange.specs.State as model
 use Rattle.spec_exchange.specs.Table.{is_filled}
 use Rattle.spec_world.specs.Ends.{ConnEnd, Logons, ServerEnd, Stopped}

@@ -11,8 +11,8 @@ use Rattle.spec_world.specs.Ends.{Logons, ServerEnd, first_server_end}
 use Rattle.spec_world.specs.Given.{Given}
 use Rattle.spec_world.specs.Settings.{ServerSettings}
 use Rattle.conn_core.specs.frame_events.Dealing.{EventAnswer}
-use Rattle.conn_ends.specs.Shown.{ShowsEnd}
-use Rattle.conn_ends.specs.declared.end.ConnEnd.{ConnEnd}
+use Rattle.conn_core.specs.Shown.{ShowsEnd}
+use Rattle.conn_core.specs.declared.end.ConnEnd.{ConnEnd}
 use Rattle.serve_turns.specs.connection_turns.Due.{AnswerIsDue, IsAnswerDue, IsTakenIn, IsUnderWay}
 use Rattle.serve_turns.specs.connection_turns.Frames.{Answers, AnswersAll, AreGiven}
 use Rattle.serve_turns.specs.connection_turns.Passing.{FrameTaken, FramesGo, GoesOn, NextFrame, Stops}

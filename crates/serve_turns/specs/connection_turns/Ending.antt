@@ -2,8 +2,8 @@
 use Rattle.std.specs.Prelude.{◌==◌, if◌then◌else◌, Bool, true, false, Option, None, Some, Ok, Err}
 use Rattle.conn_core.specs.declared.served.error.ServeError.TheVariants as errors
 use Rattle.conn_core.specs.frame_events.Dealing.{EventAnswer}
-use Rattle.conn_ends.specs.declared.end.ConnEnd.{ConnEnd}
-use Rattle.conn_ends.specs.declared.end.ConnEnd.TheVariants as ends
+use Rattle.conn_core.specs.declared.end.ConnEnd.{ConnEnd}
+use Rattle.conn_core.specs.declared.end.ConnEnd.TheVariants as ends
 use Rattle.serve_turns.specs.declared.link_serving.ended.ConnEnd as told
 use Rattle.serve_turns.specs.declared.link_serving.ended.ConnEnd.TheVariants as tells
 use Rattle.serve_turns.specs.declared.link_serving.ended.Ended.{Ended}

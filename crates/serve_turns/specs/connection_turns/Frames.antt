@@ -8,11 +8,11 @@ use Rattle.spec_world.specs.Ends.{ServerEnd, Logons}
 use Rattle.spec_world.specs.Given.{Given, GivenStep, given_step}
 use Rattle.spec_world.specs.Hearing.{Checked, Frame, check_frame}
 use Rattle.spec_world.specs.Settings.{ServerSettings}
-use Rattle.conn_ends.specs.declared.end.ConnEnd.{ConnEnd}
-use Rattle.conn_ends.specs.declared.end.ConnEnd.TheVariants as ends
-use Rattle.conn_ends.specs.declared.frame_messages.checked.Checked as code
-use Rattle.conn_ends.specs.frame_messages.Checking.{ShowsGoing}
-use Rattle.conn_ends.specs.reply_sealing.Saying.{all_framed}
+use Rattle.conn_core.specs.declared.end.ConnEnd.{ConnEnd}
+use Rattle.conn_core.specs.declared.end.ConnEnd.TheVariants as ends
+use Rattle.conn_core.specs.declared.frame_messages.checked.Checked as code
+use Rattle.conn_core.specs.frame_messages.Checking.{ShowsGoing}
+use Rattle.conn_core.specs.reply_sealing.Saying.{all_framed}
 use Rattle.conn_core.specs.frame_events.Shared.{asked_all, first_dealt}
 use Rattle.conn_core.specs.reply_frames.Replying.{EndsAs}
 use Rattle.conn_core.specs.requests.Asking.{IsRequestTold}

@@ -9,13 +9,13 @@ use Rattle.spec_world.specs.Given.{Given, is_past_setups}
 use Rattle.spec_world.specs.Hearing as hearing
 use Rattle.spec_world.specs.Related as related
 use Rattle.spec_world.specs.Settings.{ServerSettings}
-use Rattle.conn_ends.specs.Shown.{ShowsEnd}
-use Rattle.conn_ends.specs.declared.conn.Conn.{Conn}
-use Rattle.conn_ends.specs.declared.end.ConnEnd.{ConnEnd}
-use Rattle.conn_ends.specs.declared.end.ConnEnd.TheVariants.{Memory, Stopped}
-use Rattle.conn_ends.specs.declared.frame_messages.checked.Checked.{Checked}
-use Rattle.conn_ends.specs.declared.frame_messages.checked.CheckedFrame.{CheckedFrame}
-use Rattle.conn_ends.specs.frame_messages.Checking.{ShowsFrame, ShowsGoing, message_in}
+use Rattle.conn_core.specs.Shown.{ShowsEnd}
+use Rattle.conn_core.specs.declared.conn.Conn.{Conn}
+use Rattle.conn_core.specs.declared.end.ConnEnd.{ConnEnd}
+use Rattle.conn_core.specs.declared.end.ConnEnd.TheVariants.{Memory, Stopped}
+use Rattle.conn_core.specs.declared.frame_messages.checked.Checked.{Checked}
+use Rattle.conn_core.specs.declared.frame_messages.checked.CheckedFrame.{CheckedFrame}
+use Rattle.conn_core.specs.frame_messages.Checking.{ShowsFrame, ShowsGoing, message_in}
 use Rattle.conn_core.specs.declared.frame_events.handing.Dealt.{Dealt}
 use Rattle.conn_core.specs.declared.requests.hearing.Told.{Told}
 use Rattle.conn_core.specs.declared.related.related.Carry.{Carry}

@@ -7,9 +7,9 @@ use Rattle.spec_wire.specs.declared.messages.refusal.FrameError.{FrameError}
 use Rattle.spec_world.specs.Answering.{Seal}
 use Rattle.spec_world.specs.Ends.{ServerEnd}
 use Rattle.spec_world.specs.Settings.{ServerSettings}
-use Rattle.conn_ends.specs.Shown.{ShowsEnd}
-use Rattle.conn_ends.specs.declared.end.ConnEnd.{ConnEnd}
-use Rattle.conn_ends.specs.declared.end.ConnEnd.TheVariants.{BadFrame, LinkFault, Memory}
+use Rattle.conn_core.specs.Shown.{ShowsEnd}
+use Rattle.conn_core.specs.declared.end.ConnEnd.{ConnEnd}
+use Rattle.conn_core.specs.declared.end.ConnEnd.TheVariants.{BadFrame, LinkFault, Memory}
 use Rattle.serve_turns.specs.connection_turns.Frames.{Answers, AnswersAll, EndsFrame, LacksFrame, StopsFrame}
 use Rattle.serve_turns.specs.declared.connection_turns.state.ConnectionState.{ConnectionState}
 use Rattle.serve_turns.specs.declared.event_book.turn.Answer.{Answer}

@@ -3,9 +3,9 @@ use Rattle.std.specs.Prelude.{◌≡◌, ℕ, Bool, true, false, List, [], ◌�
 use Rattle.spec_world.specs.Answering.{Seal}
 use Rattle.spec_world.specs.Ends.{first_server_end}
 use Rattle.spec_world.specs.Settings.{ServerSettings}
-use Rattle.conn_ends.specs.Shown.{ShowsEnd}
-use Rattle.conn_ends.specs.declared.end.ConnEnd.{ConnEnd}
-use Rattle.conn_ends.specs.declared.end.ConnEnd.TheVariants.{Memory}
+use Rattle.conn_core.specs.Shown.{ShowsEnd}
+use Rattle.conn_core.specs.declared.end.ConnEnd.{ConnEnd}
+use Rattle.conn_core.specs.declared.end.ConnEnd.TheVariants.{Memory}
 use Rattle.serve_turns.specs.connection_turns.Ending.{ended_by, ended_of, has_lost, refusal_of}
 use Rattle.serve_turns.specs.connection_turns.Passing.{FramesStop, Stops}
 use Rattle.conn_core.specs.frame_events.Dealing.{EventAnswer}

@@ -1,8 +1,8 @@
 -- Whether a frame has a message at a place that asks something of the server, as a test.
 use Rattle.std.specs.Prelude.{ℕ, ◌+◌, ◌==◌, nat_le, Bool, true, false, ◌&&◌, length, slice_get, Option, Some, None}
 use Rattle.conn_core.specs.message_replies.Replying.{has_message_event}
-use Rattle.conn_ends.specs.declared.frame_messages.checked.Checked.{Checked}
-use Rattle.conn_ends.specs.declared.frame_messages.checked.CheckedFrame.{CheckedFrame}
+use Rattle.conn_core.specs.declared.frame_messages.checked.Checked.{Checked}
+use Rattle.conn_core.specs.declared.frame_messages.checked.CheckedFrame.{CheckedFrame}
 
 -- with its header's room, inside the frame's bytes
 abbrev pub is_inside : Checked → ℕ → Bool

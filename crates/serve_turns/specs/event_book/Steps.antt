@@ -6,8 +6,8 @@ use Rattle.spec_world.specs.Ends.{Logons}
 use Rattle.spec_world.specs.Settings.{ServerSettings}
 use Rattle.server_checks.specs.declared.event_heard.event.ServerEvent.{ServerEvent}
 use Rattle.server_checks.specs.declared.event_heard.event.ServerEvent.TheVariants as events
-use Rattle.conn_ends.specs.declared.frame_messages.checked.Checked.{Checked}
-use Rattle.conn_ends.specs.declared.frame_messages.checked.CheckedFrame.{CheckedFrame}
+use Rattle.conn_core.specs.declared.frame_messages.checked.Checked.{Checked}
+use Rattle.conn_core.specs.declared.frame_messages.checked.CheckedFrame.{CheckedFrame}
 use Rattle.conn_core.specs.declared.requests.hearing.Told.{Told}
 use Rattle.conn_core.specs.frame_events.Dealing.{AreShortIf, EventAnswer, stop_in}
 use Rattle.conn_core.specs.frame_events.Telling.{ToldGives}

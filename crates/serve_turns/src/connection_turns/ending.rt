@@ -3,8 +3,7 @@ ghost use Rattle.std.specs.Prelude.{◌≡◌};
 ghost use Rattle.serve_turns.specs.connection_turns.Ending.{ended_by, ended_of, failure_of, has_lost, is_stop, refusal_of, stops_behind, told_end};
 
 use crate::link_serving::Ended;
-use conn_core::{Reply, ServeError};
-use conn_ends::ConnEnd;
+use conn_core::{ConnEnd, Reply, ServeError};
 
 /// STATUS_SUCCESS (MS-ERREF 2.3.1)
 const SUCCESS: u32 = 0;

@@ -1,7 +1,7 @@
 //! The messages of a checked frame, one after the other: each that asks something of the server in a turn of its own.
 ghost use Rattle.std.specs.Prelude.{◌≡◌, ◌≤◌, ◌<◌, ◌+◌, ◌==◌, ◌&&◌, [], false, true, length, option_map, vec_capacity};
 ghost use Rattle.spec_world.specs.Given.{is_past_setups};
-ghost use Rattle.conn_ends.specs.frame_messages.Checking.{AreDenied, AreInOrder, HasMessage};
+ghost use Rattle.conn_core.specs.frame_messages.Checking.{AreDenied, AreInOrder, HasMessage};
 ghost use Rattle.conn_core.specs.frame_events.Dealing.{AreShortIf};
 ghost use Rattle.conn_core.specs.message_replies.Replying.{AreMessagesShort, has_message_event};
 ghost use Rattle.conn_core.specs.related.Carrying.{carry_of};
@@ -16,9 +16,9 @@ use crate::event_book::{Asks, EventBook};
 use crate::shared_book::{BookSeat, SharedBook};
 use base_outside::Clock;
 use conn_core::{
-    Carry, Dealt, Reply, Serve, ServeError, Told, goes, hand_on, has_event, refuse, told_of,
+    Carry, Checked, CheckedFrame, ConnEnd, Dealt, Reply, Serve, ServeError, Told, goes, hand_on,
+    has_event, refuse, told_of,
 };
-use conn_ends::{Checked, CheckedFrame, ConnEnd};
 use rand_core::Rng;
 use std::alloc::Global;
 use std::mem;

@@ -4,8 +4,7 @@
 ghost use Rattle.std.specs.Prelude.{◌≤◌, length};
 
 use base_outside::{News, SentName};
-use conn_core::{Replies, Reply, ServeError, has_event};
-use conn_ends::{Checked, CheckedFrame};
+use conn_core::{Checked, CheckedFrame, Replies, Reply, ServeError, has_event};
 use wire_bytes::{u16_at, u32_at};
 
 const SESSION_SETUP: u16 = 1;

@@ -8,8 +8,7 @@ ghost use Rattle.serve_turns.specs.event_book.Steps.{EventSteps};
 use crate::event_book::EventBook;
 use crate::shared_book::{BookSeat, SharedBook};
 use base_outside::Link;
-use conn_core::Serve;
-use conn_ends::ConnEnd;
+use conn_core::{ConnEnd, Serve};
 use std::snapshot::Snapshot;
 use wire_bytes::Bytes;
 

@@ -1,6 +1,6 @@
 //! What a thread knows of the connection that it serves.
 use base_outside::{News, Standing};
-use conn_ends::Conn;
+use conn_core::Conn;
 
 /// A connection's end, and how many SESSION_SETUPs of it had an event. For its link alone are what it has at the server behind its last
 /// event, and what the frame brought that was taken last: none where the server heard nothing of that frame.

@@ -6,8 +6,7 @@ use crate::connection_turns::connections::Connections;
 use crate::event_book::{Answer, Asks, EventBook, Turn, What};
 use crate::shared_book::{BookSeat, SharedBook};
 use base_outside::{Clock, Standing};
-use conn_core::{Reply, Serve, ServeError};
-use conn_ends::CheckedFrame;
+use conn_core::{CheckedFrame, Reply, Serve, ServeError};
 use rand_core::Rng;
 use std::sync::Wait;
 

@@ -4,8 +4,7 @@ ghost use Rattle.serve_turns.specs.event_book.Steps.{EventSteps};
 use crate::event_book::turn::{Answer, Asks, Turn, What};
 use crate::shared_book::Book;
 use base_outside::Standing;
-use conn_core::{Reply, Serve, ServeError, Told, ask};
-use conn_ends::CheckedFrame;
+use conn_core::{CheckedFrame, Reply, Serve, ServeError, Told, ask};
 use server_checks::ServerEvent;
 use std::alloc::Global;
 

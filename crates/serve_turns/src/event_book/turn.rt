@@ -3,8 +3,7 @@ ghost use Rattle.std.specs.Prelude.{◌≡◌, true};
 ghost use Rattle.serve_turns.specs.event_book.Places.{is_asked};
 
 use base_outside::Standing;
-use conn_core::{Reply, ServeError, Told};
-use conn_ends::CheckedFrame;
+use conn_core::{CheckedFrame, Reply, ServeError, Told};
 
 /// A message of a checked frame, which asks something of the server, and what its connection tells of it. The frame is moved in, so that
 /// none of its bytes is copied.

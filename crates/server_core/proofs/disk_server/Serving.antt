@@ -9,8 +9,8 @@ use Rattle.spec_commands.specs.ReplyBody.{reply_body, seals_in}
 use Rattle.wire_commands.specs.values.Meaning.{body_of, command_of, message_of, reply_of}
 use Rattle.wire_commands.specs.declared.values.command.Command.{Command}
 use Rattle.wire_commands.specs.declared.values.request.Message.{Message}
-use Rattle.conn_ends.specs.declared.conn.Progress.{Progress}
-use Rattle.conn_ends.specs.declared.conn.Progress.TheVariants as goes
+use Rattle.conn_core.specs.declared.conn.Progress.{Progress}
+use Rattle.conn_core.specs.declared.conn.Progress.TheVariants as goes
 use Rattle.conn_core.specs.served.Serving.{Halts, IsNamed, IsServerPlain, IsProgress, IsServerServed, IsServerShort}
 use Rattle.conn_core.specs.served.Serving.{RefusesBy, has_own_signature, refusal_due}
 use Rattle.conn_core.specs.served.Serving.{ServerLacks, ServerLoses, ServerReplies, ServerServes, Showing}
@@ -26,7 +26,7 @@ use Rattle.spec_exchange.specs.Step.{step, without_room}
 use Rattle.spec_exchange.specs.Verdict.{Verdict, Refuse}
 use Rattle.law_server.proofs.tables.Doors.{Finds, by_verdict, recorded}
 use Rattle.spec_exchange.specs.Effects.{apply}
-use Rattle.conn_ends.specs.frame_messages.Checking.{IsDenied}
+use Rattle.conn_core.specs.frame_messages.Checking.{IsDenied}
 use Rattle.server_checks.specs.event_heard.Heard.{heard_event, without_token}
 use Rattle.server_checks.specs.declared.event_heard.event.ServerEvent.{ServerEvent}
 use Rattle.server_checks.specs.declared.event_heard.event.ServerEvent.TheVariants as events

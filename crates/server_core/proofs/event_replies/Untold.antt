@@ -7,8 +7,8 @@ use Rattle.wire_commands.specs.declared.values.command.Command.{Command}
 use Rattle.wire_commands.specs.writing.Writing.{IsBodyRefused}
 use Rattle.wire_commands.specs.declared.writing.fault.WriteError.{WriteError}
 use Rattle.wire_commands.specs.declared.writing.fault.WriteError.TheVariants.{Memory, Unwritable}
-use Rattle.conn_ends.specs.declared.conn.Progress.{Progress}
-use Rattle.conn_ends.specs.declared.conn.Progress.TheVariants.{Stays, Refused, Interim, Final}
+use Rattle.conn_core.specs.declared.conn.Progress.{Progress}
+use Rattle.conn_core.specs.declared.conn.Progress.TheVariants.{Stays, Refused, Interim, Final}
 use Rattle.server_effects.specs.declared.answering.Answer.{Answer}
 use Rattle.spec_crypto.specs.declared.sessions.material.Keys.{Keys}
 use Rattle.spec_crypto.specs.declared.sessions.material.Signer.{Signer}

@@ -9,8 +9,8 @@ use Rattle.wire_commands.specs.values.Meaning.{body_of, command_of, reply_of}
 use Rattle.wire_commands.specs.declared.values.command.Command.{Command}
 use Rattle.wire_commands.specs.declared.writing.fault.WriteError.{WriteError}
 use Rattle.wire_commands.specs.declared.writing.fault.WriteError.TheVariants.{Memory, Unwritable}
-use Rattle.conn_ends.specs.declared.conn.Progress.{Progress}
-use Rattle.conn_ends.specs.declared.conn.Progress.TheVariants.{Stays, Refused, Interim, Final}
+use Rattle.conn_core.specs.declared.conn.Progress.{Progress}
+use Rattle.conn_core.specs.declared.conn.Progress.TheVariants.{Stays, Refused, Interim, Final}
 use Rattle.conn_core.specs.served.Serving.{IsNamed, IsServerShort, ServerStands}
 use Rattle.conn_core.specs.declared.served.serve.Reply.{Reply}
 use Rattle.server_effects.specs.declared.answering.Answer.{Answer}

@@ -2,11 +2,11 @@
 ghost use Rattle.std.specs.Prelude.{◌≡◌, ◌==◌, if◌then◌else◌, MatchOption, None, Some};
 ghost use Rattle.server_core.specs.event_replies.Told.{FinalTold, InterimTold, NoneTold, ProgressTold, lacks_own, refused_live, refused_progress};
 ghost use Rattle.spec_exchange.specs.Status.{user_session_deleted};
-ghost use Rattle.conn_ends.specs.declared.conn.Progress.TheVariants.{Refused};
+ghost use Rattle.conn_core.specs.declared.conn.Progress.TheVariants.{Refused};
 ghost use Rattle.wire_commands.specs.values.Meaning.{body_of};
 ghost use Rattle.spec_commands.specs.ReplyBody.{seals_in};
 
-use conn_ends::Progress;
+use conn_core::Progress;
 use server_effects::Answer;
 use spec_crypto::Signer;
 use wire_commands::Body;

@@ -5,8 +5,7 @@ ghost use Rattle.wire_commands.specs.values.Meaning.{body_of};
 ghost use Rattle.conn_core.specs.served.Serving.{created_in};
 
 use crate::event_replies::progress::{Logon, progress_for};
-use conn_core::Reply;
-use conn_ends::Progress;
+use conn_core::{Progress, Reply};
 use server_effects::Answer;
 use std::alloc::Global;
 use wire_bytes::Bytes;

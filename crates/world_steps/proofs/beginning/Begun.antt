@@ -30,7 +30,7 @@ use Rattle.world_ends.specs.declared.world.Marks.{Marks}
 use Rattle.world_ends.specs.declared.world.Places.{Places}
 use Rattle.world_ends.specs.declared.world.World.{World}
 use Rattle.world_steps.specs.beginning.Starting.{AreClosed, IsBegunBy, IsWorldClosed}
-use Rattle.conn_ends.specs.declared.conn.Conn.{Conn}
+use Rattle.conn_core.specs.declared.conn.Conn.{Conn}
 
 -- ---- one connection more
 

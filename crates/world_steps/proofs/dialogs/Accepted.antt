@@ -6,7 +6,7 @@ use Rattle.client_ends.specs.dialog_calls.Turning.{DialogAccepts}
 use Rattle.client_ends.specs.declared.dialog_calls.heard.Heard.TheVariants as heards
 use Rattle.client_events.proofs.world_law.Columns.{taken as kept_taken}
 use Rattle.client_events.proofs.world_law.Events.{asks_alike}
-use Rattle.conn_ends.specs.declared.conn.Conn.{Conn}
+use Rattle.conn_core.specs.declared.conn.Conn.{Conn}
 use Rattle.spec_exchange.specs.Commands.{TreeConnect}
 use Rattle.spec_exchange.specs.Client.{AskedTree, SaidSecond, Stage}
 use Rattle.spec_exchange.specs.Dialogs.{Accepts as AcceptsStep, accepted, dialog_message}

@@ -1,6 +1,6 @@
 -- The front of what comes down is heard: the connection without it.
 use Rattle.std.proofs.Common.{◌≡◌, ℕ, true, List, [], ◌∷◌, Option, refl, sym, subst}
-use Rattle.conn_ends.specs.declared.conn.Conn.{Conn}
+use Rattle.conn_core.specs.declared.conn.Conn.{Conn}
 use Rattle.spec_exchange.specs.Network.{Conn as Link, Received, take_front}
 use Rattle.client_ends.specs.declared.ends.config.ClientConfig.{ClientConfig}
 use Rattle.client_ends.specs.declared.ends.dialog.Dialog.{Dialog}

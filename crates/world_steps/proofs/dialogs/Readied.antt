@@ -9,7 +9,7 @@ use Rattle.law_client.proofs.table.Events.{keeps}
 use Rattle.law_client.specs.table.Kept.{TableKept}
 use Rattle.client_events.specs.world_law.Asking.{AsksFit}
 use Rattle.client_events.proofs.world_law.Events.{asks_on}
-use Rattle.conn_ends.specs.declared.conn.Conn.{Conn}
+use Rattle.conn_core.specs.declared.conn.Conn.{Conn}
 use Rattle.spec_exchange.specs.Client.{Apart, Client, begin_session, bind_channel, leave_dialog, unmade}
 use Rattle.spec_exchange.specs.ClientStep.{Act, CloseChannel, IsReady, Nothing, act, becomes_ready, client_after}
 use Rattle.spec_exchange.specs.Network.{Conn as Link, client_off, closed_by, with_client}

@@ -3,7 +3,7 @@ use Rattle.std.proofs.Common.{◌≡◌, ℕ, ◌≤◌, ◌<◌, ◌^◌, Bool,
 use Rattle.std.proofs.Common.{List, [], ◌∷◌, ◌++◌, length, slice_get, Option, Some, None, is_some}
 use Rattle.client_events.proofs.world_law.Columns.{gone_on as kept_on}
 use Rattle.client_events.proofs.world_law.Events.{asks_alike}
-use Rattle.conn_ends.specs.declared.conn.Conn.{Conn}
+use Rattle.conn_core.specs.declared.conn.Conn.{Conn}
 use Rattle.spec_exchange.specs.Client.{Client, Stage}
 use Rattle.spec_exchange.specs.Dialogs.{dialog_message, went_on}
 use Rattle.spec_exchange.specs.Network.{ForDialog, Sent, dialog_sent, send_up, with_client}

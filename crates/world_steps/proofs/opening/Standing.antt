@@ -3,8 +3,8 @@ use Rattle.std.proofs.Common.{◌≡◌, ℕ, ◌+◌, ◌≤◌, ◌<◌, ◌^�
 use Rattle.std.proofs.Common.{List, [], ◌∷◌, length, take, Option, Some, None, is_some}
 use Rattle.client_ends.specs.dialog_calls.Opening.{AreKeysOf, opened_end}
 use Rattle.client_ends.specs.dialog_calls.Turning.{previous_in}
-use Rattle.conn_ends.specs.Shown.{ShowsEnd}
-use Rattle.conn_ends.specs.declared.conn.Conn.{Conn}
+use Rattle.conn_core.specs.Shown.{ShowsEnd}
+use Rattle.conn_core.specs.declared.conn.Conn.{Conn}
 use Rattle.spec_wire.specs.credits.Purse.{after_spend, first_purse}
 use Rattle.spec_exchange.specs.Client.{Client, SaidNegotiate}
 use Rattle.spec_exchange.specs.Dialogs.{dialog_message, open_channel}

@@ -1,7 +1,7 @@
 -- A channel on which a request went up.
 use Rattle.std.proofs.Common.{◌≡◌, ℕ, ◌≤◌, ◌<◌, ◌^◌, List, [], ◌∷◌, ◌++◌, length, Option, Ok, sym, ap, subst, ◌∙◌}
 use Rattle.client_ends.specs.line_calls.Sending.{IsRequest, LineSends}
-use Rattle.conn_ends.specs.declared.conn.Conn.{Conn}
+use Rattle.conn_core.specs.declared.conn.Conn.{Conn}
 use Rattle.spec_exchange.specs.Network.{Conn as Link, Sent, Token, op_of, send_up}
 use Rattle.spec_exchange.specs.State.{Message}
 use Rattle.client_ends.specs.ends.Shown.{ShowsLine, token_of}

@@ -3,8 +3,8 @@ use Rattle.std.proofs.Common.{◌≡◌, ℕ, true, refl, sym, ap, subst, ◌∙
 use Rattle.conn_core.specs.reply_frames.Replying.{EndsAs}
 use Rattle.conn_core.specs.declared.end.Ended.{Ended}
 use Rattle.conn_core.specs.declared.taking.Taken.{Taken}
-use Rattle.conn_ends.specs.declared.conn.Conn.{Conn}
-use Rattle.conn_ends.specs.declared.end.ConnEnd.{ConnEnd}
+use Rattle.conn_core.specs.declared.conn.Conn.{Conn}
+use Rattle.conn_core.specs.declared.end.ConnEnd.{ConnEnd}
 use Rattle.conn_core.specs.lone_server.Own.{IsOwnBy}
 use Rattle.conn_core.specs.served.Serving.{Onward}
 use Rattle.spec_exchange.specs.State as model

@@ -2,7 +2,7 @@
 use Rattle.std.proofs.Common.{◌≡◌, ℕ, suc, ◌+◌, ◌*◌, ◌/◌, ◌%◌, ◌≤◌, ◌<◌, ◌^◌, refl, sym, ap, subst, ◌∙◌, arith}
 use Rattle.std.proofs.Common.{List, [], ◌∷◌, ◌++◌, length, take, drop, length-append, Option, Some, None}
 use Rattle.conn_core.specs.reply_frames.Joined.{AreAtMost}
-use Rattle.conn_ends.specs.reply_sealing.Saying.{all_framed, framed}
+use Rattle.conn_core.specs.reply_sealing.Saying.{all_framed, framed}
 use Rattle.spec_exchange.specs.Network.{Received}
 use Rattle.spec_wire.specs.messages.Frames.{told_length}
 use Rattle.world_ends.specs.Channels.{AreDown, IsDown}

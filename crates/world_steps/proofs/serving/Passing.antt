@@ -1,8 +1,8 @@
 -- The front and its connection, among all.
 use Rattle.std.proofs.Common.{◌≡◌, ℕ, ◌≤◌, ◌==◌, not, true, ap, subst, ◌∙◌, arith, List, [], ◌∷◌, length, set, get_or}
 use Rattle.std.proofs.Common.{Bool, Option, Some, None, IfSome, Result, Ok, Err, OnOk, MatchResult}
-use Rattle.conn_ends.specs.Shown.{ShowsEnd}
-use Rattle.conn_ends.specs.declared.conn.Conn.{Conn}
+use Rattle.conn_core.specs.Shown.{ShowsEnd}
+use Rattle.conn_core.specs.declared.conn.Conn.{Conn}
 use Rattle.spec_exchange.specs.Network.{Sent}
 use Rattle.spec_exchange.specs.Table.{is_filled}
 use Rattle.spec_crypto.specs.sessions.Nonces.{last_counter}

@@ -2,7 +2,7 @@
 use Rattle.std.proofs.Common.{◌≡◌, ℕ, ◌+◌, ◌++◌, ◌≤◌, ◌&&◌, not, Bool, true, false, if◌then◌else◌, refl, sym, ap, subst, ◌∙◌, take}
 use Rattle.std.proofs.Common.{List, [], ◌∷◌, slice_get, Option, Some, None, is_some, Result, Ok, Err, MatchResult}
 use Rattle.conn_core.specs.frame_events.Dealing.{taken_records}
-use Rattle.conn_ends.specs.Shown.{ShowsEnd}
+use Rattle.conn_core.specs.Shown.{ShowsEnd}
 use Rattle.spec_exchange.specs.Network.{Conn as Link, Crash, Restart, Sent, Serve, Token, behind_front, op_of, server_off}
 use Rattle.spec_exchange.specs.State as model
 use Rattle.spec_exchange.specs.State.{End, no_later}

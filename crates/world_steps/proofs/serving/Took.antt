@@ -3,9 +3,9 @@ use Rattle.std.proofs.Common.{◌≡◌, ℕ, ◌+◌, ◌++◌, ◌≤◌, Bool
 use Rattle.std.proofs.Common.{[], ◌∷◌, slice_get, Option, Some, None, is_some}
 use Rattle.conn_core.specs.reply_frames.Joined.{AreAtMost}
 use Rattle.conn_core.specs.reply_frames.Replying.{WalkGoes}
-use Rattle.conn_ends.specs.reply_sealing.Saying.{all_framed}
+use Rattle.conn_core.specs.reply_sealing.Saying.{all_framed}
 use Rattle.conn_core.specs.frame_events.Dealing.{taken_records}
-use Rattle.conn_ends.specs.declared.conn.Conn.{Conn}
+use Rattle.conn_core.specs.declared.conn.Conn.{Conn}
 use Rattle.spec_exchange.specs.Client.{Client}
 use Rattle.spec_exchange.specs.Network.{Conn as Link, Received, Sent, Token, World as Values, behind_front, is_own, op_of, server_off}
 use Rattle.spec_exchange.specs.Operations.{is_create}

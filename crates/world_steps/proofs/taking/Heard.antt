@@ -3,7 +3,7 @@ use Rattle.std.proofs.Common.{◌≡◌, ℕ, ◌==◌, not, Bool, true, false, 
 use Rattle.std.proofs.Common.{List, [], ◌∷◌, length, slice_get, Option, Some, None}
 use Rattle.std.proofs.lemmas.Bool.Decides.{nat_tests}
 use Rattle.client_ends.specs.line_calls.Hearing.{IsLineOther, Unheard}
-use Rattle.conn_ends.specs.declared.conn.Conn.{Conn}
+use Rattle.conn_core.specs.declared.conn.Conn.{Conn}
 use Rattle.spec_exchange.specs.Network.{Conn as Link, ForAttach, ForDialog, ForOp, Received, Token, take_front}
 use Rattle.spec_exchange.specs.Table.{is_filled, put}
 use Rattle.client_ends.specs.declared.ends.config.ClientConfig.{ClientConfig}

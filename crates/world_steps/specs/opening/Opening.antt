@@ -4,7 +4,7 @@ use Rattle.std.specs.Prelude.{Option, Some, None, is_some, Result, Ok, Err}
 use Rattle.client_steps.specs.whole_client.Shown.{ShowsClient}
 use Rattle.client_ends.specs.dialog_calls.Opening.{DialogBegins}
 use Rattle.client_ends.specs.dialog_calls.Turning.{previous_in}
-use Rattle.conn_ends.specs.Shown.{ShowsEnd}
+use Rattle.conn_core.specs.Shown.{ShowsEnd}
 use Rattle.spec_exchange.specs.Client.{Client}
 use Rattle.spec_exchange.specs.State as model
 use Rattle.spec_exchange.specs.Step.{step}

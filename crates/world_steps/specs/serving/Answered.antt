@@ -1,6 +1,6 @@
 -- What a world becomes where its server hears a frame.
 use Rattle.std.specs.Prelude.{◌≡◌, ℕ, ◌+◌, List, take, Option, Some, None}
-use Rattle.conn_ends.specs.declared.conn.Conn.{Conn}
+use Rattle.conn_core.specs.declared.conn.Conn.{Conn}
 use Rattle.spec_exchange.specs.State.{no_later}
 use Rattle.spec_world.specs.Settings.{draw}
 use Rattle.world_ends.specs.declared.world.World.{World}

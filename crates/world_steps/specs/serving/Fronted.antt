@@ -1,6 +1,6 @@
 -- The front of what goes up to the server, and its connection behind it.
 use Rattle.std.specs.Prelude.{◌≡◌, ℕ, Bool, true, false, List, ◌∷◌, Option, Some, None}
-use Rattle.conn_ends.specs.declared.conn.Conn.{Conn}
+use Rattle.conn_core.specs.declared.conn.Conn.{Conn}
 use Rattle.spec_exchange.specs.Table.{is_filled}
 use Rattle.world_ends.specs.Tests.{is_open}
 use Rattle.world_ends.specs.declared.sides.Channel.{Channel}

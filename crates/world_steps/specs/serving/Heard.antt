@@ -5,8 +5,8 @@ use Rattle.conn_core.specs.reply_frames.Replying.{WalkGoes}
 use Rattle.conn_core.specs.declared.end.Ended.{Ended}
 use Rattle.conn_core.specs.declared.taking.Taken.{Taken}
 use Rattle.conn_core.specs.frame_events.Dealing.{taken_records}
-use Rattle.conn_ends.specs.Shown.{ShowsEnd}
-use Rattle.conn_ends.specs.declared.conn.Conn.{Conn}
+use Rattle.conn_core.specs.Shown.{ShowsEnd}
+use Rattle.conn_core.specs.declared.conn.Conn.{Conn}
 use Rattle.spec_exchange.specs.State as model
 use Rattle.server_core.specs.declared.disk_server.book.Book.{Book}
 use Rattle.spec_crypto.specs.sessions.Nonces.{last_counter}

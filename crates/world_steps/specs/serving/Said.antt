@@ -1,7 +1,7 @@
 -- The frames of an answer, each on its way down.
 use Rattle.std.specs.Prelude.{◌≡◌, ℕ, List, [], ◌∷◌, ◌++◌, Option, Some, None, ⊤}
 use Rattle.conn_core.specs.reply_frames.Joined.{AreAtMost}
-use Rattle.conn_ends.specs.reply_sealing.Saying.{all_framed}
+use Rattle.conn_core.specs.reply_sealing.Saying.{all_framed}
 use Rattle.world_ends.specs.declared.sides.Down.{Down}
 use Rattle.world_steps.specs.declared.serving.parting.Parted.{Parted}
 

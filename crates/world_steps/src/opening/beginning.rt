@@ -14,7 +14,7 @@ ghost use Rattle.world_steps.specs.Parts.{IsWorldMemory};
 use crate::{Played, World, WorldError};
 use client_ends::{Bound, ClientConfig, Dialog, Fresh, start, start_bind};
 use client_rows::Session;
-use conn_ends::Conn;
+use conn_core::Conn;
 use spec_crypto::Keys;
 use std::alloc::Global;
 use wire_bytes::Bytes;

@@ -13,7 +13,7 @@ ghost use Rattle.world_steps.specs.Parts.{BookTold, IsWorldMemory};
 use crate::opening::beginning::Begun;
 use crate::{Book, Channel, ClientSide, Up, WorldError, accept};
 use base_outside::MemDisk;
-use conn_ends::Conn;
+use conn_core::Conn;
 use std::alloc::{AllocError, Global};
 use std::collections::VecDeque;
 use wire_bytes::Bytes;

@@ -5,7 +5,7 @@ ghost use Rattle.world_steps.specs.Lists.{ChangedAt};
 
 use crate::serving::saying::say_frames;
 use crate::{Channel, Up};
-use conn_ends::Conn;
+use conn_core::Conn;
 use std::alloc::{AllocError, Global};
 
 /// A connection's end at the server, and the frame that it is about to take.

@@ -7,8 +7,7 @@ use crate::serving::fronts::{Front, front_of};
 use crate::serving::noting::note_taken;
 use crate::{Book, Channel, Note, Notes, Places, Played, WorldError};
 use base_outside::MemDisk;
-use conn_core::{Ended, Taken, take_own};
-use conn_ends::Conn;
+use conn_core::{Conn, Ended, Taken, take_own};
 use wire_bytes::Bytes;
 
 /// What the server made of a frame: an answer, or none where the connection ends; whether a message of it was taken, whether one acted,

@@ -1,6 +1,6 @@
 // The frames of an answer, one after the other.
 ghost use Rattle.std.specs.Prelude.{◌≡◌, ◌++◌, ◌≤◌, ◌<◌, ℕ, List, length, IfSome};
-ghost use Rattle.conn_ends.specs.reply_sealing.Saying.{framed};
+ghost use Rattle.conn_core.specs.reply_sealing.Saying.{framed};
 ghost use Rattle.spec_wire.specs.messages.Frames.{told_length};
 ghost use Rattle.world_steps.specs.serving.Said.{PartsIn};
 

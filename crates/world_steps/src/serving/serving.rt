@@ -9,7 +9,7 @@ use crate::serving::drawing::next_draw;
 use crate::serving::fronts::{answer_on, has_front};
 use crate::serving::hearing::{Reply, hear_front};
 use crate::{World, WorldError, drop_end, is_served, later};
-use conn_ends::Conn;
+use conn_core::Conn;
 use wire_bytes::Bytes;
 
 /// The server takes the front, with the next draw.

@@ -1,4 +1,4 @@
-use Rattle.conn_ends.proofs.frame_messages.Places.{each_has}
+use Rattle.conn_core.proofs.frame_messages.Places.{each_has}
 use Rattle.conn_core.specs.served.Serving.{Onward}
 use Rattle.conn_core.proofs.Composed.{served, stop_as, stopped_on}
 use Rattle.conn_core.proofs.taking.serve.Goals as goal

@@ -1,6 +1,6 @@
 use Rattle.std.proofs.Common.{arith, refl}
 use Rattle.spec_world.specs.Hearing.{check_frame, text_of}
-use Rattle.conn_ends.specs.declared.end.ConnEnd.TheVariants.{Memory}
+use Rattle.conn_core.specs.declared.end.ConnEnd.TheVariants.{Memory}
 use Rattle.conn_core.specs.served.Serving.{Onward}
 use Rattle.conn_core.proofs.Composed.{ended_once, fails_checked, lacks_all, memory_halts, once_halts, takes}
 use Rattle.conn_core.proofs.taking.take_frame.Goals as goal

@@ -4,8 +4,8 @@ use Rattle.conn_core.specs.served.Serving.{Onward}
 use Rattle.conn_core.proofs.served.Going.{serves_on}
 use Rattle.conn_core.proofs.frame_events.Stops.{stopped_is}
 use Rattle.spec_world.specs.Connection.{heard_message}
-use Rattle.conn_ends.specs.declared.frame_messages.checked.Checked.{Checked}
-use Rattle.conn_ends.specs.frame_messages.Checking.{IsDenied, ShowsGoing, message_in}
+use Rattle.conn_core.specs.declared.frame_messages.checked.Checked.{Checked}
+use Rattle.conn_core.specs.frame_messages.Checking.{IsDenied, ShowsGoing, message_in}
 use Rattle.conn_core.specs.requests.Asking.{IsGreetingTold, IsRequestEvent}
 use Rattle.conn_core.specs.requests.Telling.{told_checked, told_end, told_message}
 use Rattle.conn_core.specs.frame_events.Dealing.{GivesIf}

@@ -1,6 +1,6 @@
 use Rattle.std.proofs.Common.{◌≡◌, ℕ, List, ◌∙◌, true, false, sym, ap, subst}
 use Rattle.conn_core.specs.served.Serving.{Onward}
-use Rattle.conn_ends.specs.declared.frame_messages.checked.Checked.{Checked}
+use Rattle.conn_core.specs.declared.frame_messages.checked.Checked.{Checked}
 use Rattle.conn_core.specs.message_replies.Replying as replying
 use Rattle.conn_core.specs.frame_events.Dealing.{GivesFor}
 use Rattle.conn_core.proofs.frame_events.Gives.{none_here}

@@ -4,8 +4,8 @@ use Rattle.spec_world.specs.Settings.{ServerSettings}
 use Rattle.spec_world.specs.Ends.{Logons, ServerEnd}
 use Rattle.spec_world.specs.Hearing as hearing
 use Rattle.spec_world.specs.Mishaps.{Owned}
-use Rattle.conn_ends.specs.Shown.{ShowsEnd}
-use Rattle.conn_ends.specs.frame_messages.Checking.{AreInOrder, ShowsFrame}
+use Rattle.conn_core.specs.Shown.{ShowsEnd}
+use Rattle.conn_core.specs.frame_messages.Checking.{AreInOrder, ShowsFrame}
 use Rattle.conn_core.specs.related.Carrying.{carry_of}
 use Rattle.conn_core.specs.served.Serving.{Onward}
 use Rattle.conn_core.specs.message_replies.Replying.{AreMessagesShort}

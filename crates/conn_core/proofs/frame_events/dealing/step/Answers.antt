@@ -1,7 +1,7 @@
 use Rattle.std.proofs.Common.{◌≡◌, ◌<◌, length, ◌++◌, subst, arith}
 use Rattle.spec_world.specs.Related.{failed_as, turn_of}
-use Rattle.conn_ends.specs.frame_messages.Checking.{message_in}
-use Rattle.conn_ends.proofs.frame_messages.Places.{each_has}
+use Rattle.conn_core.specs.frame_messages.Checking.{message_in}
+use Rattle.conn_core.proofs.frame_messages.Places.{each_has}
 use Rattle.conn_core.specs.related.Carrying.{Inherits, carry_of}
 use Rattle.conn_core.specs.served.Serving.{Onward}
 use Rattle.conn_core.proofs.frame_events.Lists.{there_checked}

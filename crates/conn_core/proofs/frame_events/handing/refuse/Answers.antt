@@ -1,6 +1,6 @@
 use Rattle.std.proofs.Common.{◌≡◌, ◌≤◌, ◌<◌, length, vec_len, vec_capacity, refl, sym, subst, ◌∙◌, arith}
 use Rattle.std.proofs.lemmas.Option.{slice_get_within}
-use Rattle.conn_ends.specs.declared.frame_messages.checked.Checked.{Checked}
+use Rattle.conn_core.specs.declared.frame_messages.checked.Checked.{Checked}
 use Rattle.conn_core.specs.served.Refusing.{IsMessageRefused}
 use Rattle.conn_core.proofs.frame_events.Lists.{one_message}
 use Rattle.conn_core.proofs.frame_events.handing.refuse.Goals as goal

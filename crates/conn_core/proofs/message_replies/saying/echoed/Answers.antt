@@ -4,8 +4,8 @@ use Rattle.spec_wire.specs.messages.Error.{error_response_spelling}
 use Rattle.spec_commands.specs.CommandOf.{echo_status}
 use Rattle.spec_wire.specs.credits.Window.{granted}
 use Rattle.spec_world.specs.Answering as answering
-use Rattle.conn_ends.specs.declared.conn.Progress.{Progress}
-use Rattle.conn_ends.specs.reply_sealing.Saying.{MovesAs}
+use Rattle.conn_core.specs.declared.conn.Progress.{Progress}
+use Rattle.conn_core.specs.reply_sealing.Saying.{MovesAs}
 use Rattle.conn_core.specs.message_replies.Replying.{echo_due, said_aside}
 use Rattle.conn_core.proofs.message_replies.Parts.{own_header, bare_body, probe_signer, status_is}
 use Rattle.conn_core.proofs.message_replies.saying.echoed.Goals as goal

@@ -1,6 +1,6 @@
 use Rattle.std.proofs.Common.{subst}
 use Rattle.std.specs.Prelude.{option_copied}
-use Rattle.conn_ends.specs.negotiating.Greeting.{IsShortHello}
+use Rattle.conn_core.specs.negotiating.Greeting.{IsShortHello}
 use Rattle.conn_core.specs.message_replies.Replying.{HelloFor}
 use Rattle.conn_core.proofs.message_replies.Parts.{greets_not}
 use Rattle.conn_core.proofs.message_replies.saying.greeted.Goals as goal

@@ -2,7 +2,7 @@ use Rattle.std.proofs.Common.{◌≡◌, ◌∙◌, ◌+◌, ◌==◌, ℕ, Bool
 use Rattle.std.specs.Prelude.{slice_get}
 use Rattle.spec_wire.specs.declared.messages.header.Header.{Header}
 use Rattle.spec_wire.specs.credits.Window.{HeldIds, after_grant}
-use Rattle.conn_ends.specs.declared.frame_messages.checked.Checked.{Checked}
+use Rattle.conn_core.specs.declared.frame_messages.checked.Checked.{Checked}
 use Rattle.conn_core.specs.message_replies.Replying.{AreMessagesSaid, has_message_event}
 use Rattle.conn_core.proofs.message_replies.Parts.{differs, inside, no_event, same_message}
 use Rattle.conn_core.proofs.message_replies.Saids.{next_at, next_cancel}

@@ -1,6 +1,6 @@
 use Rattle.std.proofs.Common.{◌≡◌, ◌∙◌, ℕ, Option, sym, ap, subst}
 use Rattle.std.specs.Prelude.{slice_get}
-use Rattle.conn_ends.specs.declared.frame_messages.checked.Checked.{Checked}
+use Rattle.conn_core.specs.declared.frame_messages.checked.Checked.{Checked}
 use Rattle.conn_core.specs.message_replies.Replying.{Grants, IsLike, SaidIf, aside_status}
 use Rattle.conn_core.proofs.message_replies.Parts.{inside, same_message}
 use Rattle.conn_core.proofs.message_replies.saying.said_by.Goals as goal

@@ -2,7 +2,7 @@ use Rattle.std.proofs.Common.{◌≡◌, ◌∙◌, ◌==◌, ◌≤◌, ℕ, Li
 use Rattle.std.specs.Prelude.{slice_get}
 use Rattle.spec_wire.specs.declared.messages.header.Header.{Header}
 use Rattle.spec_world.specs.Hearing as hearing
-use Rattle.conn_ends.specs.declared.frame_messages.checked.Checked.{Checked}
+use Rattle.conn_core.specs.declared.frame_messages.checked.Checked.{Checked}
 use Rattle.conn_core.specs.message_replies.Replying.{Grants, IsLike}
 use Rattle.conn_core.proofs.message_replies.Parts.{aside_echoes, aside_greets, aside_heard, differs, inside, part_long, same_message}
 use Rattle.conn_core.proofs.message_replies.saying.said_going.Goals as goal

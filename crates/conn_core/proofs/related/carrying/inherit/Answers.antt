@@ -1,7 +1,7 @@
 use Rattle.std.proofs.Common.{◌<◌, false, true, Bool, length, subst, ◌∙◌}
 use Rattle.std.proofs.lemmas.Option.{slice_get_within}
 use Rattle.spec_world.specs.Related.{with_file}
-use Rattle.conn_ends.specs.frame_messages.Checking.{bytes_of}
+use Rattle.conn_core.specs.frame_messages.Checking.{bytes_of}
 use Rattle.conn_core.specs.related.Carrying.{TakesOver}
 use Rattle.conn_core.proofs.related.Denied.{set_denied}
 use Rattle.conn_core.proofs.related.Inherited.{nothing, changed, put_into, ends_apart, ends_failed, ends_well}

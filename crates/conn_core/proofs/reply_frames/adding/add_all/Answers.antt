@@ -1,6 +1,6 @@
 use Rattle.std.proofs.Common.{◌∙◌, Option, length, refl, sym, ap, subst}
 use Rattle.std.specs.Prelude.{option_copied, option_map}
-use Rattle.conn_ends.specs.declared.reply_sealing.said.Said.{Said}
+use Rattle.conn_core.specs.declared.reply_sealing.said.Said.{Said}
 use Rattle.conn_core.specs.reply_frames.Adding.{CanWait, NextFits}
 use Rattle.conn_core.proofs.reply_frames.Nexts.{alike_both}
 use Rattle.conn_core.proofs.reply_frames.Whole.{begins, walks_fail}

@@ -1,7 +1,7 @@
 use Rattle.std.proofs.Common.{Option, refl, sym, subst}
 use Rattle.std.specs.Prelude.{option_copied}
-use Rattle.conn_ends.specs.declared.reply_sealing.said.Said.{Said}
-use Rattle.conn_ends.specs.reply_sealing.Saying.{CanPutIf}
+use Rattle.conn_core.specs.declared.reply_sealing.said.Said.{Said}
+use Rattle.conn_core.specs.reply_sealing.Saying.{CanPutIf}
 use Rattle.conn_core.specs.reply_frames.Adding.{NextFits, later_of}
 use Rattle.conn_core.proofs.reply_frames.Putting.{fits_later}
 use Rattle.conn_core.proofs.reply_frames.Nexts.{adds_said, none_is, none_some, some_none}

@@ -1,7 +1,7 @@
 use Rattle.std.proofs.Common.{Option, Ok, Err, refl, sym, subst}
 use Rattle.std.specs.Prelude.{option_copied}
-use Rattle.conn_ends.specs.declared.reply_sealing.said.Said.{Said}
-use Rattle.conn_ends.specs.reply_sealing.Saying.{CanPutIf}
+use Rattle.conn_core.specs.declared.reply_sealing.said.Said.{Said}
+use Rattle.conn_core.specs.reply_sealing.Saying.{CanPutIf}
 use Rattle.conn_core.proofs.message_replies.Parts.{inside}
 use Rattle.conn_core.specs.reply_frames.Adding.{CanWait, NextFits, later_of}
 use Rattle.conn_core.proofs.reply_frames.Nexts.{alike_by, later_waits, next_step, room_later}

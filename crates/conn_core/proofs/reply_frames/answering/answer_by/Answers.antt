@@ -1,5 +1,5 @@
 use Rattle.std.proofs.Common.{sym, subst}
-use Rattle.conn_ends.specs.Shown.{ShowsEnd}
+use Rattle.conn_core.specs.Shown.{ShowsEnd}
 use Rattle.conn_core.specs.reply_frames.Replying.{walk_replied}
 use Rattle.conn_core.proofs.reply_frames.Finally.{answers_same, shows_room}
 use Rattle.conn_core.proofs.reply_frames.answering.answer_by.Goals as goal

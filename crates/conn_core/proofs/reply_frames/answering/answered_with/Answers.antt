@@ -1,6 +1,6 @@
 use Rattle.std.proofs.Common.{Option, sym, subst}
-use Rattle.conn_ends.specs.declared.negotiating.greeting.Hello.{Hello}
-use Rattle.conn_ends.specs.negotiating.Greeting.{IsShortHello}
+use Rattle.conn_core.specs.declared.negotiating.greeting.Hello.{Hello}
+use Rattle.conn_core.specs.negotiating.Greeting.{IsShortHello}
 use Rattle.conn_core.specs.message_replies.Replying.{HelloOf}
 use Rattle.conn_core.proofs.reply_frames.answering.answered_with.Goals as goal
 

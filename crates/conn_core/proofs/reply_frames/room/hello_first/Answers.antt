@@ -1,4 +1,4 @@
-use Rattle.conn_ends.specs.frame_messages.Checking.{message_in}
+use Rattle.conn_core.specs.frame_messages.Checking.{message_in}
 use Rattle.conn_core.proofs.reply_frames.Rooms.{hello_as}
 use Rattle.conn_core.proofs.reply_frames.room.hello_first.Goals as goal
 

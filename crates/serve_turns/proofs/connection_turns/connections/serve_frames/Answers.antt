@@ -1,7 +1,7 @@
 use Rattle.std.proofs.Common.{inl, inr, refl, sym, subst}
 use Rattle.spec_world.specs.Ends.{first_server_end}
-use Rattle.conn_ends.specs.Shown.{ShowsEnd}
-use Rattle.conn_ends.specs.declared.conn.Conn.{Conn}
+use Rattle.conn_core.specs.Shown.{ShowsEnd}
+use Rattle.conn_core.specs.declared.conn.Conn.{Conn}
 use Rattle.serve_turns.specs.shared_book.Words.{view_of}
 use Rattle.serve_turns.proofs.connection_turns.Watching.{first_bound, way_begins}
 use Rattle.serve_turns.proofs.connection_turns.connections.serve_frames.Goals as goal

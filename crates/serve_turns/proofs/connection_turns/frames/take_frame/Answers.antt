@@ -1,7 +1,7 @@
 use Rattle.std.proofs.Common.{[], None, refl, sym, subst, append-nil, arith}
-use Rattle.conn_ends.specs.Shown.{ShowsEnd}
-use Rattle.conn_ends.specs.declared.conn.Conn.{Conn}
-use Rattle.conn_ends.proofs.frame_messages.Places.{each_has}
+use Rattle.conn_core.specs.Shown.{ShowsEnd}
+use Rattle.conn_core.specs.declared.conn.Conn.{Conn}
+use Rattle.conn_core.proofs.frame_messages.Places.{each_has}
 use Rattle.serve_turns.specs.shared_book.Words.{view_of}
 use Rattle.serve_turns.proofs.connection_turns.Framing.{checked_so, frame_comes, frame_fails, frame_lacks, frame_stops}
 use Rattle.serve_turns.proofs.connection_turns.frames.take_frame.Goals as goal

@@ -1,8 +1,8 @@
 use Rattle.std.proofs.Common.{◌≡◌, ◌<◌, length, option_map, Ok, Err, Some, sym, ap, subst, ◌∙◌, arith}
 use Rattle.spec_world.specs.Related.{failed_as, turn_of}
-use Rattle.conn_ends.specs.declared.frame_messages.checked.CheckedFrame.{CheckedFrame}
-use Rattle.conn_ends.specs.frame_messages.Checking.{AreDenied, AreInOrder, message_in}
-use Rattle.conn_ends.proofs.frame_messages.Places.{each_has}
+use Rattle.conn_core.specs.declared.frame_messages.checked.CheckedFrame.{CheckedFrame}
+use Rattle.conn_core.specs.frame_messages.Checking.{AreDenied, AreInOrder, message_in}
+use Rattle.conn_core.proofs.frame_messages.Places.{each_has}
 use Rattle.conn_core.specs.related.Carrying.{Inherits, carry_of}
 use Rattle.serve_turns.specs.shared_book.Words.{view_of}
 use Rattle.serve_turns.specs.connection_turns.Messages.{TakesMessage}

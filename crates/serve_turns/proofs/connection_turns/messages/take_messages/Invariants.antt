@@ -2,8 +2,8 @@ use Rattle.std.proofs.Common.{◌≡◌, ◌≤◌, ◌++◌, List, length, opti
 use Rattle.spec_world.specs.Ends.{ServerEnd}
 use Rattle.spec_world.specs.Hearing as hearing
 use Rattle.spec_world.specs.Settings.{ServerSettings}
-use Rattle.conn_ends.specs.Shown.{ShowsEnd}
-use Rattle.conn_ends.specs.frame_messages.Checking.{AreDenied, AreInOrder, ShowsFrame}
+use Rattle.conn_core.specs.Shown.{ShowsEnd}
+use Rattle.conn_core.specs.frame_messages.Checking.{AreDenied, AreInOrder, ShowsFrame}
 use Rattle.conn_core.specs.frame_events.Dealing.{Alone}
 use Rattle.conn_core.specs.message_replies.Replying.{AreMessagesShort}
 use Rattle.conn_core.specs.related.Carrying.{carry_of}

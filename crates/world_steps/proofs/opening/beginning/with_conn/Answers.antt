@@ -1,5 +1,5 @@
 use Rattle.std.proofs.Common.{List, ℕ, refl, subst}
-use Rattle.conn_ends.specs.Shown.{ShowsEnd}
+use Rattle.conn_core.specs.Shown.{ShowsEnd}
 use Rattle.spec_world.specs.Ends.{first_server_end}
 use Rattle.world_steps.proofs.opening.beginning.with_conn.Goals as goal
 

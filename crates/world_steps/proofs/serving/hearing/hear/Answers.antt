@@ -1,5 +1,5 @@
 use Rattle.std.proofs.Common.{ℕ, List, refl, sym, subst}
-use Rattle.conn_ends.specs.declared.conn.Conn.{Conn}
+use Rattle.conn_core.specs.declared.conn.Conn.{Conn}
 use Rattle.world_steps.specs.serving.Heard.{ServesBook}
 use Rattle.world_steps.proofs.serving.Passing.{result_on}
 use Rattle.world_steps.specs.Parts.{IsWorldMemory}

@@ -1,5 +1,5 @@
 use Rattle.std.proofs.Common.{◌≡◌, ℕ, ◌++◌, ◌≤◌, List, length, Option, subst}
-use Rattle.conn_ends.specs.reply_sealing.Saying.{framed}
+use Rattle.conn_core.specs.reply_sealing.Saying.{framed}
 use Rattle.world_steps.specs.serving.Said.{PartsIn}
 use Rattle.world_steps.specs.declared.serving.parting.Parted.{Parted}
 use Rattle.world_steps.proofs.serving.Downs.{all_said, first_left, next_left}

@@ -3,7 +3,7 @@ use Rattle.std.specs.Prelude.{slice_get}
 use Rattle.spec_wire.specs.declared.messages.header.Header.{Header}
 use Rattle.spec_world.specs.Hearing as hearing
 use Rattle.spec_world.specs.Answering as answering
-use Rattle.conn_ends.specs.declared.frame_messages.checked.Checked.{Checked}
+use Rattle.conn_core.specs.declared.frame_messages.checked.Checked.{Checked}
 use Rattle.conn_core.proofs.message_replies.Parts.{inside, same_message}
 use Rattle.conn_core.proofs.logon_state.Hashed.{greeting_raw, hashed_by}
 use Rattle.conn_core.proofs.logon_state.Moved.{both_moved, is_it, not_greeted}

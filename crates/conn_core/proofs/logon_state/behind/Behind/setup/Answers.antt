@@ -1,7 +1,7 @@
 use Rattle.std.proofs.Common.{sym, subst}
 use Rattle.spec_world.specs.Logon.{greeting_transcript}
-use Rattle.conn_ends.specs.declared.conn.Progress.{Progress}
-use Rattle.conn_ends.specs.reply_sealing.Saying.{MovesAs}
+use Rattle.conn_core.specs.declared.conn.Progress.{Progress}
+use Rattle.conn_core.specs.reply_sealing.Saying.{MovesAs}
 use Rattle.conn_core.specs.logon_state.Behind.{IsHashed}
 use Rattle.conn_core.proofs.logon_state.Hashed.{known_by}
 use Rattle.conn_core.proofs.logon_state.Moved.{moved_stays, moved_interim, moved_final}

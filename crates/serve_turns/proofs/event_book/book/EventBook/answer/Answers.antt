@@ -1,6 +1,6 @@
 use Rattle.std.proofs.Common.{◌≡◌, ℕ, Option, None, Some, sym, ap, subst, ◌∙◌}
-use Rattle.conn_ends.specs.declared.frame_messages.checked.Checked.{Checked}
-use Rattle.conn_ends.specs.frame_messages.Checking.{IsDenied}
+use Rattle.conn_core.specs.declared.frame_messages.checked.Checked.{Checked}
+use Rattle.conn_core.specs.frame_messages.Checking.{IsDenied}
 use Rattle.conn_core.specs.message_replies.Replying.{AreMessagesShort, has_message_event}
 use Rattle.conn_core.proofs.frame_events.Lists.{one_message}
 use Rattle.serve_turns.proofs.event_book.Answering.{had_stopped, some_count}

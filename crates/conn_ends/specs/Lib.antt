@@ -1,4 +1,0 @@
-pub mod Shown
-pub mod negotiating
-pub mod frame_messages
-pub mod reply_sealing
