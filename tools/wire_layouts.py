@@ -130,13 +130,17 @@ class Layout:
             return f"BadClass({values[self.class_field]})"
         value = {snake(name): values[name] for name, _ in self.told()}
         for part in self.parts:
-            if part.walked and values[part.length] and not self.end <= values[part.place] <= len(message):
+            if part.walked and values[part.length] and not self.begins_well(message, values[part.place], part):
                 return f"BadOffset({part.told})"
             content = self.part_read(message, part, values)
             if content is None:
                 return part.refusal()
             value[part.name] = content
         return value
+
+    def begins_well(self, message, start, part):
+        """Whether a part may begin there: behind the fixed part, in the message, at a multiple of its step."""
+        return self.end <= start <= len(message) and start % part.step == 0
 
     def part_read(self, message, part, values):
         start = values[part.place] if part.place else self.end

@@ -3,7 +3,7 @@
 //!
 //! Reads headers, frames, texts, messages, contexts, classes, listings and the journal's records, and writes again what they hold; answers
 //! tokens, keys, signatures and sealed messages. A row begins with the name of its table; one that begins with `#` stands in the output as
-//! it is. The rows and the expected output were written by tools/wire-vectors.py and tools/session-vectors.py.
+//! it is. The rows and the expected output were written by tools/wire-vectors.py, tools/session-vectors.py and tools/cut-messages.py.
 #![tactic(auto)]
 
 /// What a reader says of bytes, and the writer of the value; where a writer needs something of the value, its name and that.

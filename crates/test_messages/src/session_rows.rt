@@ -10,10 +10,11 @@ use crate::vectors;
 use crate::words::word;
 use std::alloc::{AllocError, Global};
 
-/// What is said of bytes by the reader of this word.
+/// What is said of bytes by the reader of this word; of contexts, that they are three.
 pub fn outcome(said: &mut String, alloc: Global, word: &str, m: &[u8]) -> Result<(), AllocError> {
     match word {
         "header" => bytes::header(said, m),
+        "contexts" => contexts::offered(said, alloc, 3, m),
         _ => messages::message(said, alloc, word, m),
     }
 }

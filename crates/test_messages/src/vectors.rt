@@ -1,9 +1,10 @@
 //! Bytes that are read, and written again. A row is a word and the hexadecimal digits of bytes, which stand behind a header of zeros where
 //! the word is a message's; a number behind them cuts the bytes. The answer has the value that a reader gives and behind a line end its
-//! canonical spelling, or the refusal. A row that begins with `cuts` asks for the outcome at each length, one that begins with `only` for
-//! the value alone.
-use crate::words::{bytes_in, push_bytes, word};
-use crate::{file_rows, info_rows, record_rows, session_rows};
+//! canonical spelling, or the refusal. A row that begins with `cuts` asks for the outcome at each length, one that begins with `zeroed`,
+//! `ones` or `turned` for that where each byte becomes 0, ff or its complement, and one that begins with `only` for the value alone.
+use crate::words::{bytes_in, push_bytes, push_digits, word};
+use crate::{file_rows, info_rows, logon_rows, record_rows, session_rows};
+use sha2::{Digest, Sha256};
 use std::alloc::{AllocError, Global};
 use std::fmt::{Debug, Write};
 use wire_bytes::Bytes;
@@ -28,18 +29,22 @@ pub fn unwritten(said: &mut String) -> Result<(), AllocError> {
     said.push_str("a value that cannot be written")
 }
 
-/// What the reader of a word says of bytes.
-fn outcome(
-    said: &mut String,
+// Whose reader is asked: the table and the word of it.
+#[derive(Clone, Copy)]
+struct Reader<'a> {
     alloc: Global,
-    table: &str,
-    word: &str,
-    bytes: &[u8],
-) -> Result<(), AllocError> {
-    match table {
+    table: &'a str,
+    word: &'a str,
+}
+
+// What the reader of a word says of bytes.
+fn outcome(said: &mut String, reader: &Reader<'_>, bytes: &[u8]) -> Result<(), AllocError> {
+    let (alloc, word) = (reader.alloc, reader.word);
+    match reader.table {
         "session" => session_rows::outcome(said, alloc, word, bytes),
         "file" => file_rows::outcome(said, alloc, word, bytes),
         "info" => info_rows::outcome(said, alloc, word, bytes),
+        "logon" => logon_rows::outcome(said, alloc, word, bytes),
         _ => record_rows::outcome(said, alloc, bytes),
     }
 }
@@ -52,12 +57,34 @@ fn front(bytes: &[u8], count: usize) -> &[u8] {
     }
 }
 
+// Puts the bytes cut to a length, or changed at this place.
+fn put_altered(
+    altered: &mut Vec<u8>,
+    form: &str,
+    bytes: &[u8],
+    place: usize,
+) -> Result<(), AllocError> {
+    altered.clear();
+    if form == "cuts" {
+        return altered.extend_from_slice(front(bytes, place));
+    }
+    altered.extend_from_slice(bytes)?;
+    if let Some(byte) = altered.get_mut(place) {
+        *byte = match form {
+            "zeroed" => 0,
+            "ones" => 0xff,
+            _ => *byte ^ 0xff,
+        };
+    }
+    Ok(())
+}
+
 // Tells an outcome that is another than the last one.
 fn push_change(
     said: &mut String,
     last: &mut String,
     outcome: &str,
-    length: usize,
+    place: usize,
 ) -> Result<(), AllocError> {
     let told = if outcome.contains('\n') {
         "read"
@@ -67,53 +94,68 @@ fn push_change(
     if told == last.as_str() {
         return Ok(());
     }
-    let comma = if length == 0 { "" } else { "," };
-    write!(said, "{comma} {length} {told}")?;
+    let comma = if place == 0 { "" } else { "," };
+    write!(said, "{comma} {place} {told}")?;
     last.clear();
     last.push_str(told)
 }
 
-// The lengths from which the bytes, cut to them, have another outcome. Functions with loops own no text, because a text that is let go
+/// What was said of bytes that were altered at one place after the other: the last outcome, the one of now, and all of them, each with a
+/// line end.
+#[derive(Drop)]
+struct Outcomes {
+    last: String,
+    now: String,
+    all: Sha256,
+}
+
+// The places from which bytes that are altered there have another outcome. Functions with loops own no text, because a text that is let go
 // at each `?` of a loop costs the proof most.
-fn push_cuts(
+fn push_places(
     said: &mut String,
-    last: &mut String,
-    now: &mut String,
-    alloc: Global,
-    table: &str,
-    word: &str,
+    outcomes: &mut Outcomes,
+    altered: &mut Vec<u8>,
+    reader: &Reader<'_>,
+    form: &str,
     bytes: &[u8],
 ) -> Result<(), AllocError> {
-    for length in 0..=bytes.len() {
-        now.clear();
-        outcome(now, alloc, table, word, front(bytes, length))?;
-        push_change(said, last, now.as_str(), length)?;
+    for place in 0..=bytes.len() {
+        put_altered(altered, form, bytes, place)?;
+        outcomes.now.clear();
+        outcome(&mut outcomes.now, reader, altered.as_slice())?;
+        outcomes.all.update(outcomes.now.as_bytes());
+        outcomes.all.update(b"\n".as_slice());
+        push_change(said, &mut outcomes.last, outcomes.now.as_str(), place)?;
     }
     Ok(())
 }
 
-fn cuts(
+// The same, and behind changes the SHA-256 of all outcomes.
+fn altered(
     said: &mut String,
-    alloc: Global,
-    table: &str,
-    word: &str,
+    reader: &Reader<'_>,
+    form: &str,
     bytes: &[u8],
 ) -> Result<(), AllocError> {
-    let mut last = String::new(alloc);
-    let mut now = String::new(alloc);
-    push_cuts(said, &mut last, &mut now, alloc, table, word, bytes)
+    let alloc = reader.alloc;
+    let mut outcomes = Outcomes {
+        last: String::new(alloc),
+        now: String::new(alloc),
+        all: Sha256::new(),
+    };
+    let mut altered = Vec::new(alloc);
+    push_places(said, &mut outcomes, &mut altered, reader, form, bytes)?;
+    if form == "cuts" {
+        return Ok(());
+    }
+    said.push_str("; ")?;
+    push_digits(said, &outcomes.all.finalize())
 }
 
 // The value alone, or the refusal.
-fn only(
-    said: &mut String,
-    alloc: Global,
-    table: &str,
-    word: &str,
-    bytes: &[u8],
-) -> Result<(), AllocError> {
-    let mut whole = String::new(alloc);
-    outcome(&mut whole, alloc, table, word, bytes)?;
+fn only(said: &mut String, reader: &Reader<'_>, bytes: &[u8]) -> Result<(), AllocError> {
+    let mut whole = String::new(reader.alloc);
+    outcome(&mut whole, reader, bytes)?;
     match whole.as_str().split_once('\n') {
         Some((value, _spelling)) => said.push_str(value),
         None => said.push_str(whole.as_str()),
@@ -140,14 +182,18 @@ fn all(
     form: &str,
     words: &[&str],
 ) -> Result<(), AllocError> {
-    let name = word(words, 0);
+    let reader = Reader {
+        alloc,
+        table,
+        word: word(words, 0),
+    };
     let bytes = whole(alloc, words)?;
     match form {
-        "cuts" => cuts(said, alloc, table, name, &bytes),
-        "only" => only(said, alloc, table, name, &bytes),
+        "cuts" | "zeroed" | "ones" | "turned" => altered(said, &reader, form, &bytes),
+        "only" => only(said, &reader, &bytes),
         _ => {
             let length = word(words, 2).parse::<usize>().unwrap_or(bytes.len());
-            outcome(said, alloc, table, name, front(&bytes, length))
+            outcome(said, &reader, front(&bytes, length))
         }
     }
 }
@@ -162,7 +208,7 @@ pub fn answer(
     let form = word(words, 0);
     let behind = words.get(1..).unwrap_or(&[]);
     match form {
-        "cuts" => write!(said, "cuts {}:", word(behind, 0))?,
+        "cuts" | "zeroed" | "ones" | "turned" => write!(said, "{form} {}:", word(behind, 0))?,
         "only" => write!(said, "{}: ", word(behind, 0))?,
         _ => {
             write!(said, "{form}: ")?;

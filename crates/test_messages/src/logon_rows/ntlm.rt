@@ -76,12 +76,11 @@ fn type3(said: &mut String, alloc: Global, m: &[u8]) -> Result<(), AllocError> {
 }
 
 /// What is said of one of the three messages, and its canonical spelling.
-pub fn message(said: &mut String, alloc: Global, words: &[&str]) -> Result<(), AllocError> {
-    let m = bytes_in(alloc, words, 1)?;
-    match word(words, 0) {
-        "type1" => type1(said, alloc, &m),
-        "type2" => type2(said, alloc, &m),
-        _ => type3(said, alloc, &m),
+pub fn message(said: &mut String, alloc: Global, word: &str, m: &[u8]) -> Result<(), AllocError> {
+    match word {
+        "type1" => type1(said, alloc, m),
+        "type2" => type2(said, alloc, m),
+        _ => type3(said, alloc, m),
     }
 }
 

@@ -1,6 +1,6 @@
 //! SPNEGO tokens, read and written again.
 use crate::vectors::{refused, unwritten};
-use crate::words::{bytes_in, push_bytes, push_digits};
+use crate::words::{push_bytes, push_digits};
 use crypto_sessions::{
     InitToken, RespToken, can_write_init, can_write_resp, read_init, read_resp, write_init,
     write_resp,
@@ -56,18 +56,16 @@ fn push_resp(said: &mut String, alloc: Global, token: &RespToken) -> Result<(), 
 }
 
 /// What is said of a first token.
-pub fn init(said: &mut String, alloc: Global, words: &[&str]) -> Result<(), AllocError> {
-    let bytes = bytes_in(alloc, words, 1)?;
-    match read_init(alloc, &bytes) {
+pub fn init(said: &mut String, alloc: Global, m: &[u8]) -> Result<(), AllocError> {
+    match read_init(alloc, m) {
         Ok(token) => push_init(said, alloc, &token),
         Err(refusal) => refused(said, &refusal),
     }
 }
 
 /// What is said of another token.
-pub fn resp(said: &mut String, alloc: Global, words: &[&str]) -> Result<(), AllocError> {
-    let bytes = bytes_in(alloc, words, 1)?;
-    match read_resp(alloc, &bytes) {
+pub fn resp(said: &mut String, alloc: Global, m: &[u8]) -> Result<(), AllocError> {
+    match read_resp(alloc, m) {
         Ok(token) => push_resp(said, alloc, &token),
         Err(refusal) => refused(said, &refusal),
     }

@@ -25,12 +25,17 @@ fn push_offer(said: &mut String, alloc: Global, offer: &Offer) -> Result<(), All
     }
 }
 
+/// What is said of so many contexts.
+pub fn offered(said: &mut String, alloc: Global, count: u16, m: &[u8]) -> Result<(), AllocError> {
+    match read_contexts(alloc, m, count)? {
+        Ok(offer) => push_offer(said, alloc, &offer),
+        Err(refusal) => refused(said, &refusal),
+    }
+}
+
 /// The answer to a row of contexts: their number, and the digits.
 pub fn answer(said: &mut String, alloc: Global, words: &[&str]) -> Result<(), AllocError> {
     said.push_str("contexts: ")?;
     let bytes = bytes_in(alloc, words, 2)?;
-    match read_contexts(alloc, &bytes, short(words, 1))? {
-        Ok(offer) => push_offer(said, alloc, &offer),
-        Err(refusal) => refused(said, &refusal),
-    }
+    offered(said, alloc, short(words, 1), &bytes)
 }
