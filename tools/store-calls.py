@@ -100,6 +100,7 @@ class File:
     def __init__(self, path, directory, attributes, now):
         self.path, self.directory, self.marked = path, directory, False
         self.bytes, self.basic = b"", [now, now, now, now, attributes]
+        self.written = b""  # for each byte 1 where it was written since the file had it, else 0
 
 
 class Store:
@@ -113,6 +114,9 @@ class Store:
 
     def used(self):
         return sum(len(file.bytes) for file in self.files.values())
+
+    def held(self):
+        return sum(file.written.count(1) for file in self.files.values())
 
     def has_parent(self, path):
         found = self.find(parent_of(path))
@@ -128,12 +132,12 @@ class Store:
         self.files[number] = File(path, directory, attributes, now)
         return number
 
-    def resized(self, number, data, now):
+    def resized(self, number, data, written, now):
         """The file's bytes become these, where they fit."""
         file = self.files[number]
         if len(data) > len(file.bytes) and self.used() - len(file.bytes) + len(data) > self.room:
             raise Refused(FULL)
-        file.bytes = data
+        file.bytes, file.written = data, written
         file.basic[2] = file.basic[3] = now
 
     def write(self, number, at, data, now):
@@ -142,13 +146,15 @@ class Store:
         old = self.files[number].bytes
         if self.used() - len(old) + max(len(old), at + len(data)) > self.room and at + len(data) > len(old):
             raise Refused(FULL)
-        self.resized(number, old[:at].ljust(at, b"\0") + data + old[at + len(data) :], now)
+        marks, end = self.files[number].written, at + len(data)
+        written = marks[:at].ljust(at, b"\0") + b"\1" * len(data) + marks[end:]
+        self.resized(number, old[:at].ljust(at, b"\0") + data + old[end:], written, now)
 
     def set_end(self, number, length, now):
         old = self.files[number].bytes
         if length > len(old) and self.used() - len(old) + length > self.room:
             raise Refused(FULL)
-        self.resized(number, old[:length].ljust(length, b"\0"), now)
+        self.resized(number, old[:length].ljust(length, b"\0"), self.files[number].written[:length].ljust(length, b"\0"), now)
 
     def rename(self, number, to, replace):
         file = self.files[number]
@@ -541,6 +547,13 @@ class Caller:
             self.call_files: 0.4,
         }
 
+    def lines(self, count):
+        """So many calls, and behind each fiftieth what is held."""
+        for place in range(1, count + 1):
+            yield self.line()
+            if place % 50 == 0:
+                yield f"held = {self.store.held()}"
+
     def line(self):
         self.now += self.chance.randrange(1, 5)
         weights = self.weights()
@@ -559,7 +572,7 @@ def main():
         sys.exit(__doc__)
     seed, count, left_out = int(sys.argv[1]), int(sys.argv[2]), sys.argv[3:]
     caller = Caller(seed, 120000)
-    lines = ["new 120000 = ok", *(caller.line() for _ in range(count - 2)), "files = " + caller.call_files()[1]]
+    lines = ["new 120000 = ok", *caller.lines(count - 2), "files = " + caller.call_files()[1]]
     lines = [line for line in lines if line.split(" ")[0] not in left_out]
     rows = [line if line.startswith("#") else "file " + line for line in [*WORKED.split("\n"), *lines] if line]
     vector_parts.put("test_rows", "stdin", " ".join(["store-calls.py", *sys.argv[1:]]), rows)

@@ -1,4 +1,4 @@
-//! Tables of ciphers, commands, journals, outcomes, files and a client's events, row by row. It is one room because one program reads
+//! Tables of ciphers, commands, journals, outcomes, files, numbers and a client's events, row by row. It is one room because one program reads
 //! them all. Nothing stands on it.
 //!
 //! A row is the name of its table, what is given, ` = ` and what is due. A row that is answered otherwise is written out with its answer.
@@ -10,6 +10,7 @@ mod cipher_rows;
 mod client_scripts;
 mod command_rows;
 mod journal_rows;
+mod number_rows;
 mod outcome_rows;
 mod store_calls;
 mod values;
@@ -44,6 +45,7 @@ fn push_answer<P: Plays>(
         "command" => command_rows::push_answer(said, rt.alloc(), &mut words),
         "file" => store_calls::push_answer(said, rt.alloc(), &mut tables.files, &mut words),
         "journal" => journal_rows::push_answer(said, rt, &mut words),
+        "number" => number_rows::push_answer(said, rt.alloc(), &mut words),
         "outcome" => outcome_rows::push_answer(said, rt.alloc(), &mut words),
         _ => Err(Fault::Other("an unknown table")),
     }
