@@ -5,8 +5,9 @@
 //! them, ` = ` and what is answered. Events in front of a ` > ` prepare the others: all of them succeed. The server stands on
 //! `new`, or by options and flags on `disk=BYTES`, on a disk whose calls fail as `plan=BYTES` says, with `room=BYTES` for all files,
 //! with `sealed` messages, with `any` tokens of a logon, or on a `counting` disk, which keeps nothing. What each word asks stands in `src`; one that is no number,
-//! where one is asked for, is read as 0. Answers were worked by hand from the public documents and from this project's own rules
-//! (`docs/DEFINITIONS.md`). A row that is answered otherwise is written out.
+//! where one is asked for, is read as 0. Behind ` > cuts ` stands one frame, which is taken cut to each length, each time by a new server.
+//! Answers were worked by hand from the public documents and from this project's own rules (`docs/DEFINITIONS.md`); rows of frames were
+//! written by tools/frame-rows.py. A row that is answered otherwise is written out.
 #![tactic(auto)]
 
 mod around;

@@ -5,6 +5,7 @@ use crate::stage::Stage;
 use crate::words::{has, number_or, option, payload};
 use base_outside::MemDisk;
 use std::alloc::Global;
+use std::fmt::Write;
 
 // Events that prepare others.
 fn prepare<S: Runs>(stage: &mut Stage<S>, events: &str) -> Result<(), Fault> {
@@ -70,7 +71,61 @@ fn disk_in(alloc: Global, words: &[&str]) -> Result<MemDisk, Fault> {
     kept(disk_of(alloc, &bytes, &plan))
 }
 
+// Tells what a front of a frame comes to, where that is another than the last one.
+fn push_change(
+    said: &mut String,
+    last: &mut String,
+    told: &str,
+    length: usize,
+) -> Result<(), Fault> {
+    if told == last.as_str() {
+        return Ok(());
+    }
+    let comma = if length == 0 { "" } else { ", " };
+    write!(said, "{comma}{length} {told}")?;
+    last.clear();
+    kept(last.push_str(told))
+}
+
+// What each front of a frame comes to, on a server of its own behind the events that prepare it: the lengths from which that is another.
+fn push_fronts<S: Runs<D = MemDisk>>(
+    said: &mut String,
+    last: &mut String,
+    stage: &mut Stage<S>,
+    alloc: Global,
+    before: &str,
+    word: &str,
+    frame: &[u8],
+) -> Result<(), Fault> {
+    for length in 0..=frame.len() {
+        let front = frame.get(..length).unwrap_or(&[]);
+        stage.begin(kept(disk_of(alloc, &[], &[]))?)?;
+        prepare(stage, before)?;
+        stage.frame(word, front)?;
+        push_change(said, last, stage.said(), length)?;
+    }
+    Ok(())
+}
+
+// The same of `frame DIGITS` or `sealed DIGITS`, the text of a sealed frame being cut before it is sealed.
+fn cut_on<S: Runs<D = MemDisk>>(
+    said: &mut String,
+    alloc: Global,
+    words: &[&str],
+    before: &str,
+    asked: &str,
+) -> Result<(), Fault> {
+    let (word, digits) = asked.split_once(" ").unwrap_or((asked, ""));
+    let frame = payload(alloc, digits)?;
+    let mut stage = Stage::<S>::new(alloc, 268_435_456, has(words, "sealed"), has(words, "any"));
+    let mut last = String::new(alloc);
+    push_fronts(said, &mut last, &mut stage, alloc, before, word, &frame)
+}
+
 fn said_by(said: &mut String, alloc: Global, words: &[&str], events: &str) -> Result<(), Fault> {
+    if let Some((before, asked)) = events.split_once(" > cuts ") {
+        return cut_on::<Running<MemDisk>>(said, alloc, words, before, asked);
+    }
     if has(words, "counting") {
         return said_on::<Running<CountingDisk>>(said, alloc, CountingDisk::new(), words, events);
     }

@@ -1,4 +1,6 @@
 // A server, and the events of a row on it.
+mod frames;
+
 use crate::around::envelope_of;
 use crate::event_calls::{
     Envelope, Fault, config, first_token, kept, second_token, setup_heard, setup_message,
@@ -8,6 +10,7 @@ use crate::requests::{raw, request, write};
 use crate::told::{push_answer, push_digits};
 use crate::words::{has, number_of, option, payload, small, word};
 use base_outside::Disk;
+use conn_core::Conn;
 use server_checks::ServerEvent;
 use server_effects::Answer;
 use std::alloc::{AllocError, Global};
@@ -46,7 +49,8 @@ fn push_files(said: &mut String, files: &[StoredFile]) -> Result<(), AllocError>
     Ok(())
 }
 
-/// A server and the moment of its events, with the last token that it gave, the session that this names, and what was answered last.
+/// A server and the moment of its events, with connection 1 where frames came there, the last token that the server gave, the session
+/// that this names, and what was answered last.
 #[derive(Drop)]
 pub struct Stage<S: Runs> {
     alloc: Global,
@@ -54,6 +58,7 @@ pub struct Stage<S: Runs> {
     encrypts: bool,
     bare: bool,
     server: Option<S>,
+    conn: Option<Conn>,
     now: u64,
     token: Bytes,
     session: u64,
@@ -68,6 +73,7 @@ impl<S: Runs> Stage<S> {
             encrypts,
             bare,
             server: None,
+            conn: None,
             now: 5,
             token: Bytes::new(alloc),
             session: 0,
@@ -93,6 +99,7 @@ impl<S: Runs> Stage<S> {
     /// Begins on what a disk holds: `ok`, or why there is no server.
     pub fn begin(&mut self, disk: S::D) -> Result<(), Fault> {
         self.said.clear();
+        self.conn = None;
         let config = config(self.alloc, self.room, self.encrypts, self.bare)?;
         match S::begin(self.alloc, disk, config) {
             Ok(server) => {
@@ -224,6 +231,10 @@ impl<S: Runs> Stage<S> {
             }
             "write" => self.write(words),
             "raw" => self.raw(words),
+            "frame" | "answer" | "sealed" => {
+                let bytes = payload(self.alloc, word(words, 1))?;
+                self.frame(word(words, 0), bytes.as_slice())
+            }
             _ => self.request(words),
         }
     }

@@ -1,7 +1,8 @@
 use base_outside::Disk;
+use conn_core::{Conn, Ended, Taken, take_frame};
 use journal::JournalError;
 use server_checks::{Config, EventError, ServerEvent};
-use server_core::Server;
+use server_core::{Book, Server};
 use server_effects::Answer;
 use std::alloc::{AllocError, Global};
 use store_files::StoredFile;
@@ -18,6 +19,15 @@ pub trait Runs: Drop {
     /// The answer to one event at this moment, a FILETIME, as `Server::event` gives it; the errors are its.
     fn event(&mut self, now: u64, event: ServerEvent<'_>) -> Result<Answer, EventError>;
 
+    /// What a frame comes to on a connection at this moment, as `take_frame` gives it.
+    fn frame(
+        &mut self,
+        conn: &mut Conn,
+        now: u64,
+        fresh: [u8; 8],
+        frame: &[u8],
+    ) -> Result<Taken, Ended>;
+
     /// All files in byte order of their paths, as `Server::files` gives them.
     fn files(&self) -> Result<Vec<StoredFile>, AllocError>;
 
@@ -28,7 +38,7 @@ pub trait Runs: Drop {
 /// A server that runs.
 #[derive(Drop)]
 pub struct Running<D: Disk> {
-    server: Server<D>,
+    book: Book<D>,
 }
 
 impl<D: Disk + Drop> Runs for Running<D> {
@@ -36,21 +46,34 @@ impl<D: Disk + Drop> Runs for Running<D> {
 
     fn begin(alloc: Global, disk: D, config: Config) -> Result<Running<D>, JournalError> {
         match Server::recover(alloc, disk, config) {
-            Ok(server) => Ok(Running { server }),
+            Ok(server) => Ok(Running {
+                book: Book { alloc, server },
+            }),
             Err(error) => Err(error),
         }
     }
 
     fn event(&mut self, now: u64, event: ServerEvent<'_>) -> Result<Answer, EventError> {
-        self.server.event(now, event)
+        self.book.server.event(now, event)
+    }
+
+    fn frame(
+        &mut self,
+        conn: &mut Conn,
+        now: u64,
+        fresh: [u8; 8],
+        frame: &[u8],
+    ) -> Result<Taken, Ended> {
+        take_frame(conn, &mut self.book, now, fresh, frame)
     }
 
     fn files(&self) -> Result<Vec<StoredFile>, AllocError> {
-        self.server.files()
+        self.book.server.files()
     }
 
     fn stop(self) -> D {
-        let Running { server } = self;
+        let Running { book } = self;
+        let Book { server, .. } = book;
         server.stop()
     }
 }
