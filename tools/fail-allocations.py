@@ -3,33 +3,19 @@
 
 PROGRAM is `test_events` as `rt run` built it. A library that is loaded in front of the C library answers the Nth call of
 malloc with no memory. Where an event then answers `Memory`, each other event must be answered as in a run without that
-one; else the server didn't start, or the program says why it gives up. It prints how often each came about, and each
-answer that is another. The status is 0 where there is none. It needs a C compiler (`cc`), and proves nothing."""
+one; else the server didn't start, or the program says why it gives up. The same goes for frames of a connection, where an
+event that found no memory is answered c0000017 (NO_MEMORY). There each run is made once more, with the next call failing
+too: a connection's first such answer has room that stands by, and so has to come all the same. It prints how often each
+came about, and each answer that is another. The status is 0 where there is none. It needs a C compiler (`cc`) and the
+package `cryptography`, and proves nothing."""
 
 import collections
-import os
 import subprocess
 import sys
 import tempfile
 
-FAILING = """
-#define _GNU_SOURCE
-#include <dlfcn.h>
-#include <errno.h>
-#include <stdio.h>
-#include <stdlib.h>
-static long calls, failing = -2;
-static int fails(void) {
-    if (failing == -2) failing = getenv("FAILING") ? atol(getenv("FAILING")) : -1;
-    return ++calls == failing ? (errno = ENOMEM) : 0;
-}
-#define NEXT(name) static __typeof__(&name) next; if (!next) next = (__typeof__(&name))dlsym(RTLD_NEXT, #name)
-void *malloc(size_t n) { NEXT(malloc); return fails() ? 0 : next(n); }
-void *realloc(void *p, size_t n) { NEXT(realloc); return fails() ? 0 : next(p, n); }
-void *aligned_alloc(size_t a, size_t n) { NEXT(aligned_alloc); return fails() ? 0 : next(a, n); }
-int posix_memalign(void **p, size_t a, size_t n) { NEXT(posix_memalign); return fails() ? ENOMEM : next(p, a, n); }
-__attribute__((destructor)) static void tell(void) { if (getenv("FAILING")) fprintf(stderr, "calls %ld\\n", calls); }
-"""
+from failing_memory import calls_in, failing, library_in
+from worked_file import WorkedFile
 
 EVENTS = """accept 1
 first
@@ -73,50 +59,72 @@ restart
 files""".split("\n")
 
 
-def answers(program, events, library=None, failing=0):
+LACKING = {"new": "Memory", "sealed": "c0000017"}
+
+
+def frames():
+    """A logon, and a file that is created, written, read and closed; each text is sealed under the keys of the connection."""
+    logon, events = WorkedFile("a file", [2, 1, 4, 3], [2, 1], True), ["accept 1"]
+    for place in range(0, len(logon.messages), 2):
+        message = logon.messages[place]
+        events += ["at %d" % (logon.start + place + 1), ("sealed " if message.sealed else "frame ") + message.text.hex()]
+    return events
+
+
+def answers(program, head, events, library=None, number=0, in_a_row=1):
     """what the program answers to the events, or what it writes in their place; and how often it allocated"""
-    more = {"LD_PRELOAD": library, "FAILING": str(failing)} if library else {}
-    row = "new | %s = what is due isn't asked here\n" % "; ".join(events)
-    ran = subprocess.run([program], input=row.encode(), capture_output=True, env={**os.environ, **more}, timeout=60)
+    row = "%s | %s = what is due isn't asked here\n" % (head, "; ".join(events))
+    ran = subprocess.run([program], input=row.encode(), capture_output=True, env=failing(library, number, in_a_row), timeout=60)
     said = ran.stdout.decode(errors="replace").split("\n")[0].rpartition(" = ")[2].split("; ")
-    calls = ran.stderr.decode(errors="replace").rpartition("calls ")[2].split()
-    return (said if ran.returncode == 0 else ["status %d" % ran.returncode]), int(calls[0]) if calls else 0
+    return (said if ran.returncode == 0 else ["status %d" % ran.returncode]), calls_in(ran.stderr)
 
 
-def came_about(program, said, due):
+def came_about(program, head, events, said, due):
     """what came about where an allocation failed, and whether that is right"""
+    word = LACKING[head]
     if said == due:
         return "all is answered as with memory", True
     if said[-1].endswith(("memory ran out", "another than is due")):
         return "given up", True
     if len(said) != len(due):
         return "no start: " + said[0], True
-    lacking = [i for i, word in enumerate(said) if word == "Memory"]
+    if head == "sealed" and "Memory" in said:
+        return "the connection ends as Memory", said[: said.index("Memory")] == due[: said.index("Memory")]
+    lacking = [i for i, told in enumerate(said) if told == word]
     if len(lacking) != 1:
         return "other answers: %s" % said, False
     i = lacking[0]
-    others, _ = answers(program, EVENTS[:i] + EVENTS[i + 1:])
+    others, _ = answers(program, head, events[:i] + events[i + 1:])
     right = said[:i] + said[i + 1:] == others
-    return ("Memory, and the others as without it" if right else "other answers: %s" % said), right
+    return ("%s, and the others as without it" % word if right else "other answers: %s" % said), right
+
+
+def tried(program, library, head, events):
+    """how many runs are wrong"""
+    due, _ = answers(program, head, events)
+    _, count = answers(program, head, events, library)
+    found, wrong = collections.Counter(), 0
+    for n in range(1, count + 1):
+        said, _ = answers(program, head, events, library, n)
+        what, right = came_about(program, head, events, said, due)
+        found[what] += 1
+        wrong += not right
+        if head == "sealed" and LACKING[head] in said:
+            again, _ = answers(program, head, events, library, n, 2)
+            stands = again[: said.index(LACKING[head]) + 1] == said[: said.index(LACKING[head]) + 1]
+            found["the same with the next allocation failing too" if stands else "otherwise with the next one: %s" % again] += 1
+            wrong += not stands
+    print("%d events, %d allocations" % (len(events), count))
+    for what, times in found.most_common():
+        print("%4d %s" % (times, what))
+    return wrong + (len(due) != len(events))
 
 
 def main(program):
     with tempfile.TemporaryDirectory() as folder:
-        library = os.path.join(folder, "failing.so")
-        compiled = ["cc", "-shared", "-fPIC", "-x", "c", "-o", library, "-", "-ldl"]
-        subprocess.run(compiled, input=FAILING.encode(), check=True)
-        due, _ = answers(program, EVENTS)
-        _, count = answers(program, EVENTS, library)
-        found, wrong = collections.Counter(), 0
-        for n in range(1, count + 1):
-            said, _ = answers(program, EVENTS, library, n)
-            what, right = came_about(program, said, due)
-            found[what] += 1
-            wrong += not right
-    print("%d events, %d allocations" % (len(EVENTS), count))
-    for what, times in found.most_common():
-        print("%4d %s" % (times, what))
-    return 1 if wrong or len(due) != len(EVENTS) else 0
+        library = library_in(folder)
+        wrong = sum(tried(program, library, head, events) for head, events in (("new", EVENTS), ("sealed", frames())))
+    return 1 if wrong else 0
 
 
 if __name__ == "__main__":

@@ -1,0 +1,236 @@
+#!/usr/bin/env python3
+"""Lets each allocation of the program fail in turn: tools/fail-program.py PROGRAM [drill] [serve]
+
+PROGRAM is the built `smb311`. A library that is loaded in front of the C library answers the Nth call of malloc with no memory.
+
+drill: two scripts, a file that is written, read and closed, and a server that restarts behind a create. Each run has to print what one
+with memory prints, with status 0, or to end with 8 and a beginning of it.
+
+serve: a server of two connections, whose client makes a session on one and binds the other to it, creates, writes, reads and closes a
+file in turns on both, and asks anew where it is told NO_MEMORY. The server has to end with 0, or with 8 before it listens; an operation
+is answered as with memory, or with NO_MEMORY, or its connection ends, and the server prints that it ended as `memory`. What was
+acknowledged has to stand for a server that is begun in the same folder with memory.
+
+It prints how often each came about, and each run that is wrong. The status is 0 where there is none. It needs a C compiler (`cc`) and,
+for serve, the package `cryptography`; it takes some minutes, and proves nothing."""
+import collections
+import os
+import subprocess
+import sys
+import tempfile
+import time
+
+from failing_memory import calls_in, failing, library_in
+from hostile_client import MAKE, Client, Closed, Link, Refused, Wrong, logged_on
+from hostile_server import free_port
+
+SCRIPTS = {
+    "a file": "op create a.txt rw - create plain\nop write 1 0 68656c6c6f\nop read 1 0 16\nop close 1\nsettle\n",
+    "a restart": "link 0\nop create a rw - create persist\npush 0\nserve 0\nrestart\ncut 0\nsettle\n",
+}
+NO_MEMORY = 0xC0000017
+HELLO, NAME, SECONDS = b"hello", "a.txt", 30
+
+
+class Tally:
+    """How often each came about, and what is wrong."""
+
+    def __init__(self):
+        self.found, self.wrong = collections.Counter(), []
+
+    def told(self, name, calls):
+        print(f"{name}: {calls} allocations")
+        for what, times in self.found.most_common():
+            print(f"{times:6d} {what}")
+        for what in self.wrong:
+            print(f"  WRONG: {what}")
+        return len(self.wrong)
+
+
+# ---- drill
+
+
+def drilled(program, script, library=None, number=0):
+    """The status, what was printed, and how often it allocated."""
+    ran = subprocess.run([program, "drill"], input=script.encode(), capture_output=True, env=failing(library, number), timeout=SECONDS)
+    return ran.returncode, ran.stdout, calls_in(ran.stderr)
+
+
+def drill(program, library):
+    wrong = 0
+    for name, script in SCRIPTS.items():
+        due, tally = drilled(program, script), Tally()
+        assert due[0] == 0, due
+        calls = drilled(program, script, library)[2]
+        for number in range(1, calls + 1):
+            status, printed, _ = drilled(program, script, library, number)
+            if (status, printed) == due[:2]:
+                tally.found["0, and all is printed"] += 1
+            elif status == 8 and due[1].startswith(printed):
+                tally.found["8, and nothing is printed" if not printed else "8, and a beginning is printed"] += 1
+            else:
+                tally.wrong.append(f"call {number}: status {status}, {printed[:200]!r}")
+        wrong += tally.told(f"drill, {name}", calls)
+    return wrong
+
+
+# ---- serve
+
+
+class Served:
+    """A server of so many connections in a folder, and what it came to."""
+
+    def __init__(self, program, folder, count, library=None, number=0):
+        self.port = free_port()
+        words = [program, "serve", f"127.0.0.1:{self.port}", str(count), "info"]
+        pipes = {"stdin": subprocess.DEVNULL, "stdout": subprocess.PIPE, "stderr": subprocess.PIPE}
+        self.process = subprocess.Popen(words, cwd=folder, env=failing(library, number), **pipes)
+
+    def listens(self):
+        """Whether it comes to listen: its socket stands in the kernel's table."""
+        wanted, end = f":{self.port:04X} 00000000:0000 0A", time.monotonic() + SECONDS
+        while time.monotonic() < end and self.process.poll() is None:
+            with open("/proc/net/tcp", encoding="ascii") as table:
+                if wanted in table.read():
+                    return True
+            time.sleep(0.002)
+        return False
+
+    def ended(self):
+        """Its status, its lines, and how often it allocated; one that doesn't end by itself is ended."""
+        try:
+            printed, said = self.process.communicate(timeout=SECONDS)
+        except subprocess.TimeoutExpired:
+            self.process.kill()
+            printed, said = self.process.communicate()
+            return "no end", printed.decode(), calls_in(said)
+        return self.process.returncode, printed.decode(), calls_in(said)
+
+
+class Lost(Exception):
+    """A connection ended before all was done."""
+
+
+class Peer:
+    """The client's side: its connections, whether it was told NO_MEMORY, and what was acknowledged."""
+
+    def __init__(self, port):
+        self.port, self.clients, self.short, self.kept = port, [], False, {}
+
+    def asked(self, call):
+        """What a call gives, asked anew where it is told NO_MEMORY."""
+        for _ in range(3):
+            try:
+                return call()
+            except Refused as refused:
+                if refused.status != NO_MEMORY:
+                    raise
+                self.short = True
+            except Closed as closed:
+                raise Lost from closed
+        raise AssertionError("it is told NO_MEMORY three times")
+
+    def connected(self, to=None):
+        """A connection with a session of its own in the share, or bound to that of another one."""
+        client = self.asked(lambda: Client(self.port, guid=to and to.guid))
+        self.clients.append(client)
+        self.asked(client.negotiate)
+        self.asked(lambda: client.log_on("user", "Password", to=to))
+        if to is None:
+            self.asked(lambda: client.connect_tree("data"))
+        return client
+
+    def works(self):
+        """A file that is created, written, read and closed, in turns on two connections; False where one ends before."""
+        try:
+            first = self.connected()
+            second = self.connected(first)
+            opened = self.asked(lambda: first.create(NAME, disposition=MAKE))
+            self.kept[NAME] = b""
+            self.asked(lambda: second.write(opened.file, 0, HELLO))
+            self.kept[NAME] = HELLO
+            assert self.asked(lambda: first.read(opened.file, 0, 16)) == HELLO, "another content"
+            self.asked(lambda: second.close_file(opened.file))
+        except Lost:
+            return False
+        return True
+
+    def ends(self):
+        """Ends its connections; a server of two waits for the second one."""
+        while len(self.clients) < 2:
+            try:
+                self.clients.append(Link(self.port))
+            except Closed:
+                break
+        for client in self.clients:
+            client.close()
+
+    def may_find(self, content):
+        """Whether the file may have this content, None where it isn't there; what wasn't acknowledged may stand or not."""
+        known = self.kept.get(NAME)
+        return content == HELLO or content == known or known is None and content == b""
+
+
+def stands(program, folder, peer):
+    """Whether a server with memory has in that folder what was acknowledged."""
+    server = Served(program, folder, 1)
+    assert server.listens(), "no server begins there again"
+    client = logged_on(server.port, "user", "Password")
+    content = client.whole(NAME)
+    client.close()
+    return server.ended()[0] == 0 and peer.may_find(content)
+
+
+def came_about(program, folder, library, number):
+    """What a run comes to whose call of this number fails, whether that is right, and how often it allocated."""
+    server = Served(program, folder, 2, library, number)
+    if not server.listens():
+        status, printed, calls = server.ended()
+        return f"{status}, before it listens", status == 8 and not printed, calls
+    peer = Peer(server.port)
+    done = peer.works()
+    peer.ends()
+    status, printed, calls = server.ended()
+    if status == 8:
+        what = "8, when it had listened"
+    elif done:
+        what = f"{status}, and all is answered" + (", once NO_MEMORY in front" if peer.short else "")
+    else:
+        what = f"{status}, and a connection ends as memory"
+    told = "memory" in printed or status == 8
+    return what, status in (0, 8) and (done or told) and stands(program, folder, peer), calls
+
+
+def serve(program, library):
+    tally, number, calls = Tally(), 0, 1
+    while number <= calls:
+        with tempfile.TemporaryDirectory() as folder:
+            try:
+                what, right, count = came_about(program, folder, library, number)
+            except (AssertionError, Refused, Wrong, Closed, TimeoutError) as error:
+                what, right, count = f"{type(error).__name__}: {error}", False, 0
+        if number == 0:
+            assert right, what
+            calls = count
+        elif right:
+            tally.found[what] += 1
+        else:
+            tally.wrong.append(f"call {number}: {what}")
+        number += 1
+    return tally.told("serve, two connections and a file", calls)
+
+
+def main(words):
+    names = words[1:] or ["drill", "serve"]
+    if not words or words[0].startswith("-") or not set(names) <= {"drill", "serve"}:
+        sys.exit(__doc__)
+    program, wrong = os.path.abspath(words[0]), 0
+    with tempfile.TemporaryDirectory() as folder:
+        library = library_in(folder)
+        for name in names:
+            wrong += {"drill": drill, "serve": serve}[name](program, library)
+    return 1 if wrong else 0
+
+
+if __name__ == "__main__":
+    sys.exit(main(sys.argv[1:]))

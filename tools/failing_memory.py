@@ -1,0 +1,49 @@
+"""A library that is loaded in front of the C library, and answers a call of malloc and its like with no memory, or some in a row.
+
+It needs a C compiler (`cc`)."""
+import os
+import subprocess
+
+FAILING = """
+#define _GNU_SOURCE
+#include <dlfcn.h>
+#include <errno.h>
+#include <stdio.h>
+#include <stdlib.h>
+static long calls, failing, last;
+__attribute__((constructor)) static void ask(void) {
+    failing = getenv("FAILING") ? atol(getenv("FAILING")) : 0;
+    last = failing + (getenv("IN_A_ROW") ? atol(getenv("IN_A_ROW")) : 1) - 1;
+}
+static int fails(void) {
+    long call = __atomic_add_fetch(&calls, 1, __ATOMIC_SEQ_CST);
+    return failing > 0 && failing <= call && call <= last ? (errno = ENOMEM) : 0;
+}
+#define NEXT(name) static __typeof__(&name) next; if (!next) next = (__typeof__(&name))dlsym(RTLD_NEXT, #name)
+void *malloc(size_t n) { NEXT(malloc); return fails() ? 0 : next(n); }
+void *realloc(void *p, size_t n) { NEXT(realloc); return fails() ? 0 : next(p, n); }
+void *aligned_alloc(size_t a, size_t n) { NEXT(aligned_alloc); return fails() ? 0 : next(a, n); }
+int posix_memalign(void **p, size_t a, size_t n) { NEXT(posix_memalign); return fails() ? ENOMEM : next(p, a, n); }
+__attribute__((destructor)) static void tell(void) { if (getenv("FAILING")) fprintf(stderr, "calls %ld\\n", calls); }
+"""
+
+
+def library_in(folder):
+    """The library, built there."""
+    library = os.path.join(folder, "failing.so")
+    compiled = ["cc", "-shared", "-fPIC", "-x", "c", "-o", library, "-", "-ldl"]
+    subprocess.run(compiled, input=FAILING.encode(), check=True)
+    return library
+
+
+def failing(library, number, in_a_row=1):
+    """The environment in which the call of this number fails, counted from 1, and those behind it that are told; 0 for none. At its end
+    the process tells `calls N` on standard error."""
+    more = {"LD_PRELOAD": library, "FAILING": str(number), "IN_A_ROW": str(in_a_row)} if library else {}
+    return {**os.environ, **more}
+
+
+def calls_in(said):
+    """How many calls there were, by what was told."""
+    words = said.decode(errors="replace").rpartition("calls ")[2].split()
+    return int(words[0]) if words else 0
