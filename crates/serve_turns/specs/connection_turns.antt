@@ -5,3 +5,4 @@ pub mod Messages
 pub mod Passing
 pub mod Serving
 pub mod Due
+pub mod Drawing

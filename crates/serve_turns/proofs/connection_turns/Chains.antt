@@ -6,7 +6,7 @@ use Rattle.law_wire.proofs.messages.Streams.{whole_stays}
 use Rattle.spec_world.specs.Answering.{Seal}
 use Rattle.spec_world.specs.Ends.{ServerEnd}
 use Rattle.spec_world.specs.Settings.{ServerSettings}
-use Rattle.serve_turns.specs.connection_turns.Frames.{Answers, AnswersAll}
+use Rattle.serve_turns.specs.connection_turns.Frames.{Answers, AnswersAll, AreAtOnce}
 use Rattle.serve_turns.specs.event_book.History.{AllMeet, Course, Placed}
 
 pub meet_front : (z : ServerSettings) (h : Course) (xs ys : List Placed) → AllMeet z h (xs ++ ys) → AllMeet z h xs
@@ -16,6 +16,11 @@ meet_front z h (x ∷ xs) ys m = (m.0, meet_front z h xs ys m.1)
 pub meet_back : (z : ServerSettings) (h : Course) (xs ys : List Placed) → AllMeet z h (xs ++ ys) → AllMeet z h ys
 meet_back z h [] ys m = m
 meet_back z h (x ∷ xs) ys m = meet_back z h xs ys m.1
+
+pub once_both : (now : ℕ) (fresh : List ℕ) (xs ys : List Placed) → AreAtOnce now fresh xs → AreAtOnce now fresh ys
+    → AreAtOnce now fresh (xs ++ ys)
+once_both now fresh [] ys a b = b
+once_both now fresh (x ∷ xs) ys a b = (a.0, a.1, once_both now fresh xs ys a.2 b)
 
 joined : {A : Type 0} (a b c d : List A) → a ≡ b ++ c → a ++ d ≡ b ++ (c ++ d)
 joined a b c d e = ap (λ l. l ++ d) e ∙ append_assoc b c d

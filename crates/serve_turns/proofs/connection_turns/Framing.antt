@@ -1,5 +1,5 @@
 -- One frame of a connection: what was checked of it, the turns of its messages, and its answer, as one step of what was given.
-use Rattle.std.proofs.Common.{◌≡◌, ◌≤◌, ℕ, Bool, true, false, not, ◌&&◌, List, [], length, take, Option, Some, None, Result, Ok, Err}
+use Rattle.std.proofs.Common.{◌≡◌, ◌≤◌, ℕ, Bool, true, false, not, ◌&&◌, List, [], ◌∷◌, length, take, Option, Some, None, Result, Ok, Err}
 use Rattle.std.proofs.Common.{inl, inr, refl, sym, ap, subst, ◌∙◌, append-nil, arith}
 use Rattle.std.specs.Prelude.{is_some}
 use Rattle.spec_exchange.specs.State as model
@@ -30,11 +30,36 @@ use Rattle.conn_core.proofs.Asked.{alone_by, kept_by}
 use Rattle.conn_core.proofs.Composed.{alike_due, answers_of, ends_alike, goes_alike}
 use Rattle.conn_core.proofs.frame_events.Ending.{take_past}
 use Rattle.conn_core.proofs.frame_events.Sharing.{alone}
-use Rattle.serve_turns.specs.connection_turns.Frames.{AreAsked as AskedBy, AreFor, EndsFrame, LacksFrame, StopsFrame, TakesFrame}
+use Rattle.serve_turns.specs.connection_turns.Frames.{AreAsked as AskedBy, AreAtOnce, AreFor, EndsFrame, FindsFirst, LacksFrame}
+use Rattle.serve_turns.specs.connection_turns.Frames.{StopsFrame, TakesFrame}
 use Rattle.serve_turns.specs.connection_turns.Messages.{DealtBy, MessagesEnd, MessagesLack}
 use Rattle.serve_turns.specs.connection_turns.Passing.{FrameComes}
 use Rattle.serve_turns.specs.declared.connection_turns.state.ConnectionState.{ConnectionState}
-use Rattle.serve_turns.specs.event_book.History.{Course, Placed}
+use Rattle.serve_turns.specs.event_book.History.{Course, Off, On, Placed, Stand, Standing}
+
+-- ---- what the first of some turns found
+
+pub record FirstFound (h : Course) (turns : List Placed) : Type 0 where
+  pub stand : Stand
+  pub is : FindsFirst h turns stand.server stand.logons
+
+abbrev nothing_found : Stand
+nothing_found = record { server = nothing_yet; logons = no_logons; records = [] }
+
+on_same : (a b : Stand) → On a ≡ On b → (b.server ≡ a.server) × (b.logons ≡ a.logons)
+on_same a b e =
+    let same : b ≡ a = cc in (ap (λ (s : Stand). s.server) same, ap (λ (s : Stand). s.logons) same)
+
+off_on : (count : ℕ) (b : Stand) → Off count ≡ On b → ⊥
+off_on count b e = absurd (cc)
+
+found_at : (h : Course) (x : Placed) (xs : List Placed) (s : Standing) → h.found x.0 ≡ s → FirstFound h (x ∷ xs)
+found_at h x xs (On st) is = record { stand = st; is = λ b e. on_same st b (sym is ∙ e) }
+found_at h x xs (Off count) is = record { stand = nothing_found; is = λ b e. absurd (off_on count b (sym is ∙ e)) }
+
+pub first_found : (h : Course) (turns : List Placed) → FirstFound h turns
+first_found h [] = record { stand = nothing_found; is = tt }
+first_found h (x ∷ xs) = found_at h x xs (h.found x.0) refl
 
 -- what these messages left, as a step
 abbrev given_frame : Frame → gives.Dealt → GivenStep
@@ -52,24 +77,29 @@ matching missing xs e f = ap (λ (b : Bool). not b && not (is_filled xs)) e ∙ 
 module _ (z : ServerSettings) (h : Course) (k : ℕ) (f : ServerEnd) (before : ℕ) (frame : List ℕ) (turns : List Placed) where
   -- ---- a frame that was checked
 
-  module _ (F : Frame) (heard : check_frame f frame ≡ Ok F) (now : ℕ) where
-    took : (d : gives.Dealt) → DealtBy z h k now F.server_end before F.messages turns d → TakesFrame z h k f before frame turns (given_frame F d)
+  module _ (F : Frame) (heard : check_frame f frame ≡ Ok F) (now : ℕ) (fresh : List ℕ) (server : model.Server) (logons : Logons)
+      (at_once : AreAtOnce now fresh turns) (first : FindsFirst h turns server logons) where
+    took : (d : gives.Dealt) → DealtBy z h k now fresh server logons F.server_end before F.messages turns d
+        → TakesFrame z h k f before frame turns (given_frame F d)
     took d by = record {
       now = now;
-      fresh = by.fresh;
-      server = by.server;
-      logons = by.logons;
+      fresh = fresh;
+      server = server;
+      logons = logons;
+      at_once = at_once;
+      first = first;
       given = by.given;
       are = by.are;
       is = ap (λ (v : gives.Dealt). given_frame F v) by.is
-          ∙ ap (λ (r : Result Frame world.ConnEnd). given_of z k now by.fresh before by.server by.logons f by.given r) (sym heard);
+          ∙ ap (λ (r : Result Frame world.ConnEnd). given_of z k now fresh before server logons f by.given r) (sym heard);
       matches = matching d.missing d.left by.none_missing by.none_left;
-      asked = subst (λ (r : Result Frame world.ConnEnd). AskedBy z k now by.fresh before by.server by.logons by.given r turns) (sym heard)
+      asked = subst (λ (r : Result Frame world.ConnEnd). AskedBy z k now fresh before server logons by.given r turns) (sym heard)
           by.asked;
     }
 
     -- the server stopped
-    stopped : (d : gives.Dealt) (count : ℕ) → DealtBy z h k now F.server_end before F.messages turns d → d.stopped ≡ Some count
+    stopped : (d : gives.Dealt) (count : ℕ) → DealtBy z h k now fresh server logons F.server_end before F.messages turns d
+        → d.stopped ≡ Some count
         → EndsFrame z h k f before frame turns (ends.Stopped count)
     stopped d count by is = record {
       step = given_frame F d;
@@ -78,12 +108,14 @@ module _ (z : ServerSettings) (h : Course) (k : ℕ) (f : ServerEnd) (before : �
     }
 
     -- memory ran out between its messages
-    lacked : MessagesLack z h k now F.server_end before F.messages turns → LacksFrame z h k f before frame turns
+    lacked : MessagesLack z h k now fresh server logons F.server_end before F.messages turns → LacksFrame z h k f before frame turns
     lacked lack = record {
       now = now;
-      fresh = lack.fresh;
-      server = lack.server;
-      logons = lack.logons;
+      fresh = fresh;
+      server = server;
+      logons = logons;
+      at_once = at_once;
+      first = first;
       given = lack.given;
       answered = lack.answered;
       lost = lack.lost;
@@ -94,14 +126,17 @@ module _ (z : ServerSettings) (h : Course) (k : ℕ) (f : ServerEnd) (before : �
     }
 
     -- or behind the last
-    lacked_last : (d : gives.Dealt) → DealtBy z h k now F.server_end before F.messages turns d → LacksFrame z h k f before frame turns
+    lacked_last : (d : gives.Dealt) → DealtBy z h k now fresh server logons F.server_end before F.messages turns d
+        → LacksFrame z h k f before frame turns
     lacked_last d by =
         let all : take (length F.messages) F.messages ≡ F.messages = take_past F.messages (length F.messages) (omega arith) in
         record {
           now = now;
-          fresh = by.fresh;
-          server = by.server;
-          logons = by.logons;
+          fresh = fresh;
+          server = server;
+          logons = logons;
+          at_once = at_once;
+          first = first;
           given = by.given;
           answered = turns;
           lost = [];
@@ -112,8 +147,8 @@ module _ (z : ServerSettings) (h : Course) (k : ℕ) (f : ServerEnd) (before : �
             F,
             length F.messages,
             heard,
-            subst (λ (l : List hearing.Checked). AreFor k F.server_end (asked_all z k now by.fresh F.server_end
-                (first_dealt by.server by.logons F.server_end before by.given) l) turns) (sym all) by.asked,
+            subst (λ (l : List hearing.Checked). AreFor k F.server_end (asked_all z k now fresh F.server_end
+                (first_dealt server logons F.server_end before by.given) l) turns) (sym all) by.asked,
           );
         }
 
@@ -127,7 +162,8 @@ module _ (z : ServerSettings) (h : Course) (k : ℕ) (f : ServerEnd) (before : �
         goes_alike k z.guid (walk_replied d.going.server d.going.logons F.server_end sealed d.going.window d.going.replies)
         (given_frame F d).step bytes new (alike_due F (alone d) sealed goes is) w
 
-    unsaid : (d : gives.Dealt) (sealed : Bool) (why : ConnEnd) → DealtBy z h k now F.server_end before F.messages turns d
+    unsaid : (d : gives.Dealt) (sealed : Bool) (why : ConnEnd) → DealtBy z h k now fresh server logons F.server_end before F.messages
+        turns d
         → d.stopped ≡ None → F.sealed ≡ sealed
         → EndsAs why (walk_replied d.going.server d.going.logons F.server_end sealed d.going.window d.going.replies).ends
         → EndsFrame z h k f before frame turns why
@@ -139,7 +175,8 @@ module _ (z : ServerSettings) (h : Course) (k : ℕ) (f : ServerEnd) (before : �
     }
 
     said : (d : gives.Dealt) (sealed : Bool) (new : ConnectionState) (result : Result (List ℕ) ConnEnd)
-        → DealtBy z h k now F.server_end before F.messages turns d → new.setups ≡ d.setups → d.stopped ≡ None → F.sealed ≡ sealed
+        → DealtBy z h k now fresh server logons F.server_end before F.messages turns d → new.setups ≡ d.setups → d.stopped ≡ None
+        → F.sealed ≡ sealed
         → WalkReplies k z.guid (walk_replied d.going.server d.going.logons F.server_end sealed d.going.window d.going.replies) new.conn result
         → FrameComes z h k f before frame turns result new
     said d sealed new (Ok bytes) by count goes is w =
@@ -170,11 +207,12 @@ module _ (z : ServerSettings) (h : Course) (k : ℕ) (f : ServerEnd) (before : �
 
     -- its messages were not all answered
     stops_so : (old new : ConnectionState) (x : CheckedFrame) (e : Dealt) (why : ConnEnd) → old.setups ≡ before
-        → MessagesEnd z h k now F.server_end old F.messages turns new x e (Err why) → StopsFrame z h k f before frame turns why
+        → MessagesEnd z h k now fresh server logons F.server_end old F.messages turns new x e (Err why)
+        → StopsFrame z h k f before frame turns why
     stops_so old new x e ends.Memory same end =
-        lacked (subst (λ (n : ℕ). MessagesLack z h k now F.server_end n F.messages turns) same end)
+        lacked (subst (λ (n : ℕ). MessagesLack z h k now fresh server logons F.server_end n F.messages turns) same end)
     stops_so old new x e (ends.Stopped count) same (d, by, is) =
-        stopped d count (subst (λ (n : ℕ). DealtBy z h k now F.server_end n F.messages turns d) same by) is
+        stopped d count (subst (λ (n : ℕ). DealtBy z h k now fresh server logons F.server_end n F.messages turns d) same by) is
     stops_so old new x e ends.BadFrame same end = absurd end
     stops_so old new x e (ends.OutsideWindow id) same end = absurd end
     stops_so old new x e ends.SecondNegotiate same end = absurd end
@@ -184,24 +222,25 @@ module _ (z : ServerSettings) (h : Course) (k : ℕ) (f : ServerEnd) (before : �
     stops_so old new x e (ends.LinkFault count) same end = absurd end
 
     pub frame_stops : (j : ℕ) (old new : ConnectionState) (x : CheckedFrame) (e : Dealt) (why : ConnEnd) → j ≡ k → old.setups ≡ before
-        → MessagesEnd z h j now F.server_end old F.messages turns new x e (Err why) → StopsFrame z h k f before frame turns why
+        → MessagesEnd z h j now fresh server logons F.server_end old F.messages turns new x e (Err why)
+        → StopsFrame z h k f before frame turns why
     frame_stops j old new x e why number same end =
         stops_so old new x e why same
-        (subst (λ (i : ℕ). MessagesEnd z h i now F.server_end old F.messages turns new x e (Err why)) number end)
+        (subst (λ (i : ℕ). MessagesEnd z h i now fresh server logons F.server_end old F.messages turns new x e (Err why)) number end)
 
     -- they were, and here is what came of the answer
     pub frame_comes : (j : ℕ) (old mid new : ConnectionState) (at x : CheckedFrame) (e : Dealt) (result : Result (List ℕ) ConnEnd)
         → j ≡ k → old.setups ≡ before → new.setups ≡ mid.setups → F.sealed ≡ at.sealed → (x.sealed ≡ at.sealed) × (x.moment ≡ at.moment)
         → at.moment ≡ now → (at.sealed ≡ true → MaySeal F.server_end.keys) → GreetsFirst F.messages
         → AreAsked F.server_end.asked F.messages → F.server_end.counter ≤ last_counter → ShowsEnd k z.guid mid.conn F.server_end
-        → MessagesEnd z h j now F.server_end old F.messages turns mid x e (Ok tt)
+        → MessagesEnd z h j now fresh server logons F.server_end old F.messages turns mid x e (Ok tt)
         → ((s : model.Server) (L : Logons) (cs : List hearing.Checked) (ss : List answering.SaidReply) (w : HeldIds)
         → ShowsEnd mid.conn.id z.guid mid.conn F.server_end → AreAnswers z F.server_end cs ss w x e.replies.items.items
         → WalkReplies mid.conn.id z.guid (walk_replied s L F.server_end x.sealed w ss) new.conn result)
         → FrameComes z h k f before frame turns result new
     frame_comes j old mid new at x e result number same stays is kept time seals greets asked bound shows end answers =
-        let all : MessagesEnd z h k now F.server_end old F.messages turns mid x e (Ok tt) =
-        subst (λ (i : ℕ). MessagesEnd z h i now F.server_end old F.messages turns mid x e (Ok tt)) number end in
+        let all : MessagesEnd z h k now fresh server logons F.server_end old F.messages turns mid x e (Ok tt) =
+        subst (λ (i : ℕ). MessagesEnd z h i now fresh server logons F.server_end old F.messages turns mid x e (Ok tt)) number end in
         let d = all.0 in
         let went = all.3 in
         let on : GoesThrough z now F.server_end F.messages x e (alone d) = record {
@@ -213,7 +252,8 @@ module _ (z : ServerSettings) (h : Course) (k : ℕ) (f : ServerEnd) (before : �
         } in
         let mine : ShowsEnd mid.conn.id z.guid mid.conn F.server_end =
         subst (λ (i : ℕ). ShowsEnd i z.guid mid.conn F.server_end) (sym shows.number) shows in
-        said d x.sealed new result (subst (λ (n : ℕ). DealtBy z h k now F.server_end n F.messages turns d) same all.1) (stays ∙ all.2)
+        said d x.sealed new result (subst (λ (n : ℕ). DealtBy z h k now fresh server logons F.server_end n F.messages turns d) same
+        all.1) (stays ∙ all.2)
         went.goes (is ∙ sym kept.0)
         (subst (λ (i : ℕ). WalkReplies i z.guid (walk_replied d.going.server d.going.logons F.server_end x.sealed d.going.window
         d.going.replies) new.conn result) shows.number
@@ -229,6 +269,8 @@ frame_lacks z h k f before frame = record {
   fresh = [];
   server = nothing_yet;
   logons = no_logons;
+  at_once = tt;
+  first = tt;
   given = [];
   answered = [];
   lost = [];
@@ -248,6 +290,8 @@ frame_ends z h k f before frame cause why heard is = record {
     fresh = [];
     server = nothing_yet;
     logons = no_logons;
+    at_once = tt;
+    first = tt;
     given = [];
     are = tt;
     is = ap (λ (r : Result Frame world.ConnEnd). given_of z k 0 [] before nothing_yet no_logons f [] r) (sym heard);

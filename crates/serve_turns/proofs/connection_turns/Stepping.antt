@@ -2,8 +2,9 @@
 use Rattle.std.proofs.Common.{◌≡◌, ◌<◌, ◌≤◌, ℕ, ◌+◌, ◌==◌, ◌&&◌, min, if◌then◌else◌, Bool, true, false, List, [], ◌∷◌, ◌++◌, length}
 use Rattle.std.proofs.Common.{Option, Some, None, Result, Ok, Err}
 use Rattle.std.proofs.Common.{slice_get, option_map, ◌⊎◌, inl, inr, refl, sym, ap, subst, ◌∙◌, append-nil, arith}
+use Rattle.spec_exchange.specs.State as model
 use Rattle.spec_exchange.specs.Status.{insufficient_resources}
-use Rattle.spec_world.specs.Ends.{ServerEnd}
+use Rattle.spec_world.specs.Ends.{Logons, ServerEnd}
 use Rattle.spec_world.specs.Given.{is_past_setups}
 use Rattle.spec_world.specs.Hearing as hearing
 use Rattle.spec_world.specs.Related as related
@@ -26,11 +27,15 @@ use Rattle.conn_core.proofs.frame_events.Sharing.{alone}
 use Rattle.conn_core.proofs.frame_events.Shorts.{kept_err, kept_ok, long_err, long_ok, short_one, short_refused}
 use Rattle.conn_core.proofs.frame_events.SoFar.{facts_moved}
 use Rattle.conn_core.proofs.frame_events.Stepping.{Place, carried_so, ready_fails, ready_goes}
+use Rattle.serve_turns.specs.connection_turns.Frames.{AreAtOnce, HasBytes}
 use Rattle.serve_turns.specs.connection_turns.Messages.{AsksNothing, DealsInTurn, MessageSteps, MessagesSoFar, RefusesLate, TakesMessage}
 use Rattle.serve_turns.specs.connection_turns.Messages.{TakesTurn}
+use Rattle.serve_turns.specs.connection_turns.Turning.{message_turn}
 use Rattle.serve_turns.specs.declared.connection_turns.state.ConnectionState.{ConnectionState}
 use Rattle.serve_turns.specs.declared.event_book.turn.Answer.{Answer}
+use Rattle.serve_turns.specs.declared.event_book.turn.Asks.{Asks}
 use Rattle.serve_turns.specs.declared.event_book.turn.Turn.{Turn}
+use Rattle.serve_turns.specs.declared.event_book.turn.What.{What}
 use Rattle.serve_turns.specs.declared.shared_book.view.View.{View}
 use Rattle.serve_turns.specs.event_book.History.{Course, Placed}
 use Rattle.serve_turns.proofs.connection_turns.Taking.{Turned, early_of, late_of, message_answered, message_ends, message_fails}
@@ -66,23 +71,30 @@ none_err d e (ends.LinkFault count) adds = adds
 none_err d e (ends.Stopped count) adds = let no : None ≡ Some count = adds.0 in absurd cc
 none_err d e ends.Memory adds = let no : false ≡ true = adds.0 in absurd cc
 
-module _ (z : ServerSettings) (h : Course) (conn : Conn) (now : ℕ) (f : ServerEnd) (before : ℕ) (cs : List hearing.Checked) (at : ℕ)
+-- a message's turn has the moment and the random bytes that it was given
+once_by : (now : ℕ) (fresh : List ℕ) (turn : Placed) (a : Asks) → turn.1.event ≡ message_turn now a → a.told.fresh ≡ fresh
+    → AreAtOnce now fresh (turn ∷ [])
+once_by now fresh turn a is bytes =
+    (ap (λ (t : Turn). t.now) is, subst (λ (w : What). HasBytes fresh w) (sym (ap (λ (t : Turn). t.what) is)) bytes, tt)
+
+module _ (z : ServerSettings) (h : Course) (conn : Conn) (now : ℕ) (fresh : List ℕ) (server : model.Server) (logons : Logons)
+    (f : ServerEnd) (before : ℕ) (cs : List hearing.Checked) (at : ℕ)
     (former : List Placed) (setups : ℕ) (old : CheckedFrame) (d : Dealt) (y : Option related.Carry)
-    (s : MessagesSoFar z h conn.id now f before cs at former setups old d y) (x : CheckedFrame) (m n : Checked)
+    (s : MessagesSoFar z h conn.id now fresh server logons f before cs at former setups old d y) (x : CheckedFrame) (m n : Checked)
     (b : Became y old x at m n) where
-  moved_on : Facts z conn.id now s.fresh s.server s.logons f cs at (at + 1) x d y s.more (alone s.d)
-  moved_on = facts_moved z conn.id now s.fresh s.server s.logons f cs at old x m d y s.more (alone s.d) b.order b.others b.was s.facts
+  moved_on : Facts z conn.id now fresh server logons f cs at (at + 1) x d y s.more (alone s.d)
+  moved_on = facts_moved z conn.id now fresh server logons f cs at old x m d y s.more (alone s.d) b.order b.others b.was s.facts
 
   fails_so : InheritsAs y old x m n false → length old.messages.items ≡ length cs
-      → MessagesSoFar z h conn.id now f before cs (at + 1) (former ++ []) setups x d y
+      → MessagesSoFar z h conn.id now fresh server logons f before cs (at + 1) (former ++ []) setups x d y
   fails_so turn long =
       let less : at < length old.messages.items = b.less in
       let c = there_checked cs at (omega (arith, less, long)) in
       let was = s.facts.rest at m c.0 (omega arith) b.was c.1 in
       let mine = turn c.0 (carried_so old.bytes.items m c.0 was.0) was.0.related was.1 in
-      let r = ready_fails z conn.id now s.fresh s.server s.logons f cs at old x m n c.0 d y s.more (alone s.d) b.others b.here c.1 was.0
+      let r = ready_fails z conn.id now fresh server logons f cs at old x m n c.0 d y s.more (alone s.d) b.others b.here c.1 was.0
       mine b.span b.link s.facts in
-      message_fails z h conn.id now f before cs at former setups old d y s x moved_on n c.0 r.0 r.1 r.2 r.3
+      message_fails z h conn.id now fresh server logons f before cs at former setups old d y s x moved_on n c.0 r.0 r.1 r.2 r.3
 
   -- it goes its way to the definitions
   record Ready : Type 0 where
@@ -99,15 +111,16 @@ module _ (z : ServerSettings) (h : Course) (conn : Conn) (now : ℕ) (f : Server
       let c = there_checked cs at (omega (arith, less, long)) in
       let was = s.facts.rest at m c.0 (omega arith) b.was c.1 in
       let mine = turn c.0 (carried_so old.bytes.items m c.0 was.0) was.0.related was.1 in
-      let r = ready_goes z conn.id now s.fresh s.server s.logons f cs at old x m n c.0 d y s.more (alone s.d) b.others b.here c.1 was.0
+      let r = ready_goes z conn.id now fresh server logons f cs at old x m n c.0 d y s.more (alone s.d) b.others b.here c.1 was.0
       mine b.span b.link s.facts in
       record { c = c.0; t = r.0; place = r.1; goes = r.2; carried = r.3; none = r.4 }
 
   none_so : (e : Dealt) (result : Result Carry ConnEnd) → Ready → has_message_event n ≡ false
       → DealsOne n (message_in x.bytes.items n) y None d e result
-      → MessageSteps z h conn.id now f before cs (at + 1) (former ++ []) setups x e (handed result)
+      → MessageSteps z h conn.id now fresh server logons f before cs (at + 1) (former ++ []) setups x e (handed result)
   none_so e (Ok u) r plain deals =
-      message_plain z h conn.id now f before cs at former setups old d y s x moved_on n r.c r.t r.place r.goes r.none e u plain deals.adds.2
+      message_plain z h conn.id now fresh server logons f before cs at former setups old d y s x moved_on n r.c r.t r.place r.goes
+      r.none e u plain deals.adds.2
       deals.took (deals.carries r.t r.carried)
   none_so e (Err why) r plain deals = absurd (none_err d e why deals.adds)
 
@@ -115,19 +128,22 @@ module _ (z : ServerSettings) (h : Course) (conn : Conn) (now : ℕ) (f : Server
       → has_message_event n ≡ true → Turned z h conn.id now f x at r.t given turn → is_past_setups setups n.header ≡ false
       → after ≡ (if n.header.command == 1 then min (setups + 1) 4294967295 else setups)
       → DealsOne n (message_in x.bytes.items n) y given d e result
-      → MessageSteps z h conn.id now f before cs (at + 1) (former ++ turn ∷ []) after x e (handed result)
+      → MessageSteps z h conn.id now fresh server logons f before cs (at + 1) (former ++ turn ∷ []) after x e (handed result)
   turn_so after given turn e (Ok u) r event w early counts deals =
-      message_answered z h conn.id now f before cs at former setups old d y s x moved_on n r.c r.t r.place r.goes r.none event after given turn
+      message_answered z h conn.id now fresh server logons f before cs at former setups old d y s x moved_on n r.c r.t r.place r.goes
+      r.none event after given turn
       e u w early counts deals.adds.0 deals.adds.1 deals.adds.2 deals.took (deals.carries r.t r.carried)
   turn_so after given turn e (Err why) r event w early counts deals =
-      message_ends z h conn.id now f before cs at former setups old d y s x moved_on n r.c r.t r.place r.goes r.none event given turn e after
+      message_ends z h conn.id now fresh server logons f before cs at former setups old d y s x moved_on n r.c r.t r.place r.goes r.none
+      event given turn e after
       why w early deals.adds
 
   late_so : (e : Dealt) (result : Result Carry ConnEnd) → Ready → has_message_event n ≡ true → is_past_setups setups n.header ≡ true
       → RefusesOne n (message_in x.bytes.items n) y insufficient_resources d e result
-      → MessageSteps z h conn.id now f before cs (at + 1) (former ++ []) setups x e (handed result)
+      → MessageSteps z h conn.id now fresh server logons f before cs (at + 1) (former ++ []) setups x e (handed result)
   late_so e (Ok u) r event past refuses =
-      message_refused z h conn.id now f before cs at former setups old d y s x moved_on n r.c r.t r.place r.goes r.none event refuses.0 e u
+      message_refused z h conn.id now fresh server logons f before cs at former setups old d y s x moved_on n r.c r.t r.place r.goes
+      r.none event refuses.0 e u
       past refuses.1 refuses.2 refuses.3 (refuses.4 r.t r.carried)
   late_so e (Err ends.BadFrame) r event past refuses = absurd refuses
   late_so e (Err (ends.OutsideWindow id)) r event past refuses = absurd refuses
@@ -138,58 +154,64 @@ module _ (z : ServerSettings) (h : Course) (conn : Conn) (now : ℕ) (f : Server
   late_so e (Err (ends.LinkFault count)) r event past refuses = absurd refuses
   late_so e (Err (ends.Stopped count)) r event past refuses = absurd refuses
   late_so e (Err ends.Memory) r event past refuses =
-      message_lacks z h conn.id now f before cs at former setups old d y s x moved_on
+      message_lacks z h conn.id now fresh server logons f before cs at former setups old d y s x moved_on
 
 -- ---- the whole, for a seat
 
-module _ {B : Type 0} (v w : View B Turn Answer) (now : ℕ) (state new : ConnectionState) (old x : CheckedFrame) (at : ℕ)
+module _ {B : Type 0} (v w : View B Turn Answer) (now : ℕ) (fresh : List ℕ) (state new : ConnectionState) (old x : CheckedFrame) (at : ℕ)
     (y : Option related.Carry) (d e : Dealt) (m n : Checked) (b : Became y old x at m n) where
   -- what stands for a message that takes no turn
   none_taken : (result : Result Carry ConnEnd) → InheritsAs y old x m n true → new ≡ state → w ≡ v
-      → ((z : ServerSettings) (h : Course) (f : ServerEnd) (cs : List hearing.Checked) (before : ℕ) (former : List Placed)
-      (s : MessagesSoFar z h state.conn.id now f before cs at former state.setups old d y)
+      → ((z : ServerSettings) (h : Course) (server : model.Server) (logons : Logons) (f : ServerEnd) (cs : List hearing.Checked)
+      (before : ℕ)
+      (former : List Placed)
+      (s : MessagesSoFar z h state.conn.id now fresh server logons f before cs at former state.setups old d y)
       → length old.messages.items ≡ length cs
-      → MessageSteps z h state.conn.id now f before cs (at + 1) (former ++ []) state.setups x e (handed result))
-      → TakesMessage v now state old at y d new x e (handed result) w
+      → MessageSteps z h state.conn.id now fresh server logons f before cs (at + 1) (former ++ []) state.setups x e (handed result))
+      → TakesMessage v now fresh state old at y d new x e (handed result) w
   none_taken result turn same stays steps = record {
     turns = [];
     own = ap (λ (u : View B Turn Answer). u.own) stays ∙ sym (append-nil v.own);
+    at_once = tt;
     conn = ap (λ (q : ConnectionState). q.conn) same;
-    steps = λ z h f cs before former all conn alone long s.
-        subst (λ (k : ℕ). MessageSteps z h state.conn.id now f before cs (at + 1) (former ++ []) k x e (handed result))
-        (sym (ap (λ (q : ConnectionState). q.setups) same)) (steps z h f cs before former s long);
+    steps = λ z h server logons f cs before former all conn alone long s.
+        subst (λ (k : ℕ). MessageSteps z h state.conn.id now fresh server logons f before cs (at + 1) (former ++ []) k x e (handed result))
+        (sym (ap (λ (q : ConnectionState). q.setups) same)) (steps z h server logons f cs before former s long);
   }
 
   taken_late : (result : Result Carry ConnEnd) → InheritsAs y old x m n true
-      → RefusesLate v state n (message_in x.bytes.items n) y d new e result w → TakesMessage v now state old at y d new x e (handed result) w
+      → RefusesLate v state n (message_in x.bytes.items n) y d new e result w → TakesMessage v now fresh state old at y d new x e
+      (handed result) w
   taken_late result turn late =
       let p = late_of n state.setups late.late in
-      none_taken result turn late.state late.same (λ z h f cs before former s long.
-      late_so z h state.conn now f before cs at former state.setups old d y s x m n b e result
-      (ready z h state.conn now f before cs at former state.setups old d y s x m n b turn long) p.0 p.1 late.refuses)
+      none_taken result turn late.state late.same (λ z h server logons f cs before former s long.
+      late_so z h state.conn now fresh server logons f before cs at former state.setups old d y s x m n b e result
+      (ready z h state.conn now fresh server logons f before cs at former state.setups old d y s x m n b turn long) p.0 p.1 late.refuses)
 
   taken_plain : (result : Result Carry ConnEnd) (given : EventAnswer) → InheritsAs y old x m n true
       → DealsOne n (message_in x.bytes.items n) y given d e result → AsksNothing v state n new given w
-      → TakesMessage v now state old at y d new x e (handed result) w
+      → TakesMessage v now fresh state old at y d new x e (handed result) w
   taken_plain result given turn deals asks =
       let none : DealsOne n (message_in x.bytes.items n) y None d e result =
       subst (λ (g : EventAnswer). DealsOne n (message_in x.bytes.items n) y g d e result) asks.is deals in
-      none_taken result turn asks.state asks.same (λ z h f cs before former s long.
-      none_so z h state.conn now f before cs at former state.setups old d y s x m n b e result
-      (ready z h state.conn now f before cs at former state.setups old d y s x m n b turn long) asks.none none)
+      none_taken result turn asks.state asks.same (λ z h server logons f cs before former s long.
+      none_so z h state.conn now fresh server logons f before cs at former state.setups old d y s x m n b e result
+      (ready z h state.conn now fresh server logons f before cs at former state.setups old d y s x m n b turn long) asks.none none)
 
   taken_turn : (result : Result Carry ConnEnd) (given : EventAnswer) → InheritsAs y old x m n true
       → (has_message_event n && is_past_setups state.setups n.header) ≡ false
-      → DealsOne n (message_in x.bytes.items n) y given d e result → TakesTurn v now state x at n new given w
-      → TakesMessage v now state old at y d new x e (handed result) w
+      → DealsOne n (message_in x.bytes.items n) y given d e result → TakesTurn v now fresh state x at n new given w
+      → TakesMessage v now fresh state old at y d new x e (handed result) w
   taken_turn result given turn early deals asks = record {
     turns = asks.turn ∷ [];
     own = asks.own;
+    at_once = once_by now fresh asks.turn asks.asks asks.is_turn asks.fresh_is;
     conn = asks.conn;
-    steps = λ z h f cs before former all shows alone long s.
-        let r = ready z h state.conn now f before cs at former state.setups old d y s x m n b turn long in
+    steps = λ z h server logons f cs before former all shows alone long s.
+        let r = ready z h state.conn now fresh server logons f before cs at former state.setups old d y s x m n b turn long in
         let told = asks.told z.guid f n r.t shows b.here r.place.shows in
-        turn_so z h state.conn now f before cs at former state.setups old d y s x m n b new.setups given asks.turn e result r asks.event
+        turn_so z h state.conn now fresh server logons f before cs at former state.setups old d y s x m n b new.setups given asks.turn e
+        result r asks.event
         (record {
           asks = asks.asks;
           frame = asks.frame;
@@ -204,26 +226,29 @@ module _ {B : Type 0} (v w : View B Turn Answer) (now : ℕ) (state new : Connec
 
   -- it goes its way
   pub takes_going : (result : Result Carry ConnEnd) → InheritsAs y old x m n true
-      → RefusesLate v state n (message_in x.bytes.items n) y d new e result w ⊎ DealsInTurn v now state x at n y d new e result w
-      → TakesMessage v now state old at y d new x e (handed result) w
+      → RefusesLate v state n (message_in x.bytes.items n) y d new e result w ⊎ DealsInTurn v now fresh state x at n y d new e result w
+      → TakesMessage v now fresh state old at y d new x e (handed result) w
   takes_going result turn (inl late) = taken_late result turn late
   takes_going result turn (inr deals) = by deals.answers
     where
-      by : AsksNothing v state n new deals.given w ⊎ TakesTurn v now state x at n new deals.given w
-          → TakesMessage v now state old at y d new x e (handed result) w
+      by : AsksNothing v state n new deals.given w ⊎ TakesTurn v now fresh state x at n new deals.given w
+          → TakesMessage v now fresh state old at y d new x e (handed result) w
       by (inl none) = taken_plain result deals.given turn deals.deals none
       by (inr asks) = taken_turn result deals.given turn deals.early deals.deals asks
 
 -- it fails with a CREATE before it
-pub takes_failed : {B : Type 0} (v : View B Turn Answer) (now : ℕ) (state : ConnectionState) (old x : CheckedFrame) (at : ℕ)
+pub takes_failed : {B : Type 0} (v : View B Turn Answer) (now : ℕ) (fresh : List ℕ) (state : ConnectionState) (old x : CheckedFrame)
+    (at : ℕ)
     (c : Option Carry) (d : Dealt) (m n : Checked) → Became (option_map carry_of c) old x at m n
-    → InheritsAs (option_map carry_of c) old x m n false → TakesMessage v now state old at (option_map carry_of c) d state x d (Ok c) v
-takes_failed v now state old x at c d m n b turn = record {
+    → InheritsAs (option_map carry_of c) old x m n false → TakesMessage v now fresh state old at (option_map carry_of c) d state x d
+    (Ok c) v
+takes_failed v now fresh state old x at c d m n b turn = record {
   turns = [];
   own = sym (append-nil v.own);
+  at_once = tt;
   conn = refl;
-  steps = λ z h f cs before former all conn alone long s.
-      fails_so z h state.conn now f before cs at former state.setups old d (option_map carry_of c) s x m n b turn long;
+  steps = λ z h server logons f cs before former all conn alone long s.
+      fails_so z h state.conn now fresh server logons f before cs at former state.setups old d (option_map carry_of c) s x m n b turn long;
 }
 
 -- ---- its answers: one more at most, and each body fits
@@ -270,18 +295,20 @@ one_short m bytes y given d e (Ok u) deals short = kept_ok given d e deals.adds.
 one_short m bytes y given d e (Err why) deals short = kept_err given d e why deals.adds deals.short short
 
 module _ {B : Type 0} where
-  pub long_more : (v w : View B Turn Answer) (now : ℕ) (old new : ConnectionState) (x : CheckedFrame) (at : ℕ) (n : Checked)
+  pub long_more : (v w : View B Turn Answer) (now : ℕ) (fresh : List ℕ) (old new : ConnectionState) (x : CheckedFrame) (at : ℕ)
+      (n : Checked)
       (y : Option related.Carry) (d e : Dealt) (result : Result Carry ConnEnd)
-      → RefusesLate v old n (message_in x.bytes.items n) y d new e result w ⊎ DealsInTurn v now old x at n y d new e result w
+      → RefusesLate v old n (message_in x.bytes.items n) y d new e result w ⊎ DealsInTurn v now fresh old x at n y d new e result w
       → length e.replies.items.items ≤ length d.replies.items.items + 1
-  long_more v w now old new x at n y d e result (inl late) = late_long n (message_in x.bytes.items n) y d e result late.refuses
-  long_more v w now old new x at n y d e result (inr one) = one_long n (message_in x.bytes.items n) y one.given d e result one.deals
+  long_more v w now fresh old new x at n y d e result (inl late) = late_long n (message_in x.bytes.items n) y d e result late.refuses
+  long_more v w now fresh old new x at n y d e result (inr one) = one_long n (message_in x.bytes.items n) y one.given d e result one.deals
 
-  pub short_more : (v w : View B Turn Answer) (now : ℕ) (old new : ConnectionState) (x : CheckedFrame) (at : ℕ) (n : Checked)
+  pub short_more : (v w : View B Turn Answer) (now : ℕ) (fresh : List ℕ) (old new : ConnectionState) (x : CheckedFrame) (at : ℕ)
+      (n : Checked)
       (y : Option related.Carry) (d e : Dealt) (result : Result Carry ConnEnd)
-      → RefusesLate v old n (message_in x.bytes.items n) y d new e result w ⊎ DealsInTurn v now old x at n y d new e result w
+      → RefusesLate v old n (message_in x.bytes.items n) y d new e result w ⊎ DealsInTurn v now fresh old x at n y d new e result w
       → AreMessagesShort d.replies.items.items → AreMessagesShort e.replies.items.items
-  short_more v w now old new x at n y d e result (inl late) short =
+  short_more v w now fresh old new x at n y d e result (inl late) short =
       late_short n (message_in x.bytes.items n) y d e result late.refuses short
-  short_more v w now old new x at n y d e result (inr one) short =
+  short_more v w now fresh old new x at n y d e result (inr one) short =
       one_short n (message_in x.bytes.items n) y one.given d e result one.deals short

@@ -225,23 +225,21 @@ echo_status t zero echo =
 -- ---- what goes on behind a message
 
 -- the messages so far, of which the last one may have changed in its place, so that it stands at (at + 1) in code
-module _ (z : ServerSettings) (h : Course) (k now : ℕ) (f : ServerEnd) (before : ℕ) (cs : List hearing.Checked) (at : ℕ)
+module _ (z : ServerSettings) (h : Course) (k now : ℕ) (fresh : List ℕ) (server : model.Server) (logons : Logons) (f : ServerEnd)
+    (before : ℕ) (cs : List hearing.Checked) (at : ℕ)
     (former : List Placed) (setups : ℕ) (old : CheckedFrame) (d : Dealt) (y : Option related.Carry)
-    (s : MessagesSoFar z h k now f before cs at former setups old d y) (x : CheckedFrame)
-    (far : Facts z k now s.fresh s.server s.logons f cs at (at + 1) x d y s.more (alone s.d)) where
+    (s : MessagesSoFar z h k now fresh server logons f before cs at former setups old d y) (x : CheckedFrame)
+    (far : Facts z k now fresh server logons f cs at (at + 1) x d y s.more (alone s.d)) where
   -- as its frame began
   abbrev First : gives.Dealt
-  First = first_dealt s.server s.logons f before []
+  First = first_dealt server logons f before []
 
   stepped : (after : ℕ) (turns : List Placed) (e : Dealt) (u : Option related.Carry) (xs : List Given) (ms : List hearing.Checked)
       (v : gives.Dealt)
-      → SharedOn z k now s.fresh s.server s.logons f First cs at x e u s.begins.given xs s.begins.asks ms v
+      → SharedOn z k now fresh server logons f First cs at x e u s.begins.given xs s.begins.asks ms v
       → AreGiven h turns xs → AreFor k f ms turns → after ≡ v.setups
-      → MessagesSoFar z h k now f before cs (at + 1) (former ++ turns) after x e u
+      → MessagesSoFar z h k now fresh server logons f before cs (at + 1) (former ++ turns) after x e u
   stepped after turns e u xs ms v on given mine counts = record {
-    fresh = s.fresh;
-    server = s.server;
-    logons = s.logons;
     d = v;
     more = on.more;
     facts = on.facts;
@@ -256,11 +254,11 @@ module _ (z : ServerSettings) (h : Course) (k now : ℕ) (f : ServerEnd) (before
   -- it fails with a CREATE before it
   pub message_fails : (n : Checked) (c : hearing.Checked) (status : ℕ) → Place f cs at x n c (failed_as s.d.going.carried c)
       → turn_of s.d.going.carried c ≡ Fails status → n.fails ≡ Some status
-      → MessagesSoFar z h k now f before cs (at + 1) (former ++ []) setups x d y
+      → MessagesSoFar z h k now fresh server logons f before cs (at + 1) (former ++ []) setups x d y
   message_fails n c status p fails is =
-      let v = record s.d { going = connection.went_turn z k now s.fresh f s.d.going c (Fails status) } in
+      let v = record s.d { going = connection.went_turn z k now fresh f s.d.going c (Fails status) } in
       stepped setups [] d y [] [] v
-      (shared_fails z k now s.fresh s.server s.logons f First cs at x n c status d y s.more s.d p fails is far s.begins) tt tt s.counted
+      (shared_fails z k now fresh server logons f First cs at x n c status d y s.more s.d p fails is far s.begins) tt tt s.counted
 
   module _ (n : Checked) (c t : hearing.Checked) (p : Place f cs at x n c t) (goes : turn_of s.d.going.carried c ≡ Goes t)
       (none : n.fails ≡ None) where
@@ -269,18 +267,18 @@ module _ (z : ServerSettings) (h : Course) (k now : ℕ) (f : ServerEnd) (before
         → heard_message z s.d.going.logons k f t ≡ Some (commands.heard_as told t.header (asks.Aside status))
         → aside_status t ≡ Some status → (t.header.command == 5) ≡ false
         → e.replies.items.items ≡ d.replies.items.items ++ [] → e.took ≡ (d.took || takes n None) → RelatedCarries y t None u
-        → MessagesSoFar z h k now f before cs (at + 1) (former ++ []) setups x e (Some (carry_of u))
+        → MessagesSoFar z h k now fresh server logons f before cs (at + 1) (former ++ []) setups x e (Some (carry_of u))
     aside_on told status e u heard aside other items took carries =
         let M = commands.heard_as told t.header (asks.Aside status) in
-        let v = record s.d { going = connection.went_heard z k now s.fresh f s.d.going t (Some M) } in
+        let v = record s.d { going = connection.went_heard z k now fresh f s.d.going t (Some M) } in
         stepped setups [] e (Some (carry_of u)) [] [] v
-        (shared_aside z k now s.fresh s.server s.logons f First cs at x n c t told status d e y u s.more s.d p goes none heard aside other
+        (shared_aside z k now fresh server logons f First cs at x n c t told status d e y u s.more s.d p goes none heard aside other
         items took carries far s.begins) tt tt s.counted
 
     plain_by : (e : Dealt) (u : Carry) (i j l : Bool) → (t.header.command == 0) ≡ i → (t.header.command == 13) ≡ j
         → (t.header.command == 12) ≡ l → has_message_event n ≡ false → e.replies.items.items ≡ d.replies.items.items ++ []
         → e.took ≡ (d.took || takes n None) → RelatedCarries y t None u
-        → MessagesSoFar z h k now f before cs (at + 1) (former ++ []) setups x e (Some (carry_of u))
+        → MessagesSoFar z h k now fresh server logons f before cs (at + 1) (former ++ []) setups x e (Some (carry_of u))
     plain_by e u true j l zero echo cancel plain items took carries =
         aside_on (connection.told_of z s.d.going.logons k f t) (negotiate_due t) e u (of_negotiate z s.d.going.logons k f t zero)
         (ap (λ (b : Bool). if b then Some (negotiate_due t)
@@ -290,9 +288,9 @@ module _ (z : ServerSettings) (h : Course) (k now : ℕ) (f : ServerEnd) (before
         aside_on (connection.told_of z s.d.going.logons k f t) (echo_due t) e u (of_echo z s.d.going.logons k f t echo)
         (echo_status t zero echo) (no_create t.header.command 13 echo refl) items took carries
     plain_by e u false false true zero echo cancel plain items took carries =
-        let v = record s.d { going = connection.went_heard z k now s.fresh f s.d.going t None } in
+        let v = record s.d { going = connection.went_heard z k now fresh f s.d.going t None } in
         stepped setups [] e (Some (carry_of u)) [] [] v
-        (shared_cancels z k now s.fresh s.server s.logons f First cs at x n c t d e y u s.more s.d p goes none
+        (shared_cancels z k now fresh server logons f First cs at x n c t d e y u s.more s.d p goes none
         (of_cancel z s.d.going.logons k f t cancel) items took carries far s.begins) tt tt s.counted
     plain_by e u false false false zero echo cancel plain items took carries =
         let same : t.header ≡ n.header = p.shows.header in
@@ -304,7 +302,7 @@ module _ (z : ServerSettings) (h : Course) (k now : ℕ) (f : ServerEnd) (before
 
     pub message_plain : (e : Dealt) (u : Carry) → has_message_event n ≡ false → e.replies.items.items ≡ d.replies.items.items ++ []
         → e.took ≡ (d.took || takes n None) → RelatedCarries y t None u
-        → MessagesSoFar z h k now f before cs (at + 1) (former ++ []) setups x e (Some (carry_of u))
+        → MessagesSoFar z h k now fresh server logons f before cs (at + 1) (former ++ []) setups x e (Some (carry_of u))
     message_plain e u plain items took carries =
         plain_by e u (t.header.command == 0) (t.header.command == 13) (t.header.command == 12) refl refl refl plain items took carries
 
@@ -323,12 +321,12 @@ module _ (z : ServerSettings) (h : Course) (k now : ℕ) (f : ServerEnd) (before
       pub message_refused : (r : Reply) (e : Dealt) (u : Carry) → is_past_setups setups n.header ≡ true
           → IsMessageRefused n insufficient_resources r → e.replies.items.items ≡ d.replies.items.items ++ Ok r ∷ [] → e.took ≡ d.took
           → RelatedCarries y t (Some (Ok r)) u
-          → MessagesSoFar z h k now f before cs (at + 1) (former ++ []) setups x e (Some (carry_of u))
+          → MessagesSoFar z h k now fresh server logons f before cs (at + 1) (former ++ []) setups x e (Some (carry_of u))
       message_refused r e u past is items took carries =
           let q = heard_so s.d.going.logons in
           let v = record s.d { going = gives.went_refused f s.d.going t insufficient_resources } in
           stepped setups [] e (Some (carry_of u)) [] [] v
-          (shared_refused z k now s.fresh s.server s.logons f First cs at x n c t q.0 r d e y u s.more s.d p goes none q.1 q.2
+          (shared_refused z k now fresh server logons f First cs at x n c t q.0 r d e y u s.more s.d p goes none q.1 q.2
           (past_as true past) is items took carries far s.begins) tt tt s.counted
 
       behind_is : (after : ℕ) → is_past_setups setups n.header ≡ false → Counts setups n after
@@ -343,7 +341,7 @@ module _ (z : ServerSettings) (h : Course) (k now : ℕ) (f : ServerEnd) (before
           → Turned z h k now f x at t given turn → is_past_setups setups n.header ≡ false → Counts setups n after
           → stop_in given ≡ None → lost_in given ≡ false → e.replies.items.items ≡ d.replies.items.items ++ event_listed given
           → e.took ≡ (d.took || takes n given) → RelatedCarries y t given u
-          → MessagesSoFar z h k now f before cs (at + 1) (former ++ turn ∷ []) after x e (Some (carry_of u))
+          → MessagesSoFar z h k now fresh server logons f before cs (at + 1) (former ++ turn ∷ []) after x e (Some (carry_of u))
       turn_on after None turn e u st found w early counts stop kept items took carries =
           let q = heard_so st.logons in
           let m = meant_on z h k now f x at n t None turn st q.0 w p.here p.shows found q.1 in
@@ -368,7 +366,7 @@ module _ (z : ServerSettings) (h : Course) (k now : ℕ) (f : ServerEnd) (before
                 w.number (told.said f t p.shows w.told held);
           } in
           stepped after (turn ∷ []) e (Some (carry_of u)) (Answered now random st.logons A ∷ []) (t ∷ []) v
-          (shared_answered (λ a b l. ⊤) z k now s.fresh s.server s.logons st.records f First cs at x n c t own.0 q.0 r random d e y u s.more
+          (shared_answered (λ a b l. ⊤) z k now fresh server logons st.records f First cs at x n c t own.0 q.0 r random d e y u s.more
           s.d st.server st.logons p goes none own.1 own.2 (past_as false early) q.1 q.2 items took carries gives far s.begins)
           (m.given_is, tt) (turn_for z h k now f x at n t (Some (Ok r)) turn w p.here p.shows) (behind_is after early counts)
       turn_on after (Some (Err errors.Memory)) turn e u st found w early counts stop kept items took carries =
@@ -382,7 +380,7 @@ module _ (z : ServerSettings) (h : Course) (k now : ℕ) (f : ServerEnd) (before
             lacked = true;
           } in
           stepped after (turn ∷ []) e (Some (carry_of u)) (NoMemory left ∷ []) (t ∷ []) v
-          (shared_lacks z k now s.fresh s.server s.logons f First cs at x n c t own.0 d e y u s.more s.d left p goes none own.1 own.2
+          (shared_lacks z k now fresh server logons f First cs at x n c t own.0 d e y u s.more s.d left p goes none own.1 own.2
           (past_as false early) items took carries far s.begins)
           (m.given_is.2, tt) (turn_for z h k now f x at n t (Some (Err errors.Memory)) turn w p.here p.shows) (behind_is after early counts)
       turn_on after (Some (Err (errors.Unanswered acted))) turn e u st found w early counts stop kept items took carries =
@@ -401,7 +399,7 @@ module _ (z : ServerSettings) (h : Course) (k now : ℕ) (f : ServerEnd) (before
           → Turned z h k now f x at t given turn → is_past_setups setups n.header ≡ false → Counts setups n after
           → stop_in given ≡ None → lost_in given ≡ false → e.replies.items.items ≡ d.replies.items.items ++ event_listed given
           → e.took ≡ (d.took || takes n given) → RelatedCarries y t given u
-          → MessagesSoFar z h k now f before cs (at + 1) (former ++ turn ∷ []) after x e (Some (carry_of u))
+          → MessagesSoFar z h k now fresh server logons f before cs (at + 1) (former ++ turn ∷ []) after x e (Some (carry_of u))
       turn_at after given turn e u (On st) found w early counts stop kept items took carries =
           turn_on after given turn e u st found w early counts stop kept items took carries
       turn_at after given turn e u (Off count) found w early counts stop kept items took carries =
@@ -411,7 +409,7 @@ module _ (z : ServerSettings) (h : Course) (k now : ℕ) (f : ServerEnd) (before
           → Turned z h k now f x at t given turn → is_past_setups setups n.header ≡ false → Counts setups n after
           → stop_in given ≡ None → lost_in given ≡ false → e.replies.items.items ≡ d.replies.items.items ++ event_listed given
           → e.took ≡ (d.took || takes n given) → RelatedCarries y t given u
-          → MessagesSoFar z h k now f before cs (at + 1) (former ++ turn ∷ []) after x e (Some (carry_of u))
+          → MessagesSoFar z h k now fresh server logons f before cs (at + 1) (former ++ turn ∷ []) after x e (Some (carry_of u))
       message_answered after given turn e u w early counts stop kept items took carries =
           turn_at after given turn e u (h.found turn.0) refl w early counts stop kept items took carries
 
@@ -442,17 +440,14 @@ module _ (z : ServerSettings) (h : Course) (k now : ℕ) (f : ServerEnd) (before
 
       pub message_stops : (given : EventAnswer) (turn : Placed) (count : ℕ) → Turned z h k now f x at t given turn
           → is_past_setups setups n.header ≡ false → stop_in given ≡ Some count
-          → (v : gives.Dealt) × DealtBy z h k now f before cs (former ++ turn ∷ []) v × (v.stopped ≡ Some count)
+          → (v : gives.Dealt) × DealtBy z h k now fresh server logons f before cs (former ++ turn ∷ []) v × (v.stopped ≡ Some count)
       message_stops given turn count w early stop =
           let own = heard_so s.d.going.logons in
           let halts : h.given turn.0 ≡ Some (Stops count) = stop_at given turn count (h.found turn.0) refl w stop in
-          let end = shared_stops z k now s.fresh s.server s.logons f First cs at x n c t own.0 count d y s.more s.d p goes own.1 own.2
+          let end = shared_stops z k now fresh server logons f First cs at x n c t own.0 count d y s.more s.d p goes own.1 own.2
           (past_as false early) far s.begins in (
             record s.d { setups = setups_behind (hearing.is_setup t.header) s.d.setups; stopped = Some count; left = [] },
             record {
-              fresh = s.fresh;
-              server = s.server;
-              logons = s.logons;
               given = s.begins.given ++ Stops count ∷ [];
               are = given_behind h former (turn ∷ []) s.begins.given (Stops count ∷ []) s.are (halts, tt);
               is = end.is;
@@ -465,13 +460,10 @@ module _ (z : ServerSettings) (h : Course) (k now : ℕ) (f : ServerEnd) (before
 
       -- its reply is lost
       pub message_lost : (given : EventAnswer) (turn : Placed) → Turned z h k now f x at t given turn
-          → is_past_setups setups n.header ≡ false → MessagesLack z h k now f before cs (former ++ turn ∷ [])
+          → is_past_setups setups n.header ≡ false → MessagesLack z h k now fresh server logons f before cs (former ++ turn ∷ [])
       message_lost given turn w early =
           let own = heard_so s.d.going.logons in
           record {
-            fresh = s.fresh;
-            server = s.server;
-            logons = s.logons;
             given = s.begins.given;
             answered = former;
             lost = turn ∷ [];
@@ -480,13 +472,13 @@ module _ (z : ServerSettings) (h : Course) (k now : ℕ) (f : ServerEnd) (before
             are = s.are;
             count = at + 1;
             asked = subst (λ (l : List hearing.Checked). AreFor k f l (former ++ turn ∷ []))
-                (sym (given_lost z k now s.fresh f First cs at c t own.0 s.d p.checked far.goes goes own.1 own.2 (past_as false early)
+                (sym (given_lost z k now fresh f First cs at c t own.0 s.d p.checked far.goes goes own.1 own.2 (past_as false early)
                 s.begins)) (turns_for given turn w);
           }
 
       pub message_ends : (given : EventAnswer) (turn : Placed) (e : Dealt) (after : ℕ) (why : ConnEnd)
           → Turned z h k now f x at t given turn → is_past_setups setups n.header ≡ false → AddsTo {A = Carry} given d e (Err why)
-          → MessageSteps z h k now f before cs (at + 1) (former ++ turn ∷ []) after x e (Err why)
+          → MessageSteps z h k now fresh server logons f before cs (at + 1) (former ++ turn ∷ []) after x e (Err why)
       message_ends given turn e after ends.BadFrame w early adds = absurd adds
       message_ends given turn e after (ends.OutsideWindow id) w early adds = absurd adds
       message_ends given turn e after ends.SecondNegotiate w early adds = absurd adds
@@ -498,13 +490,10 @@ module _ (z : ServerSettings) (h : Course) (k now : ℕ) (f : ServerEnd) (before
       message_ends given turn e after ends.Memory w early adds = message_lost given turn w early
 
   -- memory ran out before anything was asked
-  pub message_lacks : MessagesLack z h k now f before cs (former ++ [])
+  pub message_lacks : MessagesLack z h k now fresh server logons f before cs (former ++ [])
   message_lacks =
-      let end = shared_done z k now s.fresh f First cs at s.d s.begins in
+      let end = shared_done z k now fresh f First cs at s.d s.begins in
       record {
-        fresh = s.fresh;
-        server = s.server;
-        logons = s.logons;
         given = s.begins.given;
         answered = former;
         lost = [];

@@ -15,8 +15,8 @@ use Rattle.conn_core.specs.declared.frame_messages.checked.Checked as code
 use Rattle.conn_core.specs.frame_messages.Checking.{message_in}
 use Rattle.spec_exchange.specs.State as model
 use Rattle.spec_exchange.specs.Table.{is_filled}
-use Rattle.spec_world.specs.Ends.{ConnEnd, Logons, ServerEnd, Stopped}
-use Rattle.spec_world.specs.Given.{Answered, Dealt, Given, NoMemory, Stops, counted_setups, dealt_all, dealt_by, dealt_heard, dealt_next}
+use Rattle.spec_world.specs.Ends.{ConnEnd, Logons, ServerEnd}
+use Rattle.spec_world.specs.Given.{Answered, Dealt, Given, NoMemory, Stops, counted_setups, dealt_all, dealt_heard, dealt_next}
 use Rattle.spec_world.specs.Given.{dealt_of, dealt_step, dealt_turn, given_of, given_step, has_event, is_past_setups}
 use Rattle.spec_world.specs.Hearing.{Checked, Frame, check_frame, is_setup}
 use Rattle.spec_world.specs.Related.{Fails, Goes, Turn, turn_of}

@@ -1,5 +1,5 @@
 -- What is known of a connection before the answer to its next frame goes out.
-use Rattle.std.proofs.Common.{◌≡◌, ◌≤◌, ℕ, ◌+◌, Bool, List, [], ◌∷◌, ◌++◌, length, Option, None, Some, Result, Ok, slice_get}
+use Rattle.std.proofs.Common.{◌≡◌, ◌≤◌, ℕ, ◌+◌, Bool, List, [], ◌∷◌, ◌++◌, length, Option, None, Some, Result, Ok}
 use Rattle.std.proofs.Common.{refl, sym, ap, ◌∙◌, subst, append_assoc, arith}
 use Rattle.std.proofs.lemmas.List.{append-nil}
 use Rattle.spec_crypto.specs.sessions.Nonces.{last_counter}
@@ -17,16 +17,15 @@ use Rattle.serve_turns.specs.connection_turns.Due.{AnswerIsDue, IsAnswerDue, IsT
 use Rattle.serve_turns.specs.connection_turns.Frames.{Answers, AnswersAll, AreGiven}
 use Rattle.serve_turns.specs.connection_turns.Passing.{FrameTaken, FramesGo, GoesOn, NextFrame, Stops}
 use Rattle.serve_turns.specs.link_serving.Passage.{Passed}
-use Rattle.serve_turns.specs.connection_turns.Turning.{HearsOnce, IsThe}
+use Rattle.serve_turns.specs.connection_turns.Turning.{HearsOnce}
 use Rattle.serve_turns.specs.connection_turns.Ending.{refusal_of}
 use Rattle.serve_turns.specs.declared.connection_turns.state.ConnectionState.{ConnectionState}
 use Rattle.serve_turns.specs.declared.event_book.book.EventBook.{EventBook}
 use Rattle.serve_turns.specs.declared.event_book.turn.Answer.{Answer}
 use Rattle.serve_turns.specs.declared.event_book.turn.Turn.{Turn}
 use Rattle.serve_turns.specs.declared.event_book.turn.What.TheVariants.{Accept}
-use Rattle.serve_turns.specs.declared.shared_book.view.Entry.{Entry}
 use Rattle.serve_turns.specs.declared.shared_book.view.View.{View}
-use Rattle.serve_turns.specs.event_book.History.{AllMeet, Course, MeetsAt, On, Placed, RunsBy, Stand, Standing}
+use Rattle.serve_turns.specs.event_book.History.{AllMeet, Course, On, Placed, RunsBy, Stand, Standing}
 use Rattle.serve_turns.specs.event_book.Steps as steps
 use Rattle.serve_turns.specs.event_book.Steps.{EventSteps, ShowsStanding}
 use Rattle.serve_turns.specs.shared_book.Histories.{Replays, entries_of}
@@ -37,7 +36,7 @@ use Rattle.serve_turns.proofs.connection_turns.Going as going
 use Rattle.serve_turns.proofs.connection_turns.Linking.{passed_none, passed_on}
 use Rattle.serve_turns.proofs.connection_turns.Unstopped.{AllContinue, Continues, frame_continues, goes_behind, taken_behind}
 use Rattle.serve_turns.proofs.event_book.Courses.{course_of, own_meet, runs_by}
-use Rattle.serve_turns.proofs.event_book.Running.{RunsOn, history_runs}
+use Rattle.serve_turns.proofs.event_book.Running.{history_runs}
 
 -- ---- behind each turn of a frame that was answered the server goes on
 

@@ -1,5 +1,5 @@
 -- A link that was new, and what passed over it.
-use Rattle.std.proofs.Common.{◌≡◌, ℕ, Bool, List}
+use Rattle.std.proofs.Common.{ℕ, Bool, List}
 use Rattle.serve_turns.specs.declared.shared_book.view.View.{View}
 use Rattle.serve_turns.specs.link_serving.Passage.{IsNewLink, IsOfLink, Passage, ServesOn, ServesOver}
 

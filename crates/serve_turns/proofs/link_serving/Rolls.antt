@@ -1,13 +1,14 @@
 -- What is known of links where one begins to be served, and where the seat of one that was served is taken in.
-use Rattle.std.proofs.Common.{◌≡◌, ◌≢◌, ℕ, zero, suc, ◌+◌, ◌<◌, ◌≤◌, List, [], ◌∷◌, ◌++◌, length, map, set, get_or, Option, None, Some, refl}
+use Rattle.std.proofs.Common.{◌≡◌, ℕ, zero, suc, ◌+◌, ◌<◌, ◌≤◌, List, [], ◌∷◌, ◌++◌, length, map, set, get_or, Option, None, Some, refl}
 use Rattle.std.proofs.Common.{sym, ap, ◌∙◌, subst, append_assoc, arith, ◌⊎◌, inl, inr, ⊎_elim, Contains}
-use Rattle.std.proofs.lemmas.List.{get_or-set_same, get_or-set_other}
+use Rattle.std.proofs.Common.{add-one, length-append}
+use Rattle.std.proofs.lemmas.List.{get_or-set_same, get_or-set_other, length-map}
 use Rattle.std.proofs.Common.{slice_index_or, swap_remove}
 use Rattle.std.proofs.lemmas.List.Elements.{Contains-append_left, Contains-append_right, Contains-push}
-use Rattle.std.proofs.lemmas.List.Sorted.{Contains-permutation, IsPermutation-swap_remove, IsPermutation-sym}
+use Rattle.std.proofs.lemmas.List.Sorted.{Contains-permutation, IsPermutation-swap_remove, IsPermutation-sym, length_permutation}
 use Rattle.serve_turns.specs.declared.shared_book.view.Entry.{Entry}
 use Rattle.serve_turns.specs.declared.shared_book.view.View.{View}
-use Rattle.serve_turns.specs.shared_book.Numbers.{IsOneOf, numbers_in, numbers_of}
+use Rattle.serve_turns.specs.shared_book.Numbers.{IsOneOf, numbers_of}
 use Rattle.serve_turns.specs.shared_book.Turns.{made_with, rejoined, with_made}
 use Rattle.serve_turns.specs.shared_book.Words.{lasting}
 use Rattle.serve_turns.specs.link_serving.Serving.{AreServed, EachServed, IsAmong, IsEndOf, IsNewSeat, Leaves, Link, WasServed}
@@ -77,8 +78,8 @@ map_among link_of rs r h = among_at link_of rs r h.0 h.1 h.2
 -- one of them has ended
 pub leaves : {R : Type 0} (link_of : R → Link) (running rest : List R) (child : R) → Contains running child
     → ((r : R) → Contains running r → (child ≡ r) ⊎ Contains rest r) → ((r : R) → Contains rest r → Contains running r)
-    → Leaves (link_of child) (map link_of running) (map link_of rest)
-leaves link_of running rest child has goes stays = record {
+    → length running ≡ length rest + 1 → Leaves (link_of child) (map link_of running) (map link_of rest)
+leaves link_of running rest child has goes stays size = record {
   was = map_among link_of running child has;
   goes = λ x h. let f = among_map link_of running x h in
       ⊎_elim (λ (e : child ≡ f.0). inl (f.2 ∙ ap link_of (sym e)))
@@ -86,14 +87,28 @@ leaves link_of running rest child has goes stays = record {
       (goes f.0 f.1);
   stays = λ x h. let f = among_map link_of rest x h in
       subst (λ y. IsAmong y (map link_of running)) (sym f.2) (map_among link_of running f.0 (stays f.0 f.1));
+  one_less = length-map running link_of ∙ (size ∙ ap (λ (n : ℕ). n + 1) (sym (length-map rest link_of)));
 }
 
+one_behind : (n m : ℕ) → suc n ≡ m → m ≡ n + 1
+one_behind n m e = sym e ∙ sym (add-one n)
+
 module _ {R : Type 0} where
+  pub popped_less : (old new : List R) (child : R) → old ≡ new ++ child ∷ [] → length old ≡ length new + 1
+  popped_less old new child is = ap (λ (l : List R). length l) is ∙ length-append new (child ∷ [])
+
   pub popped_stays : (old new : List R) (child : R) → old ≡ new ++ child ∷ [] → (r : R) → Contains new r → Contains old r
   popped_stays old new child is r has = subst (λ (l : List R). Contains l r) (sym is) (Contains-append_left new (child ∷ []) r has)
 
   pub popped_was : (old new : List R) (child : R) → old ≡ new ++ child ∷ [] → Contains old child
   popped_was old new child is = subst (λ (l : List R). Contains l child) (sym is) (Contains-push new child)
+
+  pub swapped_less : (old new : List R) (at : ℕ) (child : R) → at < length old → child ≡ slice_index_or old at child
+      → new ≡ swap_remove old at child → length old ≡ length new + 1
+  swapped_less old new at child low is swaps =
+      subst (λ (l : List R). length old ≡ length l + 1) (sym swaps)
+      (one_behind (length (swap_remove old at child)) (length old)
+      (length_permutation old (child ∷ swap_remove old at child) (IsPermutation-swap_remove old at child low is)))
 
   pub swapped_stays : (old new : List R) (at : ℕ) (child : R) → at < length old → child ≡ slice_index_or old at child
       → new ≡ swap_remove old at child → (r : R) → Contains new r → Contains old r
@@ -108,7 +123,7 @@ module _ {R : Type 0} where
 
 -- the first of them has ended
 pub first_leaves : (link : Link) (rest : List Link) → Leaves link (link ∷ rest) rest
-first_leaves link rest = record { was = inl refl; goes = λ x h. h; stays = λ x h. inr h }
+first_leaves link rest = record { was = inl refl; goes = λ x h. h; stays = λ x h. inr h; one_less = omega arith }
 
 pub last_first : {R : Type 0} (link_of : R → Link) (rs : List R) (r : R) (x : Link) → IsAmong x (link_of r ∷ map link_of rs)
     → IsAmong x (map link_of (rs ++ r ∷ []))
@@ -184,22 +199,25 @@ module _ {B E R X : Type 0} (serves : ℕ → View B E R → X → View B E R �
   end_right place end [] ks one = one
   end_right place end (l ∷ ls) ks one = inr (end_right place end ls ks one)
 
-  -- the same links in another order, and a higher count
-  pub same_served : (running same : List Link) (count count' : ℕ) (ends : List (Option X)) (v : View B E R)
-      → ((x : Link) → IsAmong x same → IsAmong x running) → ((x : Link) → IsAmong x running → IsAmong x same) → count ≤ count'
-      → AreServed serves running count ends v → AreServed serves same count' ends v
-  same_served running same count count' ends v less more le a = record {
+  -- the same links in another order
+  pub same_served : (running same : List Link) (count : ℕ) (ends : List (Option X)) (v : View B E R)
+      → ((x : Link) → IsAmong x same → IsAmong x running) → ((x : Link) → IsAmong x running → IsAmong x same)
+      → length same ≡ length running → AreServed serves running count ends v → AreServed serves same count ends v
+  same_served running same count ends v less more size a = record {
     seat_at = a.seat_at;
     is_first = a.is_first;
     none_own = a.none_own;
-    served_now = λ x h. let y = a.served_now x (less x h) in let low = y.0 in (omega arith, y.1);
+    served_now = λ x h. a.served_now x (less x h);
     links = a.links;
-    each = each_stays a.seat_at a.seat_at v.opening v.kept v.kept count count' (λ place low. (omega arith, refl)) (λ number end seat s. s)
-        a.links v.ended a.each;
+    each = a.each;
     told = a.told;
     back = λ n h. ⊎_elim (λ (x : IsOneOf n (numbers_of v)). inl x)
         (λ (x : (place : ℕ) × IsAmong (place, n) running). inr (x.0, more (x.0, n) x.1)) (a.back n h);
+    as_many = ap (λ (n : ℕ). n + length a.links) size ∙ a.as_many;
   }
+
+  one_more : (n m count : ℕ) → n + m ≡ count → suc n + m ≡ count + 1
+  one_more n m count e = omega (arith, e)
 
   -- the next link begins to be served, by a seat of this number
   pub begins_served : (running : List Link) (count : ℕ) (ends : List (Option X)) (n : ℕ) (v w : View B E R) → w ≡ with_made n v
@@ -225,6 +243,7 @@ module _ {B E R X : Type 0} (serves : ℕ → View B E R → X → View B E R �
             (λ (e : m ≡ n). inr (count, inl (ap (λ (k : ℕ). (count, k)) e)))
             (λ (t : IsOneOf m v.made). ⊎_elim (λ (x : IsOneOf m (numbers_of v)). inl x)
             (λ (x : (place : ℕ) × IsAmong (place, m) running). inr (x.0, inr x.1)) (a.back m t)) h;
+        as_many = one_more (length running) (length a.links) count a.as_many;
       })
 
   -- one that was served has ended, and its seat is taken in
@@ -293,6 +312,10 @@ module _ {B E R X : Type 0} (serves : ℕ → View B E R → X → View B E R �
         (λ (m : IsOneOf n to.made). absurd (subst (IsOneOf n) none_made m))
         (among_both n v.made to.made h)
 
+    as_many_both : length rest + length links_both ≡ count
+    as_many_both = (let was = a.as_many in let less = left.one_less in let more = length-append a.links ((place, end) ∷ []) in
+        omega (arith, was, less, more))
+
     ended_served : AreServed serves rest count new both
     ended_served = record {
       seat_at = a.seat_at;
@@ -303,6 +326,7 @@ module _ {B E R X : Type 0} (serves : ℕ → View B E R → X → View B E R �
       each = each_both;
       told = told_both;
       back = back_both;
+      as_many = as_many_both;
     }
 
   pub entered_served : (ends new : List (Option X)) (place : ℕ) (end : X) → (place < length ends → new ≡ set ends place (Some end))
@@ -312,11 +336,6 @@ module _ {B E R X : Type 0} (serves : ℕ → View B E R → X → View B E R �
   entered_served ends new place end inside past running rest count from to v w is is_new lasts by left a =
       subst (AreServed serves rest count new) (sym is)
       (ended_served ends new place end inside past running rest count from to v is_new lasts by left a)
-
-  -- a higher count
-  pub more_served : (running : List Link) (count count' : ℕ) (ends : List (Option X)) (v : View B E R) → count ≤ count'
-      → AreServed serves running count ends v → AreServed serves running count' ends v
-  more_served running count count' ends v more a = same_served running running count count' ends v (λ x h. h) (λ x h. h) more a
 
   -- a link that began to be served has ended at once
   pub at_once_served : (ends new : List (Option X)) (place n k : ℕ) (v w x : View B E R)
@@ -329,15 +348,19 @@ module _ {B E R X : Type 0} (serves : ℕ → View B E R → X → View B E R �
 
   module _ {T : Type 0} (link_of : T → Link) where
     -- the same that serve them
-    pub those_served : (running same : List T) (count count' : ℕ) (ends : List (Option X)) (v : View B E R) → same ≡ running → count ≤ count'
-        → AreServed serves (map link_of running) count ends v → AreServed serves (map link_of same) count' ends v
-    those_served running same count count' ends v is more a =
-        subst (λ l. AreServed serves (map link_of l) count' ends v) (sym is) (more_served (map link_of running) count count' ends v more a)
+    pub those_served : (running same : List T) (count : ℕ) (ends : List (Option X)) (v : View B E R) → same ≡ running
+        → AreServed serves (map link_of running) count ends v → AreServed serves (map link_of same) count ends v
+    those_served running same count ends v is a = subst (λ l. AreServed serves (map link_of l) count ends v) (sym is) a
 
     pub none_served : (running : List T) (count : ℕ) (ends : List (Option X)) (v : View B E R) → length running ≡ 0
         → AreServed serves (map link_of running) count ends v → AreServed serves [] count ends v
     none_served [] count ends v none a = a
     none_served (r ∷ rs) count ends v none a = absurd (omega (arith, none))
+
+    last_long : (running : List T) (child : T)
+        → length (map link_of (running ++ child ∷ [])) ≡ length (link_of child ∷ map link_of running)
+    last_long [] child = refl
+    last_long (r ∷ rs) child = ap (λ (n : ℕ). suc n) (last_long rs child)
 
     -- the next link is served by one more
     pub one_more_served : (running old new : List T) (child : T) (place n : ℕ) (ends : List (Option X)) (v w : View B E R) → old ≡ running
@@ -345,7 +368,7 @@ module _ {B E R X : Type 0} (serves : ℕ → View B E R → X → View B E R �
         → AreServed serves (map link_of running) place ends v → AreServed serves (map link_of new) (place + 1) ends w
     one_more_served running old new child place n ends v w same is link made a =
         subst (λ l. AreServed serves (map link_of l) (place + 1) ends w) (sym (is ∙ ap (λ l. l ++ child ∷ []) same))
-        (same_served (link_of child ∷ map link_of running) (map link_of (running ++ child ∷ [])) (place + 1) (place + 1) ends w
-        (first_last link_of running child) (last_first link_of running child) (omega arith)
+        (same_served (link_of child ∷ map link_of running) (map link_of (running ++ child ∷ [])) (place + 1) ends w
+        (first_last link_of running child) (last_first link_of running child) (last_long running child)
         (subst (λ x. AreServed serves (x ∷ map link_of running) (place + 1) ends w) (sym link)
         (begins_served (map link_of running) place ends n v w made a)))

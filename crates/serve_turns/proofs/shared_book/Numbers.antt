@@ -1,10 +1,10 @@
 -- Lists of numbers of which none comes twice, and the numbers that a seat holds.
-use Rattle.std.proofs.Common.{◌≡◌, ◌≢◌, ◌⊎◌, inl, inr, ℕ, List, [], ◌∷◌, ◌++◌, Some, None, Bool, true, false, refl, sym, ap, ◌∙◌}
+use Rattle.std.proofs.Common.{◌≡◌, ◌≢◌, ◌⊎◌, inl, inr, ℕ, List, [], ◌∷◌, ◌++◌, Some, None, Bool, true, refl, sym, ap, ◌∙◌}
 use Rattle.std.proofs.Common.{subst, ⊎_elim, append_assoc}
 use Rattle.std.specs.Prelude.{Option as Perhaps}
 use Rattle.serve_turns.specs.declared.shared_book.view.Entry.{Entry}
 use Rattle.serve_turns.specs.declared.shared_book.view.View.{View}
-use Rattle.serve_turns.specs.shared_book.Histories.{entries_of, HaveAll}
+use Rattle.serve_turns.specs.shared_book.Histories.{HaveAll}
 use Rattle.serve_turns.specs.shared_book.Numbers.{AreApart, IsOneOf, held_numbers, number_if, number_in, numbers_in, numbers_of, seated_numbers}
 use Rattle.serve_turns.specs.shared_book.Turns.{rejoined}
 use Rattle.serve_turns.proofs.shared_book.Histories.{entries_of-other}

@@ -1,7 +1,7 @@
 -- The other steps keep the rule: the table is opened, the front is peeked at, a number is drawn, a seat is made or joined, and the table is
 -- closed.
 use Rattle.std.proofs.Common.{◌≡◌, ◌≢◌, ◌⊎◌, inl, inr, ℕ, zero, suc, ◌+◌, ◌<◌, ◌≤◌, eqb, List, [], ◌∷◌, ◌++◌, length, get_or, set}
-use Rattle.std.proofs.Common.{Some, None, Bool, true, false, refl, sym, ap, ◌∙◌, subst, ⊎_elim, arith, eq-eqb, ne_eqb, length-set}
+use Rattle.std.proofs.Common.{Some, None, true, false, refl, sym, ap, ◌∙◌, subst, ⊎_elim, arith, eq-eqb, ne_eqb}
 use Rattle.std.specs.Prelude.{is_some, slice_get, unwrap_or}
 use mathlib.Core.Logic.{dite}
 use mathlib.Core.List.{IsPrefix}
@@ -17,7 +17,7 @@ use Rattle.serve_turns.specs.declared.shared_book.view.View.{View}
 use Rattle.serve_turns.specs.declared.shared_book.view.Slot.{Slot}
 use Rattle.serve_turns.specs.declared.shared_book.view.Slot.TheVariants.{Opening, After, Away}
 use Rattle.serve_turns.specs.shared_book.Histories.{Replays, entries_of}
-use Rattle.serve_turns.specs.shared_book.Numbers.{AreApart, IsOneOf, IsWhole, held_numbers, number_if, number_in, numbers_of, seated_numbers}
+use Rattle.serve_turns.specs.shared_book.Numbers.{AreApart, IsOneOf, IsWhole, held_numbers, number_if, numbers_of, seated_numbers}
 use Rattle.serve_turns.specs.shared_book.Turns.{AllMade, InTurn, HasBook, Knows, AtHome, SeatWith, HasMade, HoldsTicket, HoldsNumber, Kept}
 use Rattle.serve_turns.specs.shared_book.Turns.{Sat, held_ticket, first_view, staged, fronted, drew, parted, newcomer, rejoined, spent_view}
 use Rattle.serve_turns.specs.shared_book.Turns.{front_peeked, drew_if, number_drawn}
@@ -26,8 +26,8 @@ use Rattle.serve_turns.proofs.shared_book.Histories.{AllPrefix-both, Replays-fro
 use Rattle.serve_turns.proofs.shared_book.Numbers.{HaveAll-append, among_both, among_left, among_right, apart_both, apart_of, apart_seated}
 use Rattle.serve_turns.proofs.shared_book.Numbers.{drawn_apart, drawn_held, held_rejoined, none_drawn, of_seated, one_number, other_drawn}
 use Rattle.serve_turns.proofs.shared_book.Numbers.{own_seated, seated_held, seated_of, seated_rejoined}
-use Rattle.serve_turns.proofs.shared_book.Views.{point, point-here, point-else, stages_apart, has_out, not_both, at_here}
-use Rattle.serve_turns.proofs.shared_book.Views.{seats_stay, some_stays, made_stays, home_stays, unmoved}
+use Rattle.serve_turns.proofs.shared_book.Views.{point, point-here, point-else, stages_apart, has_out, at_here}
+use Rattle.serve_turns.proofs.shared_book.Views.{seats_stay, some_stays, home_stays, unmoved}
 
 below_or_past : (x n : ℕ) → (x < n) ⊎ (n ≤ x)
 below_or_past x n = grind arith

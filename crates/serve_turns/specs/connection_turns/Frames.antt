@@ -19,7 +19,7 @@ use Rattle.conn_core.specs.requests.Asking.{IsRequestTold}
 use Rattle.serve_turns.specs.declared.event_book.turn.Asks.{Asks}
 use Rattle.serve_turns.specs.declared.event_book.turn.What.{What}
 use Rattle.serve_turns.specs.declared.event_book.turn.What.TheVariants.{Accept, Message, End}
-use Rattle.serve_turns.specs.event_book.History.{Course, Placed}
+use Rattle.serve_turns.specs.event_book.History.{Course, On, Placed, Stand}
 
 -- ---- turns of a connection for these messages, in order
 
@@ -49,7 +49,24 @@ AreGiven h (x ∷ xs) (g ∷ gs) = (h.given x.0 ≡ Some g) × AreGiven h xs gs
 AreGiven h [] (g ∷ gs) = ⊥
 AreGiven h (x ∷ xs) [] = ⊥
 
--- ---- one frame: its turns are those of its messages, and what the connection makes of what they were given
+-- ---- turns of one moment, for which the connection told these random bytes
+
+abbrev pub HasBytes : List ℕ → What → Type 0
+HasBytes fresh (Accept k) = ⊤
+HasBytes fresh (Message a) = a.told.fresh ≡ fresh
+HasBytes fresh (End k) = ⊤
+
+abbrev pub AreAtOnce : ℕ → List ℕ → List Placed → Type 0
+AreAtOnce now fresh [] = ⊤
+AreAtOnce now fresh (x ∷ xs) = (x.1.event.now ≡ now) × HasBytes fresh x.1.event.what × AreAtOnce now fresh xs
+
+-- where the place of the first of them found a server that goes on, it stood so
+abbrev pub FindsFirst : Course → List Placed → model.Server → Logons → Type 0
+FindsFirst h [] s L = ⊤
+FindsFirst h (x ∷ xs) s L = (stand : Stand) → h.found x.0 ≡ On stand → (stand.server ≡ s) × (stand.logons ≡ L)
+
+-- ---- one frame: its turns are those of its messages, all of the frame's moment and with its random bytes, and what the connection makes
+-- of what they were given, from the state on that the first of them found
 
 abbrev pub AreAsked : ServerSettings → ℕ → ℕ → List ℕ → ℕ → model.Server → Logons → List Given → Result Frame world.ConnEnd → List Placed
     → Type 0
@@ -63,6 +80,8 @@ pub record TakesFrame (z : ServerSettings) (h : Course) (k : ℕ) (f : ServerEnd
   pub fresh : List ℕ
   pub server : model.Server
   pub logons : Logons
+  pub at_once : AreAtOnce now fresh turns
+  pub first : FindsFirst h turns server logons
   pub given : List Given
   pub are : AreGiven h turns given
   pub is : G ≡ given_step z k now fresh before server logons f given frame
@@ -107,6 +126,8 @@ pub record LacksFrame (z : ServerSettings) (h : Course) (k : ℕ) (f : ServerEnd
   pub fresh : List ℕ
   pub server : model.Server
   pub logons : Logons
+  pub at_once : AreAtOnce now fresh turns
+  pub first : FindsFirst h turns server logons
   pub given : List Given
   pub answered : List Placed
   pub lost : List Placed

@@ -30,7 +30,7 @@ use Rattle.serve_turns.specs.declared.event_book.turn.Answer.{Answer}
 use Rattle.serve_turns.specs.declared.event_book.turn.Asks.{Asks}
 use Rattle.serve_turns.specs.declared.event_book.turn.Turn.{Turn}
 use Rattle.serve_turns.specs.declared.shared_book.view.View.{View}
-use Rattle.serve_turns.specs.connection_turns.Frames.{AreFor, AreGiven}
+use Rattle.serve_turns.specs.connection_turns.Frames.{AreAtOnce, AreFor, AreGiven}
 use Rattle.serve_turns.specs.connection_turns.Turning.{message_turn}
 use Rattle.serve_turns.specs.event_book.History.{AllMeet, Course, Placed}
 
@@ -55,13 +55,14 @@ module _ {B : Type 0} where
     pub same : w ≡ v
 
   -- It took one turn, in which the server was given it with what the connection tells of it.
-  pub record TakesTurn (v : View B Turn Answer) (now : ℕ) (old : ConnectionState) (x : CheckedFrame) (at : ℕ) (m : Checked)
+  pub record TakesTurn (v : View B Turn Answer) (now : ℕ) (fresh : List ℕ) (old : ConnectionState) (x : CheckedFrame) (at : ℕ) (m : Checked)
       (new : ConnectionState) (reply : EventAnswer) (w : View B Turn Answer) : Type 0 where
     pub event : has_message_event m ≡ true
     pub asks : Asks
     pub frame : asks.frame ≡ x
     pub place : asks.at ≡ at
     pub told : TellsOf old.conn x at asks.told
+    pub fresh_is : asks.told.fresh ≡ fresh
     pub turn : Placed
     pub own : w.own ≡ v.own ++ turn ∷ []
     pub is_turn : turn.1.event ≡ message_turn now asks
@@ -69,10 +70,11 @@ module _ {B : Type 0} where
     pub conn : new.conn ≡ old.conn
     pub setups : Counts old.setups m new.setups
 
-  abbrev pub AnswersOne : View B Turn Answer → ℕ → ConnectionState → CheckedFrame → ℕ → ConnectionState → EventAnswer → View B Turn Answer
+  abbrev pub AnswersOne : View B Turn Answer → ℕ → List ℕ → ConnectionState → CheckedFrame → ℕ → ConnectionState → EventAnswer
+      → View B Turn Answer
       → Type 0
-  AnswersOne v now old x at new reply w = (m : Checked) → slice_get x.messages.items at ≡ Some m
-      → AsksNothing v old m new reply w ⊎ TakesTurn v now old x at m new reply w
+  AnswersOne v now fresh old x at new reply w = (m : Checked) → slice_get x.messages.items at ≡ Some m
+      → AsksNothing v old m new reply w ⊎ TakesTurn v now fresh old x at m new reply w
 
 -- ---- and what it hands on
 
@@ -85,27 +87,27 @@ module _ {B : Type 0} where
     pub state : new ≡ old
     pub same : w ≡ v
 
-  pub record DealsInTurn (v : View B Turn Answer) (now : ℕ) (old : ConnectionState) (x : CheckedFrame) (at : ℕ) (m : Checked)
+  pub record DealsInTurn (v : View B Turn Answer) (now : ℕ) (fresh : List ℕ) (old : ConnectionState) (x : CheckedFrame) (at : ℕ)
+      (m : Checked)
       (y : Option related.Carry) (d : Dealt) (new : ConnectionState) (e : Dealt) (result : Result Carry ConnEnd) (w : View B Turn Answer)
       : Type 0 where
     pub early : (has_message_event m && is_past_setups old.setups m.header) ≡ false
     pub given : EventAnswer
     pub deals : DealsOne m (message_in x.bytes.items m) y given d e result
-    pub answers : AsksNothing v old m new given w ⊎ TakesTurn v now old x at m new given w
+    pub answers : AsksNothing v old m new given w ⊎ TakesTurn v now fresh old x at m new given w
 
-  abbrev pub DealsFor : View B Turn Answer → ℕ → ConnectionState → CheckedFrame → ℕ → Option related.Carry → Dealt → ConnectionState → Dealt
+  abbrev pub DealsFor : View B Turn Answer → ℕ → List ℕ → ConnectionState → CheckedFrame → ℕ → Option related.Carry → Dealt
+      → ConnectionState → Dealt
       → Result Carry ConnEnd → View B Turn Answer → Type 0
-  DealsFor v now old x at y d new e result w = (m : Checked) → slice_get x.messages.items at ≡ Some m
-      → RefusesLate v old m (message_in x.bytes.items m) y d new e result w ⊎ DealsInTurn v now old x at m y d new e result w
+  DealsFor v now fresh old x at y d new e result w = (m : Checked) → slice_get x.messages.items at ≡ Some m
+      → RefusesLate v old m (message_in x.bytes.items m) y d new e result w ⊎ DealsInTurn v now fresh old x at m y d new e result w
 
 -- ---- all messages of a frame: what the definitions make of them by what their turns were given
 
 -- what was given is just enough, for these messages
-pub record DealtBy (z : ServerSettings) (h : Course) (k now : ℕ) (f : ServerEnd) (before : ℕ) (cs : List hearing.Checked)
+pub record DealtBy (z : ServerSettings) (h : Course) (k now : ℕ) (fresh : List ℕ) (server : model.Server) (logons : Logons)
+    (f : ServerEnd) (before : ℕ) (cs : List hearing.Checked)
     (turns : List Placed) (d : gives.Dealt) : Type 0 where
-  pub fresh : List ℕ
-  pub server : model.Server
-  pub logons : Logons
   pub given : List Given
   pub are : AreGiven h turns given
   pub is : d ≡ gives.dealt_all z k now fresh f (first_dealt server logons f before given) cs
@@ -114,11 +116,9 @@ pub record DealtBy (z : ServerSettings) (h : Course) (k now : ℕ) (f : ServerEn
   pub none_left : d.left ≡ []
 
 -- Memory ran out: these turns are for the first of them, of which the last one's reply may be lost.
-pub record MessagesLack (z : ServerSettings) (h : Course) (k now : ℕ) (f : ServerEnd) (before : ℕ) (cs : List hearing.Checked)
+pub record MessagesLack (z : ServerSettings) (h : Course) (k now : ℕ) (fresh : List ℕ) (server : model.Server) (logons : Logons)
+    (f : ServerEnd) (before : ℕ) (cs : List hearing.Checked)
     (turns : List Placed) : Type 0 where
-  pub fresh : List ℕ
-  pub server : model.Server
-  pub logons : Logons
   pub given : List Given
   pub answered : List Placed
   pub lost : List Placed
@@ -138,22 +138,24 @@ pub record MessagesGo (z : ServerSettings) (now : ℕ) (f : ServerEnd) (cs : Lis
   pub fails : FailRightly x.messages.items
   pub said : AreMessagesSaid z now f x.messages.items taken e.replies.items.items f.window d.going.replies d.going.window
 
-abbrev pub MessagesEnd : ServerSettings → Course → ℕ → ℕ → ServerEnd → ConnectionState → List hearing.Checked → List Placed
+abbrev pub MessagesEnd : ServerSettings → Course → ℕ → ℕ → List ℕ → model.Server → Logons → ServerEnd → ConnectionState
+    → List hearing.Checked → List Placed
     → ConnectionState → CheckedFrame → Dealt → Result Unit ConnEnd → Type 0
-MessagesEnd z h k now f old cs turns new x e (Ok u) = (d : gives.Dealt) × DealtBy z h k now f old.setups cs turns d
+MessagesEnd z h k now fresh server logons f old cs turns new x e (Ok u) = (d : gives.Dealt) × DealtBy z h k now fresh server logons f
+    old.setups cs turns d
     × (new.setups ≡ d.setups) × MessagesGo z now f cs x e d
-MessagesEnd z h k now f old cs turns new x e (Err (Stopped count)) = (d : gives.Dealt) × DealtBy z h k now f old.setups cs turns d
+MessagesEnd z h k now fresh server logons f old cs turns new x e (Err (Stopped count)) = (d : gives.Dealt) × DealtBy z h k now fresh
+    server logons f old.setups cs turns d
     × (d.stopped ≡ Some count)
-MessagesEnd z h k now f old cs turns new x e (Err Memory) = MessagesLack z h k now f old.setups cs turns
-MessagesEnd z h k now f old cs turns new x e (Err why) = ⊥
+MessagesEnd z h k now fresh server logons f old cs turns new x e (Err Memory) = MessagesLack z h k now fresh server logons f old.setups
+    cs turns
+MessagesEnd z h k now fresh server logons f old cs turns new x e (Err why) = ⊥
 
 -- ---- its first messages, whatever is given to those behind them; these turns are for those of them that have an event
 
-pub record MessagesSoFar (z : ServerSettings) (h : Course) (k now : ℕ) (f : ServerEnd) (before : ℕ) (cs : List hearing.Checked) (at : ℕ)
+pub record MessagesSoFar (z : ServerSettings) (h : Course) (k now : ℕ) (fresh : List ℕ) (server : model.Server) (logons : Logons)
+    (f : ServerEnd) (before : ℕ) (cs : List hearing.Checked) (at : ℕ)
     (turns : List Placed) (setups : ℕ) (x : CheckedFrame) (e : Dealt) (y : Option related.Carry) : Type 0 where
-  pub fresh : List ℕ
-  pub server : model.Server
-  pub logons : Logons
   pub d : gives.Dealt
   pub more : List model.Record
   pub facts : Facts z k now fresh server logons f cs at at x e y more (record { dealt = d; mishaps = [] })
@@ -163,33 +165,40 @@ pub record MessagesSoFar (z : ServerSettings) (h : Course) (k now : ℕ) (f : Se
   pub counted : setups ≡ d.setups
 
 -- behind one more of them
-abbrev pub MessageSteps : ServerSettings → Course → ℕ → ℕ → ServerEnd → ℕ → List hearing.Checked → ℕ → List Placed → ℕ → CheckedFrame
+abbrev pub MessageSteps : ServerSettings → Course → ℕ → ℕ → List ℕ → model.Server → Logons → ServerEnd → ℕ → List hearing.Checked → ℕ
+    → List Placed → ℕ → CheckedFrame
     → Dealt → Result (Option Carry) ConnEnd → Type 0
-MessageSteps z h k now f before cs at turns setups x e (Ok y) =
-    MessagesSoFar z h k now f before cs at turns setups x e (option_map carry_of y)
-MessageSteps z h k now f before cs at turns setups x e (Err (Stopped count)) =
-    (d : gives.Dealt) × DealtBy z h k now f before cs turns d × (d.stopped ≡ Some count)
-MessageSteps z h k now f before cs at turns setups x e (Err Memory) = MessagesLack z h k now f before cs turns
-MessageSteps z h k now f before cs at turns setups x e (Err why) = ⊥
+MessageSteps z h k now fresh server logons f before cs at turns setups x e (Ok y) =
+    MessagesSoFar z h k now fresh server logons f before cs at turns setups x e (option_map carry_of y)
+MessageSteps z h k now fresh server logons f before cs at turns setups x e (Err (Stopped count)) =
+    (d : gives.Dealt) × DealtBy z h k now fresh server logons f before cs turns d × (d.stopped ≡ Some count)
+MessageSteps z h k now fresh server logons f before cs at turns setups x e (Err Memory) = MessagesLack z h k now fresh server logons f
+    before cs turns
+MessageSteps z h k now fresh server logons f before cs at turns setups x e (Err why) = ⊥
 
 module _ {B : Type 0} where
-  pub record TakesMessage (v : View B Turn Answer) (now : ℕ) (old : ConnectionState) (x : CheckedFrame) (at : ℕ)
+  pub record TakesMessage (v : View B Turn Answer) (now : ℕ) (fresh : List ℕ) (old : ConnectionState) (x : CheckedFrame) (at : ℕ)
       (y : Option related.Carry) (e : Dealt) (new : ConnectionState) (x' : CheckedFrame) (e' : Dealt)
       (result : Result (Option Carry) ConnEnd) (w : View B Turn Answer) : Type 0 where
     pub turns : List Placed
     pub own : w.own ≡ v.own ++ turns
+    pub at_once : AreAtOnce now fresh turns
     pub conn : new.conn ≡ old.conn
-    pub steps : (z : ServerSettings) (h : Course) (f : ServerEnd) (cs : List hearing.Checked) (before : ℕ) (former : List Placed)
+    pub steps : (z : ServerSettings) (h : Course) (server : model.Server) (logons : Logons) (f : ServerEnd) (cs : List hearing.Checked)
+        (before : ℕ) (former : List Placed)
         → AllMeet z h turns → ShowsEnd old.conn.id z.guid old.conn f → Alone cs → length x.messages.items ≡ length cs
-        → MessagesSoFar z h old.conn.id now f before cs at former old.setups x e y
-        → MessageSteps z h old.conn.id now f before cs (at + 1) (former ++ turns) new.setups x' e' result
+        → MessagesSoFar z h old.conn.id now fresh server logons f before cs at former old.setups x e y
+        → MessageSteps z h old.conn.id now fresh server logons f before cs (at + 1) (former ++ turns) new.setups x' e' result
 
-  pub record TakesMessages (v : View B Turn Answer) (now : ℕ) (old : ConnectionState) (x : CheckedFrame) (new : ConnectionState)
+  pub record TakesMessages (v : View B Turn Answer) (now : ℕ) (fresh : List ℕ) (old : ConnectionState) (x : CheckedFrame)
+      (new : ConnectionState)
       (y : CheckedFrame) (e : Dealt) (result : Result Unit ConnEnd) (w : View B Turn Answer) : Type 0 where
     pub turns : List Placed
     pub own : w.own ≡ v.own ++ turns
+    pub at_once : AreAtOnce now fresh turns
     pub conn : new.conn ≡ old.conn
     pub kept : (y.sealed ≡ x.sealed) × (y.moment ≡ x.moment)
-    pub ends : (z : ServerSettings) (h : Course) (f : ServerEnd) (F : hearing.Frame) → AllMeet z h turns
+    pub ends : (z : ServerSettings) (h : Course) (server : model.Server) (logons : Logons) (f : ServerEnd) (F : hearing.Frame)
+        → AllMeet z h turns
         → ShowsEnd old.conn.id z.guid old.conn f → ShowsFrame x F → Alone F.messages
-        → MessagesEnd z h old.conn.id now f old F.messages turns new y e result
+        → MessagesEnd z h old.conn.id now fresh server logons f old F.messages turns new y e result

@@ -1,5 +1,5 @@
 -- What is known of links that were served, each by a seat of its own.
-use Rattle.std.specs.Prelude.{◌≡◌, ℕ, ◌+◌, ◌<◌, List, [], ◌∷◌, ◌++◌, ◌⊎◌, Option, None, Some, get_or}
+use Rattle.std.specs.Prelude.{◌≡◌, ℕ, ◌+◌, ◌<◌, List, [], ◌∷◌, ◌++◌, ◌⊎◌, Option, None, Some, get_or, length}
 use Rattle.serve_turns.specs.declared.shared_book.view.Entry.{Entry}
 use Rattle.serve_turns.specs.declared.shared_book.view.View.{View}
 use Rattle.serve_turns.specs.shared_book.Numbers.{IsOneOf, numbers_of}
@@ -18,6 +18,7 @@ pub record Leaves (link : Link) (running rest : List Link) : Type 0 where
   pub was : IsAmong link running
   pub goes : (x : Link) → IsAmong x running → (x ≡ link) ⊎ IsAmong x rest
   pub stays : (x : Link) → IsAmong x rest → IsAmong x running
+  pub one_less : length running ≡ length rest + 1
 
 -- ---- links that were served
 
@@ -59,9 +60,9 @@ module _ {B E R X : Type 0} (serves : ℕ → View B E R → X → View B E R �
     EachServed count [] (x ∷ xs) = ⊥
     EachServed count (l ∷ ls) [] = ⊥
 
-  -- Of links below a count, in the order in which they were accepted: these are being served, and of some it is told how they ended. Each was
-  -- or is served by a seat of its own. The seat of the first number, which has no entries of its own, took in each seat that has ended, whose
-  -- link ended as is told, if it is; each that was made has ended, or serves a link.
+  -- Of the first so many links, in the order in which they were accepted: these are being served, and of some it is told how they ended.
+  -- Each was or is served by a seat of its own. The seat of the first number, which has no entries of its own, took in each seat that has
+  -- ended, whose link ended as is told, if it is; each that was made has ended, or serves a link. There are as many of both as links.
   pub record AreServed (running : List Link) (count : ℕ) (ends : List (Option X)) (v : View B E R) : Type 0 where
     pub seat_at : ℕ → ℕ
     pub is_first : v.number ≡ 0
@@ -71,3 +72,4 @@ module _ {B E R X : Type 0} (serves : ℕ → View B E R → X → View B E R �
     pub each : EachServed seat_at v.opening v.kept count links v.ended
     pub told : (at : ℕ) (end : X) → get_or ends at None ≡ Some end → IsEndOf at end links
     pub back : (n : ℕ) → IsOneOf n v.made → IsOneOf n (numbers_of v) ⊎ ((place : ℕ) × IsAmong (place, n) running)
+    pub as_many : length running + length links ≡ count

@@ -1,6 +1,7 @@
 //! What serves connections by seats of one server.
-ghost use Rattle.std.specs.Prelude.{◌≡◌};
+ghost use Rattle.std.specs.Prelude.{◌≡◌, IfOk};
 ghost use Rattle.serve_turns.specs.shared_book.Words.{view_of, IsSameSeat, IsSeatOf};
+ghost use Rattle.serve_turns.specs.connection_turns.Drawing.{BeginsSalted, IsDrawn};
 ghost use Rattle.serve_turns.specs.connection_turns.Due.{IsTakenIn};
 ghost use Rattle.serve_turns.specs.connection_turns.Ending.{ended_by};
 ghost use Rattle.serve_turns.specs.connection_turns.Serving.{LetsGo, OnLink, OnLinkFrames, OnLinkTaken};
@@ -16,7 +17,7 @@ use crate::shared_book::{BookSeat, SharedBook};
 use base_outside::{Clock, Link, News, Standing};
 use conn_core::{Conn, ConnEnd, Reply, Serve, ServeError};
 use rand_core::Rng;
-use std::alloc::Global;
+use std::alloc::{AllocError, Global};
 use std::snapshot::Snapshot;
 use std::sync::{Mutex, Wait};
 
@@ -35,20 +36,36 @@ impl<C: Clock, R: Rng> Connections<C, R> {
         self.clock.lock(rt).now()
     }
 
-    /// Random bytes for a challenge. They are drawn as they are used: 4,096 of them drawn before the connection would take 32 KiB of it, and
-    /// each event tells its own in the server's history all the same.
-    pub(crate) fn fresh<W: Wait>(&self, rt: &W) -> [u8; 8] {
-        let mut bytes = [0u8; 8];
-        self.random.lock(rt).fill_bytes(&mut bytes);
-        bytes
+    /// Random bytes for a challenge. They are drawn as they are used, for a frame at a time: 4,096 of them drawn before the connection
+    /// would take 32 KiB of it, and each event tells its own in the server's history all the same.
+    pub(crate) fn fresh<W: Wait>(&self, rt: &W) -> [u8; 8]
+        ensures { IsDrawn R.stream 8 result }
+    {
+        fresh_of(&mut *self.random.lock(rt))
     }
 
     /// Random bytes for the response to a NEGOTIATE.
-    fn salt<W: Wait>(&self, rt: &W) -> [u8; 32] {
-        let mut bytes = [0u8; 32];
-        self.random.lock(rt).fill_bytes(&mut bytes);
-        bytes
+    fn salt<W: Wait>(&self, rt: &W) -> [u8; 32]
+        ensures { IsDrawn R.stream 32 result }
+    {
+        salt_of(&mut *self.random.lock(rt))
     }
+}
+
+fn fresh_of<R: Rng>(random: &mut R) -> [u8; 8]
+    ensures { IsDrawn R.stream 8 result }
+{
+    let mut bytes = [0u8; 8];
+    random.fill_bytes(&mut bytes);
+    bytes
+}
+
+fn salt_of<R: Rng>(random: &mut R) -> [u8; 32]
+    ensures { IsDrawn R.stream 32 result }
+{
+    let mut bytes = [0u8; 32];
+    random.fill_bytes(&mut bytes);
+    bytes
 }
 
 /// Serves one connection until it ends: a turn when it is made; for each frame that the link gives, in order, one for each of its messages
@@ -142,6 +159,29 @@ where
     by(why)
 }
 
+/// The state of a connection that was just taken in, with random bytes for its response to a NEGOTIATE.
+fn first_state<W, C, R>(
+    rt: &W,
+    outside: &Connections<C, R>,
+    number: u32,
+    guid: [u8; 16],
+) -> Result<ConnectionState, AllocError>
+where
+    W: Wait,
+    C: Clock,
+    R: Rng,
+    ensures { IfOk result (λ state. BeginsSalted R.stream number guid state) }
+{
+    let salt = outside.salt(rt);
+    match Conn::new(outside.alloc, number, guid, salt) {
+        Ok(conn) => {
+            let state = ConnectionState::new(conn);
+            Ok(state)
+        }
+        Err(AllocError) => Err(AllocError),
+    }
+}
+
 /// The frames of a connection that was taken in, where there is room for its state, and why it ends.
 fn serve_frames<W, L, S, C, R, V>(
     rt: &W,
@@ -167,11 +207,10 @@ where
     ensures frames { OnLinkFrames L.told L.given L.written L.faults L.ended begun.now.guid begun.now.number (view_of seat.old) link.old result
         (view_of seat.new) link.new }
 {
-    let conn = match Conn::new(outside.alloc, begun.number, begun.guid, outside.salt(rt)) {
-        Ok(conn) => conn,
+    let mut state = match first_state(rt, outside, begun.number, begun.guid) {
+        Ok(state) => state,
         Err(_) => return Some(ConnEnd::Memory),
     };
-    let mut state = ConnectionState::new(conn);
     read_frames(
         rt, outside, onlooker, begun, link, book, seat, &mut state, briefly,
     )

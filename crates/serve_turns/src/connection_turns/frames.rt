@@ -11,6 +11,7 @@ ghost use Rattle.conn_core.specs.frame_messages.Checking.{AllHaveMessages};
 ghost use Rattle.conn_core.specs.message_replies.Replying.{AreMessagesShort};
 ghost use Rattle.conn_core.specs.reply_frames.Replying.{AreAnswers, WalkReplies, walk_replied};
 ghost use Rattle.serve_turns.specs.shared_book.Words.{view_of, IsSameSeat, IsSeatOf};
+ghost use Rattle.serve_turns.specs.connection_turns.Drawing.{HasDrawn};
 ghost use Rattle.serve_turns.specs.connection_turns.Due.{IsUnderWay};
 ghost use Rattle.serve_turns.specs.connection_turns.Passing.{Feeds, FrameTaken, NextFrame, Puts, Stops, TakesAll};
 
@@ -62,7 +63,7 @@ fn finish(
 }
 
 /// Takes a frame: it is opened and checked, each message that asks something of the server has a turn, and the replies are sealed or signed.
-/// Nothing of a cipher is in a turn. The clock is read once.
+/// Nothing of a cipher is in a turn. The clock is read once, and random bytes are drawn once, as at most one SESSION_SETUP is heard.
 fn take_frame<W, S, C, R>(
     rt: &W,
     outside: &Connections<C, R>,
@@ -79,6 +80,7 @@ where
     requires own { IsSeatOf book.now seat.old }
     ensures same { IsSameSeat seat.old seat.new }
     ensures takes { FrameTaken (view_of seat.old) state.old frame.now result state.new (view_of seat.new) }
+    ensures draws { HasDrawn R.stream (view_of seat.old) (view_of seat.new) }
 {
     state.news = None;
     let now = outside.now(rt);
@@ -91,7 +93,9 @@ where
         Ok(dealt) => dealt,
         Err(AllocError) => return Err(ConnEnd::Memory),
     };
-    match take_messages(rt, outside, book, seat, now, state, &mut asked, &mut dealt) {
+    // Before the first turn, so that no other lock is waited for while the server is held.
+    let fresh = outside.fresh(rt);
+    match take_messages(rt, book, seat, now, fresh, state, &mut asked, &mut dealt) {
         Ok(()) => finish(state, &asked, &dealt),
         Err(why) => Err(why),
     }

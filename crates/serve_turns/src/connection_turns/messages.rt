@@ -7,19 +7,16 @@ ghost use Rattle.conn_core.specs.message_replies.Replying.{AreMessagesShort, has
 ghost use Rattle.conn_core.specs.related.Carrying.{carry_of};
 ghost use Rattle.serve_turns.specs.shared_book.Words.{view_of, IsSameSeat, IsSeatOf};
 ghost use Rattle.serve_turns.specs.event_book.Places.{is_asked};
-ghost use Rattle.serve_turns.specs.connection_turns.Messages.{AnswersOne, DealsFor, TakesMessage, TakesMessages};
+ghost use Rattle.serve_turns.specs.connection_turns.Messages.{AnswersOne, DealsFor, TakesMessage, TakesMessages, TellsOf};
 
-use crate::connection_turns::connections::Connections;
 use crate::connection_turns::state::ConnectionState;
 use crate::connection_turns::turning::{Asked, ask_in_turn};
 use crate::event_book::{Asks, EventBook};
 use crate::shared_book::{BookSeat, SharedBook};
-use base_outside::Clock;
 use conn_core::{
-    Carry, Checked, CheckedFrame, ConnEnd, Dealt, Reply, Serve, ServeError, Told, goes, hand_on,
-    has_event, refuse, told_of,
+    Carry, Checked, CheckedFrame, Conn, ConnEnd, Dealt, Reply, Serve, ServeError, Told, goes,
+    hand_on, has_event, refuse, told_of,
 };
-use rand_core::Rng;
 use std::alloc::Global;
 use std::mem;
 use std::sync::Wait;
@@ -62,23 +59,25 @@ fn asks_of(frame: CheckedFrame, at: usize, told: Told) -> Asks
     Asks { frame, at, told }
 }
 
-/// Random bytes for a challenge, of a SESSION_SETUP alone: no other message has use for them.
-fn fresh_for<W: Wait, C: Clock, R: Rng>(
-    rt: &W,
-    outside: &Connections<C, R>,
-    setup: bool,
-) -> [u8; 8] {
-    if setup { outside.fresh(rt) } else { [0; 8] }
+/// What the connection tells of a message, with these random bytes.
+fn tells(conn: &Conn, asked: &CheckedFrame, at: usize, fresh: [u8; 8]) -> Told
+    requires { HasMessage asked.now at }
+    ensures told { TellsOf conn.now asked.now at result }
+    ensures fresh { result.fresh ≡ fresh }
+{
+    let mut told = told_of(conn, asked, at, fresh);
+    told.fresh = fresh;
+    told
 }
 
 /// Gives the server one message of a frame, where it asks something, in a turn of its own. The frame is as it was. What the turn is told of
 /// the connection is what `told_of` tells; all else of it stays outside.
-fn answer_in_turn<W, S, C, R>(
+fn answer_in_turn<W, S>(
     rt: &W,
-    outside: &Connections<C, R>,
     book: &SharedBook<EventBook<S>>,
     seat: &mut BookSeat<EventBook<S>>,
     now: u64,
+    fresh: [u8; 8],
     state: &mut ConnectionState,
     asked: &mut CheckedFrame,
     at: usize,
@@ -86,14 +85,12 @@ fn answer_in_turn<W, S, C, R>(
 where
     W: Wait,
     S: Serve,
-    C: Clock,
-    R: Rng,
     requires own { IsSeatOf book.now seat.old }
     requires message { HasMessage asked.old at }
     requires denied { AreDenied asked.old }
     ensures same { IsSameSeat seat.old seat.new }
     ensures frame { asked.new ≡ asked.old }
-    ensures answers { AnswersOne (view_of seat.old) now state.old asked.old at state.new result (view_of seat.new) }
+    ensures answers { AnswersOne (view_of seat.old) now fresh state.old asked.old at state.new result (view_of seat.new) }
     ensures short { AreShortIf result }
 {
     let checked = asked.checked(at);
@@ -101,9 +98,7 @@ where
         return None;
     }
     let setup = is_setup(checked);
-    // Before the turn, so that no other lock is waited for while the server is held.
-    let fresh = fresh_for(rt, outside, setup);
-    let told = told_of(&state.conn, asked, at, fresh);
+    let told = tells(&state.conn, asked, at, fresh);
     let frame = mem::replace(asked, hollow(state.conn.alloc));
     let asks = asks_of(frame, at, told);
     let given = ask_in_turn(rt, book, seat, now, asks);
@@ -119,12 +114,12 @@ where
 }
 
 /// A message that goes its way, and what it hands on. A SESSION_SETUP behind as many as the server hears is refused without a turn.
-fn deal_in_turn<W, S, C, R>(
+fn deal_in_turn<W, S>(
     rt: &W,
-    outside: &Connections<C, R>,
     book: &SharedBook<EventBook<S>>,
     seat: &mut BookSeat<EventBook<S>>,
     now: u64,
+    fresh: [u8; 8],
     state: &mut ConnectionState,
     asked: &mut CheckedFrame,
     at: usize,
@@ -134,15 +129,14 @@ fn deal_in_turn<W, S, C, R>(
 where
     W: Wait,
     S: Serve,
-    C: Clock,
-    R: Rng,
     requires own { IsSeatOf book.now seat.old }
     requires message { HasMessage asked.old at }
     requires denied { AreDenied asked.old }
     requires room { length dealt.old.replies.items.items < vec_capacity dealt.old.replies.items }
     ensures same { IsSameSeat seat.old seat.new }
     ensures frame { asked.new ≡ asked.old }
-    ensures deals { DealsFor (view_of seat.old) now state.old asked.old at (option_map carry_of carried.now) dealt.old state.new dealt.new
+    ensures deals { DealsFor (view_of seat.old) now fresh state.old asked.old at (option_map carry_of carried.now) dealt.old state.new
+        dealt.new
         result (view_of seat.new) }
     ensures room { vec_capacity dealt.old.replies.items ≤ vec_capacity dealt.new.replies.items }
 {
@@ -150,17 +144,17 @@ where
         let alloc = state.conn.alloc;
         return refuse(alloc, asked, at, carried, dealt, INSUFFICIENT_RESOURCES);
     }
-    let answer = answer_in_turn(rt, outside, book, seat, now, state, asked, at);
+    let answer = answer_in_turn(rt, book, seat, now, fresh, state, asked, at);
     hand_on(asked, at, carried, dealt, answer)
 }
 
 /// One message in its turn: what is handed on behind it.
-fn take_message<W, S, C, R>(
+fn take_message<W, S>(
     rt: &W,
-    outside: &Connections<C, R>,
     book: &SharedBook<EventBook<S>>,
     seat: &mut BookSeat<EventBook<S>>,
     now: u64,
+    fresh: [u8; 8],
     state: &mut ConnectionState,
     asked: &mut CheckedFrame,
     at: usize,
@@ -170,15 +164,13 @@ fn take_message<W, S, C, R>(
 where
     W: Wait,
     S: Serve,
-    C: Clock,
-    R: Rng,
     requires own { IsSeatOf book.now seat.old }
     requires order { AreInOrder asked.old }
     requires denied { AreDenied asked.old }
     requires there { at < length asked.old.messages.items }
     requires room { length dealt.old.replies.items.items < vec_capacity dealt.old.replies.items }
     ensures same { IsSameSeat seat.old seat.new }
-    ensures takes { TakesMessage (view_of seat.old) now state.old asked.old at (option_map carry_of carried.now) dealt.old
+    ensures takes { TakesMessage (view_of seat.old) now fresh state.old asked.old at (option_map carry_of carried.now) dealt.old
         state.new asked.new dealt.new result (view_of seat.new) }
     ensures order { AreInOrder asked.new }
     ensures denied { AreDenied asked.new }
@@ -191,21 +183,19 @@ where
     if !goes(asked, at, carried) {
         return Ok(*carried);
     }
-    match deal_in_turn(
-        rt, outside, book, seat, now, state, asked, at, carried, dealt,
-    ) {
+    match deal_in_turn(rt, book, seat, now, fresh, state, asked, at, carried, dealt) {
         Ok(behind) => Ok(Some(behind)),
         Err(why) => Err(why),
     }
 }
 
 /// All messages of a frame in order. Behind one at which the server stopped, and behind one whose reply is lost, no message has an event.
-pub(crate) fn take_messages<W, S, C, R>(
+pub(crate) fn take_messages<W, S>(
     rt: &W,
-    outside: &Connections<C, R>,
     book: &SharedBook<EventBook<S>>,
     seat: &mut BookSeat<EventBook<S>>,
     now: u64,
+    fresh: [u8; 8],
     state: &mut ConnectionState,
     asked: &mut CheckedFrame,
     dealt: &mut Dealt,
@@ -213,15 +203,13 @@ pub(crate) fn take_messages<W, S, C, R>(
 where
     W: Wait,
     S: Serve,
-    C: Clock,
-    R: Rng,
     requires own { IsSeatOf book.now seat.old }
     requires order { AreInOrder asked.old }
     requires denied { AreDenied asked.old }
     requires none { (dealt.old.replies.items.items ≡ []) × (dealt.old.took ≡ false) }
     requires room { length asked.old.messages.items ≤ vec_capacity dealt.old.replies.items }
     ensures same { IsSameSeat seat.old seat.new }
-    ensures takes { TakesMessages (view_of seat.old) now state.old asked.old state.new asked.new dealt.new result
+    ensures takes { TakesMessages (view_of seat.old) now fresh state.old asked.old state.new asked.new dealt.new result
         (view_of seat.new) }
     ensures order { AreInOrder asked.new }
     ensures short { AreMessagesShort dealt.new.replies.items.items }
@@ -229,7 +217,7 @@ where
     let mut carried: Option<Carry> = None;
     for at in 0..asked.len() {
         match take_message(
-            rt, outside, book, seat, now, state, asked, at, &carried, dealt,
+            rt, book, seat, now, fresh, state, asked, at, &carried, dealt,
         ) {
             Ok(behind) => carried = behind,
             Err(why) => return Err(why),

@@ -1,5 +1,5 @@
 //! The threads that run, and what is left of those that have ended.
-ghost use Rattle.std.specs.Prelude.{◌≡◌, ◌+◌, ◌<◌, ◌≤◌, ◌^◌, ℕ, [], length, map, IfSome, OnOk};
+ghost use Rattle.std.specs.Prelude.{◌≡◌, ◌+◌, ◌<◌, ◌≤◌, ◌^◌, ℕ, [], length, map, IfSome, OnErr, OnOk};
 ghost use Rattle.std.specs.List.{All};
 ghost use Rattle.serve_turns.specs.shared_book.Words.{view_of, IsSeatOf};
 ghost use Rattle.serve_turns.specs.link_serving.Passage.{IsNewLink, IsOfLink, ServesOver};
@@ -161,10 +161,18 @@ where
         × IsNewSeat (view_of crew.old.roll.seat).opening (view_of c.handle.promise.seat.value)) crew.old.running.items }
     ensures own { IsSeatOf book.now crew.new.roll.seat }
     ensures opening { (view_of crew.new.roll.seat).opening ≡ (view_of crew.old.roll.seat).opening }
-    ensures served { AreServed (ServesOver (IsOfLink L.told L.given L.written L.faults L.ended) (S.serves service.now)) (map (λ c. (c.place, (view_of c.handle.promise.seat.value).number)) crew.old.running.items)
+    ensures served { OnOk result (AreServed (ServesOver (IsOfLink L.told L.given L.written L.faults L.ended) (S.serves service.now))
+        (map (λ c. (c.place, (view_of c.handle.promise.seat.value).number)) crew.old.running.items)
         place crew.old.roll.ends.items (view_of crew.old.roll.seat)
-        → AreServed (ServesOver (IsOfLink L.told L.given L.written L.faults L.ended) (S.serves service.now)) (map (λ c. (c.place, (view_of c.handle.promise.seat.value).number)) crew.new.running.items)
-        (place + 1) crew.new.roll.ends.items (view_of crew.new.roll.seat) }
+        → AreServed (ServesOver (IsOfLink L.told L.given L.written L.faults L.ended) (S.serves service.now))
+        (map (λ c. (c.place, (view_of c.handle.promise.seat.value).number)) crew.new.running.items)
+        (place + 1) crew.new.roll.ends.items (view_of crew.new.roll.seat)) }
+    ensures let_go { OnErr result (AreServed (ServesOver (IsOfLink L.told L.given L.written L.faults L.ended) (S.serves service.now))
+        (map (λ c. (c.place, (view_of c.handle.promise.seat.value).number)) crew.old.running.items)
+        place crew.old.roll.ends.items (view_of crew.old.roll.seat)
+        → AreServed (ServesOver (IsOfLink L.told L.given L.written L.faults L.ended) (S.serves service.now))
+        (map (λ c. (c.place, (view_of c.handle.promise.seat.value).number)) crew.new.running.items)
+        place crew.new.roll.ends.items (view_of crew.new.roll.seat)) }
     ensures running { All (λ c. IsSeatOf book.now c.handle.promise.seat.value
         × (c.handle.promise.service.value ≡ service.now)
         × IsNewSeat (view_of crew.old.roll.seat).opening (view_of c.handle.promise.seat.value)) crew.new.running.items }

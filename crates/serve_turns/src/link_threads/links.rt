@@ -5,6 +5,7 @@ ghost use Rattle.serve_turns.specs.shared_book.Words.{view_of, IsSeatOf};
 ghost use Rattle.base_outside.specs.streams.Faults.{Rose};
 ghost use Rattle.serve_turns.specs.link_serving.Passage.{IsOfLink, ServesOver};
 ghost use Rattle.serve_turns.specs.link_serving.Serving.{AreServed, IsNewSeat};
+ghost use Rattle.serve_turns.specs.link_threads.Accepted.{AreAccepted};
 ghost use Rattle.serve_turns.specs.link_threads.Covering.{AreCovered, HaveEnds};
 ghost use Rattle.serve_turns.specs.declared.link_threads.links.Halt.TheVariants as halts;
 
@@ -66,8 +67,10 @@ where
         × IsNewSeat (view_of crew.old.roll.seat).opening (view_of c.handle.promise.seat.value)) crew.old.running.items }
     ensures own { IsSeatOf book.now crew.new.roll.seat }
     ensures opening { (view_of crew.new.roll.seat).opening ≡ (view_of crew.old.roll.seat).opening }
-    ensures served { AreServed (ServesOver (IsOfLink N.L.told N.L.given N.L.written N.L.faults N.L.ended) (S.serves service.now)) (map (λ c. (c.place, (view_of c.handle.promise.seat.value).number)) crew.new.running.items)
-        count crew.new.roll.ends.items (view_of crew.new.roll.seat) }
+    ensures served { (served : ℕ) × AreAccepted count served result (N.accepted net.old) (N.accepted net.new)
+        × AreServed (ServesOver (IsOfLink N.L.told N.L.given N.L.written N.L.faults N.L.ended) (S.serves service.now))
+        (map (λ c. (c.place, (view_of c.handle.promise.seat.value).number)) crew.new.running.items)
+        served crew.new.roll.ends.items (view_of crew.new.roll.seat) }
     ensures running { All (λ c. IsSeatOf book.now c.handle.promise.seat.value
         × (c.handle.promise.service.value ≡ service.now)
         × IsNewSeat (view_of crew.old.roll.seat).opening (view_of c.handle.promise.seat.value)) crew.new.running.items }
@@ -76,11 +79,11 @@ where
         → AreCovered (λ c. c.place) count crew.new.roll.ends.items crew.new.running.items }
     ensures net { result ≡ halts.NetFault → Rose (N.faults net.old) (N.faults net.new) }
     ensures place { N.listens_at net.new ≡ N.listens_at net.old }
-    ensures accepted { result ≡ halts.Count → N.accepted net.old + count < 2 ^ 64 → N.accepted net.new ≡ N.accepted net.old + count }
 {
     for place in 0..count {
-        let Ok(link) = net.accept() else {
-            return Halt::NetFault;
+        let link = match net.accept() {
+            Ok(link) => link,
+            Err(_) => return Halt::NetFault,
         };
         // Looked at only here, since `accept` waits: one more peer is accepted and dropped.
         if ended.is_halted(rt) {
@@ -124,12 +127,13 @@ where
         × IsNewSeat (view_of crew.roll.seat).opening (view_of c.handle.promise.seat.value)) crew.running.items }
     ensures own { IsSeatOf book.now result.roll.seat }
     ensures opening { (view_of result.roll.seat).opening ≡ (view_of crew.roll.seat).opening }
-    ensures served { AreServed (ServesOver (IsOfLink N.L.told N.L.given N.L.written N.L.faults N.L.ended) (S.serves service.now)) [] count result.roll.ends.items (view_of result.roll.seat) }
+    ensures served { (served : ℕ) × AreAccepted count served result.halt (N.accepted net) (N.accepted result.net)
+        × AreServed (ServesOver (IsOfLink N.L.told N.L.given N.L.written N.L.faults N.L.ended) (S.serves service.now)) [] served
+        result.roll.ends.items (view_of result.roll.seat) }
     ensures count { length result.roll.ends.items ≡ length crew.roll.ends.items }
     ensures ends { result.halt ≡ halts.Count → HaveEnds count result.roll.ends.items }
     ensures net { result.halt ≡ halts.NetFault → Rose (N.faults net) (N.faults result.net) }
     ensures place { N.listens_at result.net ≡ N.listens_at net }
-    ensures accepted { result.halt ≡ halts.Count → N.accepted net + count < 2 ^ 64 → N.accepted result.net ≡ N.accepted net + count }
 {
     let halt = accept_each(rt, scope, &mut net, book, service, &mut crew, ended, count);
     join_all(rt, book, service, &mut crew);
@@ -162,12 +166,13 @@ where
     requires served { AreServed (ServesOver (IsOfLink N.L.told N.L.given N.L.written N.L.faults N.L.ended) (S.serves service.now)) [] 0 roll.ends.items (view_of roll.seat) }
     ensures own { IsSeatOf book.now result.roll.seat }
     ensures opening { (view_of result.roll.seat).opening ≡ (view_of roll.seat).opening }
-    ensures served { AreServed (ServesOver (IsOfLink N.L.told N.L.given N.L.written N.L.faults N.L.ended) (S.serves service.now)) [] count result.roll.ends.items (view_of result.roll.seat) }
+    ensures served { (served : ℕ) × AreAccepted count served result.halt (N.accepted net) (N.accepted result.net)
+        × AreServed (ServesOver (IsOfLink N.L.told N.L.given N.L.written N.L.faults N.L.ended) (S.serves service.now)) [] served
+        result.roll.ends.items (view_of result.roll.seat) }
     ensures count { length result.roll.ends.items ≡ length roll.ends.items }
     ensures ends { result.halt ≡ halts.Count → HaveEnds count result.roll.ends.items }
     ensures net { result.halt ≡ halts.NetFault → Rose (N.faults net) (N.faults result.net) }
     ensures place { N.listens_at result.net ≡ N.listens_at net }
-    ensures accepted { result.halt ≡ halts.Count → N.accepted net + count < 2 ^ 64 → N.accepted result.net ≡ N.accepted net + count }
 {
     let ended = EndedList::new(alloc, counted);
     let notes = &ended;
@@ -190,11 +195,12 @@ where
                 × ((view_of result.roll.seat).opening ≡ (view_of crew.roll.seat).opening)
                 × (length result.roll.ends.items ≡ length crew.roll.ends.items)
                 × (result.halt ≡ halts.Count → HaveEnds count result.roll.ends.items)
-                × AreServed (ServesOver (IsOfLink N.L.told N.L.given N.L.written N.L.faults N.L.ended) (S.serves service.entry.now)) [] count result.roll.ends.items (view_of result.roll.seat)
+                × ((served : ℕ) × AreAccepted count served result.halt (N.accepted net) (N.accepted result.net)
+                × AreServed (ServesOver (IsOfLink N.L.told N.L.given N.L.written N.L.faults N.L.ended) (S.serves service.entry.now)) []
+                served
+                result.roll.ends.items (view_of result.roll.seat))
                 × (result.halt ≡ halts.NetFault → Rose (N.faults net) (N.faults result.net))
-                × (N.listens_at result.net ≡ N.listens_at net)
-                × (result.halt ≡ halts.Count → N.accepted net + count < 2 ^ 64
-                → N.accepted result.net ≡ N.accepted net + count) }
+                × (N.listens_at result.net ≡ N.listens_at net) }
         { in_scope(rt, scope, net, book, service, crew, notes, count) },
     )
 }

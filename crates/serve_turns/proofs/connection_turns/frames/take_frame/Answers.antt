@@ -1,9 +1,9 @@
-use Rattle.std.proofs.Common.{[], None, refl, sym, subst, append-nil, arith}
+use Rattle.std.proofs.Common.{[], None, inl, inr, refl, sym, subst, append-nil, arith}
 use Rattle.conn_core.specs.Shown.{ShowsEnd}
 use Rattle.conn_core.specs.declared.conn.Conn.{Conn}
 use Rattle.conn_core.proofs.frame_messages.Places.{each_has}
 use Rattle.serve_turns.specs.shared_book.Words.{view_of}
-use Rattle.serve_turns.proofs.connection_turns.Framing.{checked_so, frame_comes, frame_fails, frame_lacks, frame_stops}
+use Rattle.serve_turns.proofs.connection_turns.Framing.{checked_so, first_found, frame_comes, frame_fails, frame_lacks, frame_stops}
 use Rattle.serve_turns.proofs.connection_turns.frames.take_frame.Goals as goal
 
 pub take_messages-requires-clause-order : goal.take_messages-requires-clause-order
@@ -50,10 +50,12 @@ returns-clause-takes g c =
       comes = λ z h f all shows bound.
           let q = checked_so z k c.now-now.result f c.args.frame.now c.check.new.conn c.in-Ok.asked shows.heard bound
           (c.in-Ok.ensures.checks k z.guid f shows) in
-          frame_stops z h k f c.args.state.now.setups c.args.frame.now takes.turns q.F q.heard c.now-now.result c.check.new.conn.id
+          let st = first_found h takes.turns in
+          frame_stops z h k f c.args.state.now.setups c.args.frame.now takes.turns q.F q.heard c.now-now.result c.fresh-fresh.result
+          st.stand.server st.stand.logons takes.at_once st.is c.check.new.conn.id
           (record c.args.state.now { conn = c.check.new.conn; news = None })
           c.take_messages.new.state c.take_messages.new.asked c.take_messages.new.dealt c.in-Err-take_messages.why q.shows.number refl
-          (takes.ends z h q.F.server_end q.F all
+          (takes.ends z h st.stand.server st.stand.logons q.F.server_end q.F all
           (subst (λ i. ShowsEnd i z.guid c.check.new.conn q.F.server_end) (sym q.shows.number) q.shows) q.frames q.alone);
     }
 
@@ -67,12 +69,58 @@ returns-in-Ok-take_messages-clause-takes g c =
       comes = λ z h f all shows bound.
           let q = checked_so z k c.now-now.result f c.args.frame.now c.check.new.conn c.in-Ok.asked shows.heard bound
           (c.in-Ok.ensures.checks k z.guid f shows) in
-          frame_comes z h k f c.args.state.now.setups c.args.frame.now takes.turns q.F q.heard c.now-now.result c.check.new.conn.id
+          let st = first_found h takes.turns in
+          frame_comes z h k f c.args.state.now.setups c.args.frame.now takes.turns q.F q.heard c.now-now.result c.fresh-fresh.result
+          st.stand.server st.stand.logons takes.at_once st.is c.check.new.conn.id
           (record c.args.state.now { conn = c.check.new.conn; news = None })
           c.take_messages.new.state c.finish.new.state c.in-Ok.asked c.take_messages.new.asked c.take_messages.new.dealt c.finish.result
           q.shows.number refl c.finish.ensures.setups q.frames.sealed takes.kept q.time q.seals q.greets q.asked q.bound
           (subst (λ (o : Conn). ShowsEnd k z.guid o q.F.server_end) (sym takes.conn) q.shows)
-          (takes.ends z h q.F.server_end q.F all
+          (takes.ends z h st.stand.server st.stand.logons q.F.server_end q.F all
           (subst (λ i. ShowsEnd i z.guid c.check.new.conn q.F.server_end) (sym q.shows.number) q.shows) q.frames q.alone)
           (λ s L cs ss w end answers. c.finish.ensures.replies z s L q.F.server_end cs ss w end answers);
+    }
+
+pub returns-in-Err-clause-draws : goal.returns-in-Err-clause-draws
+returns-in-Err-clause-draws g c = record {
+  turns = [];
+  own = sym (append-nil (view_of c.args.seat.now).own);
+  now = 0;
+  fresh = [];
+  at_once = tt;
+  drawn = inl refl;
+}
+
+pub returns-in-Err-dealt_for-clause-draws : goal.returns-in-Err-dealt_for-clause-draws
+returns-in-Err-dealt_for-clause-draws g c = record {
+  turns = [];
+  own = sym (append-nil (view_of c.args.seat.now).own);
+  now = 0;
+  fresh = [];
+  at_once = tt;
+  drawn = inl refl;
+}
+
+pub returns-clause-draws : goal.returns-clause-draws
+returns-clause-draws g c =
+    let takes = c.in-Err-take_messages.ensures.takes in
+    record {
+      turns = takes.turns;
+      own = takes.own;
+      now = c.now-now.result;
+      fresh = c.fresh-fresh.result;
+      at_once = takes.at_once;
+      drawn = inr c.fresh-fresh.ensures;
+    }
+
+pub returns-in-Ok-take_messages-clause-draws : goal.returns-in-Ok-take_messages-clause-draws
+returns-in-Ok-take_messages-clause-draws g c =
+    let takes = c.in-Ok-take_messages.ensures.takes in
+    record {
+      turns = takes.turns;
+      own = takes.own;
+      now = c.now-now.result;
+      fresh = c.fresh-fresh.result;
+      at_once = takes.at_once;
+      drawn = inr c.fresh-fresh.ensures;
     }

@@ -1,4 +1,4 @@
-use Rattle.std.proofs.Common.{◌≡◌, ◌+◌, Bool, true, false, min, if◌then◌else◌, inl, inr, refl, sym, ap, subst, ◌∙◌}
+use Rattle.std.proofs.Common.{◌≡◌, ◌+◌, Bool, true, min, if◌then◌else◌, inl, inr, refl, sym, ap, subst, ◌∙◌}
 use Rattle.std.proofs.lemmas.Option.{slice_get_within}
 use Rattle.conn_core.specs.declared.frame_messages.checked.Checked.{Checked}
 use Rattle.conn_core.specs.declared.frame_messages.checked.CheckedFrame.{CheckedFrame}
@@ -51,9 +51,10 @@ returns-clause-answers g c = λ m here.
       frame = c.asks_of-asks.ensures.0 ∙ c.replace-frame.ensures.value;
       place = c.asks_of-asks.ensures.1;
       told = λ guid f n k shows there going.
-          let told = c.told_of-told.ensures guid f n k shows there going in
+          let told = c.tells-told.ensures.told guid f n k shows there going in
           subst (λ (t : Told). IsRequestTold f k t × (t.connection ≡ c.args.state.now.conn.id)) (sym c.asks_of-asks.ensures.2)
           (told.0, told.1);
+      fresh_is = ap (λ (t : Told). t.fresh) c.asks_of-asks.ensures.2 ∙ c.tells-told.ensures.fresh;
       turn = once.turn;
       own = once.own;
       is_turn = once.event;

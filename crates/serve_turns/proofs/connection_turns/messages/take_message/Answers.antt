@@ -27,7 +27,8 @@ returns-then-not-goes-clause-takes g c =
     let m = each_has old c.requires.order c.args.at less in
     let n = each_has x (c.goes.ensures.order c.requires.order) c.args.at (omega (arith, count, less)) in
     let placed = c.goes.ensures.place m.0 n.0 m.1 n.1 in
-    takes_failed (view_of c.args.seat.now) c.args.now c.args.state.now old x c.args.at c.args.carried.now c.args.dealt.now m.0 n.0
+    takes_failed (view_of c.args.seat.now) c.args.now c.args.fresh c.args.state.now old x c.args.at c.args.carried.now c.args.dealt.now
+    m.0 n.0
     (record {
       order = c.requires.order;
       less = less;
@@ -50,10 +51,12 @@ returns-in-Ok-clause-takes g c =
     let m = each_has old c.requires.order c.args.at less in
     let n = each_has x (c.goes.ensures.order c.requires.order) c.args.at (omega (arith, count, less)) in
     let placed = c.goes.ensures.place m.0 n.0 m.1 n.1 in
-    subst (λ (q : CheckedFrame). TakesMessage (view_of c.args.seat.now) c.args.now c.args.state.now old c.args.at y c.args.dealt.now
+    subst (λ (q : CheckedFrame). TakesMessage (view_of c.args.seat.now) c.args.now c.args.fresh c.args.state.now old c.args.at y
+    c.args.dealt.now
     c.deal_in_turn.new.state q c.deal_in_turn.new.dealt (Ok (Some c.in-Ok.behind)) (view_of c.deal_in_turn.new.seat))
     (sym c.deal_in_turn.ensures.frame)
-    (takes_going (view_of c.args.seat.now) (view_of c.deal_in_turn.new.seat) c.args.now c.args.state.now c.deal_in_turn.new.state old x
+    (takes_going (view_of c.args.seat.now) (view_of c.deal_in_turn.new.seat) c.args.now c.args.fresh c.args.state.now
+    c.deal_in_turn.new.state old x
     c.args.at y c.args.dealt.now c.deal_in_turn.new.dealt m.0 n.0
     (record {
       order = c.requires.order;
@@ -77,10 +80,12 @@ returns-in-Err-clause-takes g c =
     let m = each_has old c.requires.order c.args.at less in
     let n = each_has x (c.goes.ensures.order c.requires.order) c.args.at (omega (arith, count, less)) in
     let placed = c.goes.ensures.place m.0 n.0 m.1 n.1 in
-    subst (λ (q : CheckedFrame). TakesMessage (view_of c.args.seat.now) c.args.now c.args.state.now old c.args.at y c.args.dealt.now
+    subst (λ (q : CheckedFrame). TakesMessage (view_of c.args.seat.now) c.args.now c.args.fresh c.args.state.now old c.args.at y
+    c.args.dealt.now
     c.deal_in_turn.new.state q c.deal_in_turn.new.dealt (Err c.in-Err.why) (view_of c.deal_in_turn.new.seat))
     (sym c.deal_in_turn.ensures.frame)
-    (takes_going (view_of c.args.seat.now) (view_of c.deal_in_turn.new.seat) c.args.now c.args.state.now c.deal_in_turn.new.state old x
+    (takes_going (view_of c.args.seat.now) (view_of c.deal_in_turn.new.seat) c.args.now c.args.fresh c.args.state.now
+    c.deal_in_turn.new.state old x
     c.args.at y c.args.dealt.now c.deal_in_turn.new.dealt m.0 n.0
     (record {
       order = c.requires.order;
@@ -115,7 +120,8 @@ returns-in-Ok-clause-room g c =
     let count : length c.goes.new.asked.messages.items ≡ length c.args.asked.now.messages.items = c.goes.ensures.others.count in
     let n = each_has c.goes.new.asked (c.goes.ensures.order c.requires.order) c.args.at (omega (arith, count, c.requires.there)) in (
       c.deal_in_turn.ensures.room,
-      long_more (view_of c.args.seat.now) (view_of c.deal_in_turn.new.seat) c.args.now c.args.state.now c.deal_in_turn.new.state
+      long_more (view_of c.args.seat.now) (view_of c.deal_in_turn.new.seat) c.args.now c.args.fresh c.args.state.now
+          c.deal_in_turn.new.state
           c.goes.new.asked c.args.at n.0 (option_map carry_of c.args.carried.now) c.args.dealt.now c.deal_in_turn.new.dealt (Ok c.in-Ok.behind)
           (c.in-Ok.ensures.deals n.0 n.1),
     )
@@ -124,7 +130,7 @@ pub returns-in-Ok-clause-short : goal.returns-in-Ok-clause-short
 returns-in-Ok-clause-short g c = λ short.
     let count : length c.goes.new.asked.messages.items ≡ length c.args.asked.now.messages.items = c.goes.ensures.others.count in
     let n = each_has c.goes.new.asked (c.goes.ensures.order c.requires.order) c.args.at (omega (arith, count, c.requires.there)) in
-    short_more (view_of c.args.seat.now) (view_of c.deal_in_turn.new.seat) c.args.now c.args.state.now c.deal_in_turn.new.state
+    short_more (view_of c.args.seat.now) (view_of c.deal_in_turn.new.seat) c.args.now c.args.fresh c.args.state.now c.deal_in_turn.new.state
     c.goes.new.asked c.args.at n.0 (option_map carry_of c.args.carried.now) c.args.dealt.now c.deal_in_turn.new.dealt (Ok c.in-Ok.behind)
     (c.in-Ok.ensures.deals n.0 n.1) short
 
@@ -149,7 +155,8 @@ returns-in-Err-clause-room g c =
     let count : length c.goes.new.asked.messages.items ≡ length c.args.asked.now.messages.items = c.goes.ensures.others.count in
     let n = each_has c.goes.new.asked (c.goes.ensures.order c.requires.order) c.args.at (omega (arith, count, c.requires.there)) in (
       c.deal_in_turn.ensures.room,
-      long_more (view_of c.args.seat.now) (view_of c.deal_in_turn.new.seat) c.args.now c.args.state.now c.deal_in_turn.new.state
+      long_more (view_of c.args.seat.now) (view_of c.deal_in_turn.new.seat) c.args.now c.args.fresh c.args.state.now
+          c.deal_in_turn.new.state
           c.goes.new.asked c.args.at n.0 (option_map carry_of c.args.carried.now) c.args.dealt.now c.deal_in_turn.new.dealt (Err c.in-Err.why)
           (c.in-Err.ensures.deals n.0 n.1),
     )
@@ -158,6 +165,6 @@ pub returns-in-Err-clause-short : goal.returns-in-Err-clause-short
 returns-in-Err-clause-short g c = λ short.
     let count : length c.goes.new.asked.messages.items ≡ length c.args.asked.now.messages.items = c.goes.ensures.others.count in
     let n = each_has c.goes.new.asked (c.goes.ensures.order c.requires.order) c.args.at (omega (arith, count, c.requires.there)) in
-    short_more (view_of c.args.seat.now) (view_of c.deal_in_turn.new.seat) c.args.now c.args.state.now c.deal_in_turn.new.state
+    short_more (view_of c.args.seat.now) (view_of c.deal_in_turn.new.seat) c.args.now c.args.fresh c.args.state.now c.deal_in_turn.new.state
     c.goes.new.asked c.args.at n.0 (option_map carry_of c.args.carried.now) c.args.dealt.now c.deal_in_turn.new.dealt (Err c.in-Err.why)
     (c.in-Err.ensures.deals n.0 n.1) short

@@ -5,7 +5,7 @@ use Rattle.conn_core.proofs.frame_events.Ending.{shorts_none}
 use Rattle.conn_core.proofs.frame_events.Lists.{same_long}
 use Rattle.serve_turns.specs.shared_book.Words.{view_of}
 use Rattle.serve_turns.specs.event_book.History.{Placed}
-use Rattle.serve_turns.proofs.connection_turns.Chains.{meet_back, meet_front}
+use Rattle.serve_turns.proofs.connection_turns.Chains.{meet_back, meet_front, once_both}
 use Rattle.serve_turns.proofs.connection_turns.Wholes.{at_conn, first_of, messages_done, messages_err}
 use Rattle.serve_turns.proofs.connection_turns.messages.take_messages.Goals as goal
 
@@ -26,8 +26,10 @@ loop-at-init g c =
       (
         [],
         sym (append-nil (view_of c.args.seat.now).own),
-        λ z h f F all conn frame alone.
-            first_of z h c.args.state.now.conn.id c.args.now f c.args.state.now.setups F.messages c.args.asked.now c.args.dealt.now
+        tt,
+        λ z h server logons f F all conn frame alone.
+            first_of z h c.args.state.now.conn.id c.args.now c.args.fresh server logons f c.args.state.now.setups F.messages
+            c.args.asked.now c.args.dealt.now
             c.requires.none.0 c.requires.none.1 frame.messages,
       ),
     )
@@ -54,13 +56,16 @@ loop-at-preserved g c =
       (
         so.0 ++ takes.turns,
         takes.own ∙ (ap (λ (l : List Placed). l ++ takes.turns) so.1 ∙ append_assoc (view_of c.args.seat.now).own so.0 takes.turns),
-        λ z h f F all conn frame alone.
-            let far = so.2 z h f F (meet_front z h so.0 takes.turns all) conn frame alone in
+        once_both c.args.now c.args.fresh so.0 takes.turns so.2 takes.at_once,
+        λ z h server logons f F all conn frame alone.
+            let far = so.3 z h server logons f F (meet_front z h so.0 takes.turns all) conn frame alone in
             let long = inv.3 ∙ same_long c.args.asked.now.bytes.items c.args.asked.now.messages.items F.messages frame.messages in
-            at_conn z h c.loop-at.state.conn c.args.state.now.conn inv.9 c.args.now f c.args.state.now.setups F.messages c.loop-at.at so.0
+            at_conn z h c.loop-at.state.conn c.args.state.now.conn inv.9 c.args.now c.args.fresh server logons f c.args.state.now.setups
+            F.messages c.loop-at.at so.0
             takes.turns c.loop-at.state.setups c.take_message.new.state.setups c.loop-at.asked c.take_message.new.asked c.loop-at.dealt
             c.take_message.new.dealt (option_map carry_of c.loop-at.carried) (Ok c.in-Ok.behind) conn far
-            (λ shows s. takes.steps z h f F.messages c.args.state.now.setups so.0 (meet_back z h so.0 takes.turns all) shows alone long s),
+            (λ shows s. takes.steps z h server logons f F.messages c.args.state.now.setups so.0 (meet_back z h so.0 takes.turns all)
+            shows alone long s),
       ),
     )
 
@@ -72,17 +77,21 @@ returns-in-Err-clause-takes g c =
     record {
       turns = so.0 ++ takes.turns;
       own = takes.own ∙ (ap (λ (l : List Placed). l ++ takes.turns) so.1 ∙ append_assoc (view_of c.args.seat.now).own so.0 takes.turns);
+      at_once = once_both c.args.now c.args.fresh so.0 takes.turns so.2 takes.at_once;
       conn = takes.conn ∙ inv.9;
       kept = (c.take_message.ensures.kept.1 ∙ inv.7, c.take_message.ensures.kept.2 ∙ inv.8);
-      ends = λ z h f F all conn frame alone.
-          let far = so.2 z h f F (meet_front z h so.0 takes.turns all) conn frame alone in
+      ends = λ z h server logons f F all conn frame alone.
+          let far = so.3 z h server logons f F (meet_front z h so.0 takes.turns all) conn frame alone in
           let long = inv.3 ∙ same_long c.args.asked.now.bytes.items c.args.asked.now.messages.items F.messages frame.messages in
-          messages_err z h c.args.state.now.conn.id c.args.now f c.args.state.now F.messages (c.loop-at.at + 1) (so.0 ++ takes.turns)
+          messages_err z h c.args.state.now.conn.id c.args.now c.args.fresh server logons f c.args.state.now F.messages (c.loop-at.at + 1)
+          (so.0 ++ takes.turns)
           c.take_message.new.state c.take_message.new.asked c.take_message.new.dealt c.in-Err.why
-          (at_conn z h c.loop-at.state.conn c.args.state.now.conn inv.9 c.args.now f c.args.state.now.setups F.messages c.loop-at.at so.0
+          (at_conn z h c.loop-at.state.conn c.args.state.now.conn inv.9 c.args.now c.args.fresh server logons f c.args.state.now.setups
+          F.messages c.loop-at.at so.0
           takes.turns c.loop-at.state.setups c.take_message.new.state.setups c.loop-at.asked c.take_message.new.asked c.loop-at.dealt
           c.take_message.new.dealt (option_map carry_of c.loop-at.carried) (Err c.in-Err.why) conn far
-          (λ shows s. takes.steps z h f F.messages c.args.state.now.setups so.0 (meet_back z h so.0 takes.turns all) shows alone long s));
+          (λ shows s. takes.steps z h server logons f F.messages c.args.state.now.setups so.0 (meet_back z h so.0 takes.turns all) shows
+          alone long s));
     }
 
 pub returns-clause-takes : goal.returns-clause-takes
@@ -92,12 +101,15 @@ returns-clause-takes g c =
     record {
       turns = so.0;
       own = so.1;
+      at_once = so.2;
       conn = inv.9;
       kept = (inv.7, inv.8);
-      ends = λ z h f F all conn frame alone.
+      ends = λ z h server logons f F all conn frame alone.
           let count : length c.args.asked.now.messages.items ≡ length F.messages =
           same_long c.args.asked.now.bytes.items c.args.asked.now.messages.items F.messages frame.messages in
           let past : length F.messages ≤ c.loop-at.at = omega (arith, count, c.loop-at-test.false, c.len-at-end.ensures) in
-          messages_done z h c.args.state.now.conn.id c.args.now f c.args.state.now F.messages c.loop-at.at so.0 c.loop-at.state
-          c.loop-at.asked c.loop-at.dealt (option_map carry_of c.loop-at.carried) (inv.3 ∙ count) past (so.2 z h f F all conn frame alone);
+          messages_done z h c.args.state.now.conn.id c.args.now c.args.fresh server logons f c.args.state.now F.messages c.loop-at.at
+          so.0 c.loop-at.state
+          c.loop-at.asked c.loop-at.dealt (option_map carry_of c.loop-at.carried) (inv.3 ∙ count) past (so.3 z h server logons f F all
+          conn frame alone);
     }

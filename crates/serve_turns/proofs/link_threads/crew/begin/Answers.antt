@@ -1,8 +1,8 @@
-use Rattle.std.proofs.Common.{◌≡◌, ◌+◌, [], ◌∷◌, ◌++◌, ◌∙◌, ap, arith, map, refl}
+use Rattle.std.proofs.Common.{◌≡◌, ◌+◌, [], ◌∷◌, ◌++◌, ◌∙◌, ap, map, refl}
 use Rattle.std.proofs.lemmas.List.Elements.{All-push, All-same}
-use Rattle.std.specs.List.{All}
-use Rattle.serve_turns.specs.link_serving.Serving.{AreServed, IsNewSeat}
+use Rattle.serve_turns.specs.link_serving.Serving.{IsNewSeat}
 use Rattle.serve_turns.specs.shared_book.Words.{view_of, IsSeatOf}
+use Rattle.serve_turns.proofs.connection_turns.Calls.{on_err}
 use Rattle.serve_turns.proofs.link_serving.Rolls.{at_once_served, new_seat, one_more_served, those_served}
 use Rattle.serve_turns.proofs.link_threads.Covering.{begun_covered, ended_covered, same_covered}
 use Rattle.serve_turns.specs.link_serving.Passage.{IsOfLink, ServesOver}
@@ -34,12 +34,12 @@ returns-in-Err-clause-covered g c = λ was.
     (λ within. (c.in-Err.end, e.told within)) e.others e.count
     (same_covered (λ r. r.place) c.args.place crew.roll.ends.items crew.running.items running c.reserve.ensures.items was)
 
-pub returns-in_err-reserve-clause-served : goal.returns-in_err-reserve-clause-served
-returns-in_err-reserve-clause-served g c = λ was.
+pub returns-in_err-reserve-clause-let_go : goal.returns-in_err-reserve-clause-let_go
+returns-in_err-reserve-clause-let_go g c =
     let crew = c.args.crew.now in
-    those_served (ServesOver (IsOfLink g.L.Link.told g.L.Link.given g.L.Link.written g.L.Link.faults g.L.Link.ended) (g.S.Service.serves c.args.service.now)) (λ r. (r.place, (view_of r.handle.promise.seat.value).number)) crew.running.items
-    c.reserve.new.self.items c.args.place (c.args.place + 1) crew.roll.ends.items (view_of crew.roll.seat) c.reserve.ensures.items
-    (omega arith) was
+    on_err _ _
+    (those_served (ServesOver (IsOfLink g.L.Link.told g.L.Link.given g.L.Link.written g.L.Link.faults g.L.Link.ended) (g.S.Service.serves c.args.service.now)) (λ r. (r.place, (view_of r.handle.promise.seat.value).number)) crew.running.items
+    c.reserve.new.self.items c.args.place crew.roll.ends.items (view_of crew.roll.seat) c.reserve.ensures.items)
 
 pub returns-in_ok-push-in-Ok-clause-served : goal.returns-in_ok-push-in-Ok-clause-served
 returns-in_ok-push-in-Ok-clause-served g c = λ was.
@@ -79,4 +79,4 @@ returns-in-Err-clause-served g c = λ was.
     (view_of c.entered.new.roll.seat) e.served (ap (λ x. x.1.0) c.in-Err.ensures.done.1) c.seat-seat.ensures.made
     (map (λ r. (r.place, (view_of r.handle.promise.seat.value).number)) running)
     (those_served (ServesOver (IsOfLink g.L.Link.told g.L.Link.given g.L.Link.written g.L.Link.faults g.L.Link.ended) (g.S.Service.serves c.args.service.now)) (λ r. (r.place, (view_of r.handle.promise.seat.value).number)) crew.running.items
-    running c.args.place c.args.place crew.roll.ends.items (view_of crew.roll.seat) c.reserve.ensures.items (omega arith) was)
+    running c.args.place crew.roll.ends.items (view_of crew.roll.seat) c.reserve.ensures.items was)

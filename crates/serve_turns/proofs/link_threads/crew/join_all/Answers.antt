@@ -3,7 +3,7 @@ use Rattle.std.proofs.lemmas.List.Elements.{All-pop}
 use Rattle.std.specs.List.{All}
 use Rattle.serve_turns.specs.link_serving.Serving.{IsNewSeat}
 use Rattle.serve_turns.specs.shared_book.Words.{view_of, IsSeatOf}
-use Rattle.serve_turns.proofs.link_serving.Rolls.{leaves, none_served, popped_stays, popped_was}
+use Rattle.serve_turns.proofs.link_serving.Rolls.{leaves, none_served, popped_less, popped_stays, popped_was}
 use Rattle.serve_turns.proofs.link_threads.Covering.{all_ended, left_covered, popped}
 use Rattle.serve_turns.specs.link_serving.Passage.{IsOfLink, ServesOver}
 use Rattle.serve_turns.proofs.link_threads.crew.join_all.Goals as goal
@@ -26,7 +26,8 @@ loop-child-preserved g c =
           (leaves (λ r. (r.place, (view_of r.handle.promise.seat.value).number)) crew.running.items rest child
           (popped_was crew.running.items rest child c.in-Some.ensures.items)
           (popped crew.running.items rest child c.in-Some.ensures.items)
-          (popped_stays crew.running.items rest child c.in-Some.ensures.items)) (i.4 n was)),
+          (popped_stays crew.running.items rest child c.in-Some.ensures.items)
+          (popped_less crew.running.items rest child c.in-Some.ensures.items)) (i.4 n was)),
       subst (λ o. All (λ r. IsSeatOf c.args.book.now r.handle.promise.seat.value × (r.handle.promise.service.value ≡ c.args.service.now)
           × IsNewSeat o (view_of r.handle.promise.seat.value)) rest) (sym e.opening)
           (All-pop (λ r. IsSeatOf c.args.book.now r.handle.promise.seat.value × (r.handle.promise.service.value ≡ c.args.service.now)

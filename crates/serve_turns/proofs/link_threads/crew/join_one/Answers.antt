@@ -1,7 +1,7 @@
 use Rattle.std.proofs.Common.{◌<◌, length, map, subst}
 use Rattle.serve_turns.specs.shared_book.Words.{view_of}
 use Rattle.serve_turns.proofs.link_threads.Covering.{left_covered, swapped}
-use Rattle.serve_turns.proofs.link_serving.Rolls.{leaves, swapped_stays, swapped_was}
+use Rattle.serve_turns.proofs.link_serving.Rolls.{leaves, swapped_less, swapped_stays, swapped_was}
 use Rattle.serve_turns.proofs.link_threads.crew.join_one.Goals as goal
 
 pub returns-in-Some-clause-served : goal.returns-in-Some-clause-served
@@ -16,7 +16,8 @@ returns-in-Some-clause-served g c = λ n was.
     (leaves (λ r. (r.place, (view_of r.handle.promise.seat.value).number)) crew.running.items taken.new.self.items taken.result
     (swapped_was crew.running.items c.in-Some.at taken.result low s.value)
     (swapped crew.running.items taken.new.self.items c.in-Some.at taken.result low s.value s.items)
-    (swapped_stays crew.running.items taken.new.self.items c.in-Some.at taken.result low s.value s.items)) was
+    (swapped_stays crew.running.items taken.new.self.items c.in-Some.at taken.result low s.value s.items)
+    (swapped_less crew.running.items taken.new.self.items c.in-Some.at taken.result low s.value s.items)) was
 
 pub returns-in-Some-clause-covered : goal.returns-in-Some-clause-covered
 returns-in-Some-clause-covered g c = λ n was at low inside.

@@ -4,4 +4,5 @@ pub returns-clause-ends : goal.returns-clause-ends
 returns-clause-ends g c = λ is. c.join_all.ensures.ends c.args.count (c.accept_each-halt.ensures.covered is)
 
 pub returns-clause-served : goal.returns-clause-served
-returns-clause-served g c = c.join_all.ensures.served c.args.count c.accept_each-halt.ensures.served
+returns-clause-served g c =
+    let s = c.accept_each-halt.ensures.served in (s.0, s.1, c.join_all.ensures.served s.0 s.2)

@@ -1,5 +1,4 @@
-use Rattle.std.proofs.Common.{rules, ap, ◌∙◌, sym}
-use Rattle.serve_turns.specs.shared_book.Turns.{drew, newcomer, parted}
+use Rattle.std.proofs.Common.{rules, ap, ◌∙◌}
 use Rattle.serve_turns.proofs.shared_book.Seating.{splits}
 use Rattle.serve_turns.proofs.shared_book.shared.SharedBook+B.seat.Goals as goal
 
