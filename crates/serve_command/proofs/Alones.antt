@@ -1,7 +1,7 @@
 -- A frame whose events stand in a row in a history: each is given what the step gives at the state that the one before it left.
-use Rattle.std.proofs.Common.{◌≡◌, ⊎_elim, ℕ, ◌+◌, ◌==◌, ◌≤◌, nat_le, Bool, true, false, not, ◌&&◌, if◌then◌else◌, List, [], ◌∷◌, ◌++◌}
-use Rattle.std.proofs.Common.{length, slice_get, Option, Some, None, Result, Ok, Err, refl, sym, ap, subst, ◌∙◌, arith}
-use Rattle.std.specs.Prelude.{is_some, option_map}
+use Rattle.std.proofs.Common.{◌≡◌, ℕ, ◌+◌, ◌==◌, ◌≤◌, nat_le, Bool, true, false, not, ◌&&◌, if◌then◌else◌, List, [], ◌∷◌, ◌++◌}
+use Rattle.std.proofs.Common.{length, Option, Some, None, Result, Ok, Err, refl, sym, ap, subst, ◌∙◌, arith}
+use Rattle.std.specs.Prelude.{is_some, option_map, ⊤}
 use Rattle.std.proofs.lemmas.Bool.Decides.{nat_tests}
 use Rattle.spec_exchange.specs.Commands.{Command, Aside, Setup}
 use Rattle.spec_exchange.specs.Network.{answer_to}
@@ -10,13 +10,13 @@ use Rattle.spec_exchange.specs.Status.{insufficient_resources}
 use Rattle.spec_wire.specs.declared.messages.header.Header.{Header}
 use Rattle.spec_commands.specs.CommandOf as commands
 use Rattle.spec_commands.specs.CommandOf.{command_of, heard_as, message_of, named_command}
-use Rattle.spec_world.specs.Connection.{Going, heard_message, misplaced, misplaced_command, placed, told_of, went_heard, went_turn}
+use Rattle.spec_world.specs.Connection.{Going, heard_message, misplaced, misplaced_command, placed, told_of, went_heard}
 use Rattle.spec_world.specs.Ends as world
 use Rattle.spec_world.specs.Ends.{ServerEnd, Logons}
 use Rattle.spec_world.specs.Given.{Dealt, Given, GivenStep, Answered, NoMemory, Stops, dealt_by, dealt_heard, dealt_next, dealt_turn, given_of}
 use Rattle.spec_world.specs.Given.{has_event, is_past_setups, went_answered, went_refused}
-use Rattle.spec_world.specs.Hearing.{Checked, Frame, check_frame, is_misplaced, is_setup}
-use Rattle.spec_world.specs.Logon.{Progress, Stays, Interim, Final, logons_behind, progress}
+use Rattle.spec_world.specs.Hearing.{Checked, Frame, is_misplaced, is_setup}
+use Rattle.spec_world.specs.Logon.{Progress, Stays, logons_behind, progress}
 use Rattle.spec_world.specs.Mishaps.{Mishap, Lacks, Halts, Owned, own_given, owned_aside, owned_heard, owned_next, owned_of, owned_turn, owning}
 use Rattle.spec_world.specs.Related.{Turn, Fails, Goes, turn_of}
 use Rattle.spec_world.specs.Settings.{ServerSettings}
@@ -30,22 +30,31 @@ use Rattle.conn_core.specs.frame_events.Telling.{ToldIf}
 use Rattle.conn_core.specs.requests.Telling.{told_logons, told_message}
 use Rattle.conn_core.proofs.requests.Asked.{greeting_told, told_behind, told_is}
 use Rattle.conn_core.proofs.requests.Plain.{is_setup_command, other_number}
-use Rattle.serve_turns.specs.connection_turns.Frames.{AreAsked, AreFor, AreGiven, IsFor, IsTurnFor, TakesFrame}
+use Rattle.serve_turns.specs.connection_turns.Frames.{AreAsked, AreAtOnce, AreFor, AreGiven, FindsFirst, HasBytes, IsFor, IsTurnFor}
 use Rattle.serve_turns.specs.declared.event_book.turn.Answer.{Answer}
 use Rattle.serve_turns.specs.declared.event_book.turn.Asks.{Asks}
-use Rattle.serve_turns.specs.declared.event_book.turn.Turn as events
 use Rattle.serve_turns.specs.declared.event_book.turn.What.{What}
 use Rattle.serve_turns.specs.declared.event_book.turn.What.TheVariants.{Accept, Message, End}
-use Rattle.serve_turns.specs.declared.shared_book.view.Entry.{Entry}
-use Rattle.serve_turns.specs.event_book.History.{AllMeet, Course, GivenIf, Meets, MeetsAt, MeetsMessage, On, Off, Placed, Stand, Standing}
+use Rattle.serve_turns.specs.event_book.History.{AllMeet, Course, GivenIf, Meets, MeetsAt, On, Off, Placed, Stand, Standing}
 use Rattle.serve_turns.specs.event_book.History.{StandsAt}
-use Rattle.serve_command.specs.Alone.{AloneFrames, HasBytes, InARow}
+use Rattle.serve_command.specs.Alone.{AloneFrames, InARow}
 
 some_same : {X : Type 0} (a b : X) → Some a ≡ Some b → a ≡ b
 some_same a b e = cc
 
 none_some : {X : Type 0} (a : X) → None ≡ Some a → ⊥
 none_some a e = absurd (cc)
+
+-- ---- turns in a row, of one moment and with the same random bytes
+
+abbrev Row : ℕ → List ℕ → ℕ → List Placed → Type 0
+Row now fresh place [] = ⊤
+Row now fresh place (x ∷ xs) = (x.0 ≡ place) × (x.1.event.now ≡ now) × HasBytes fresh x.1.event.what × Row now fresh (place + 1) xs
+
+row_of : (now : ℕ) (fresh : List ℕ) (place : ℕ) (turns : List Placed) → InARow place turns → AreAtOnce now fresh turns
+    → Row now fresh place turns
+row_of now fresh place [] row once = tt
+row_of now fresh place (x ∷ xs) row once = (row.0, once.0, once.1, row_of now fresh (place + 1) xs row.1 once.2)
 
 -- ---- a message that is no SESSION_SETUP draws no number and changes no logon
 
@@ -275,7 +284,7 @@ module _ (z : ServerSettings) (h : Course) (k now : ℕ) (fresh : List ℕ) (f :
   abbrev Rest : List Checked → Type 0
   Rest cs = (w : Owned) (n : ℕ) (given : List Given) (turns : List Placed) (place : ℕ) → n + length cs ≤ 4096
       → AreFor k f (asked_all z k now fresh f (dealt_with w.dealt given n) cs) turns → AreGiven h turns given → AllMeet z h turns
-      → InARow now fresh place turns → Found place w.dealt → Single given w cs
+      → Row now fresh place turns → Found place w.dealt → Single given w cs
 
   none_given : (turns : List Placed) (given : List Given) → AreFor k f [] turns → AreGiven h turns given → given ≡ []
   none_given [] [] fors are = refl
@@ -297,7 +306,7 @@ module _ (z : ServerSettings) (h : Course) (k now : ℕ) (fresh : List ℕ) (f :
   event_rows : (cs : List Checked) (rest : Rest cs) (w : Owned) (c : Checked) (m : model.Message) (n : ℕ) (given : List Given)
       (turns : List Placed) (place : ℕ) → n + length (c ∷ cs) ≤ 4096 → heard_message z w.dealt.going.logons k f c ≡ Some m
       → AreFor k f (c ∷ asked_all z k now fresh f (dealt_next z k f (dealt_with w.dealt given n) c given) cs) turns → AreGiven h turns given
-      → AllMeet z h turns → InARow now fresh place turns → FoundAs place w.dealt.going → SingleEvent given w c m cs true
+      → AllMeet z h turns → Row now fresh place turns → FoundAs place w.dealt.going → SingleEvent given w c m cs true
   event_rows cs rest w c m n given [] place room heard fors are meet row found = absurd fors
   event_rows cs rest w c m n [] (x ∷ xs) place room heard fors are meet row found = absurd are
   event_rows cs rest w c m n (g ∷ gs) (x ∷ xs) place room heard fors are meet row found =
@@ -331,7 +340,7 @@ module _ (z : ServerSettings) (h : Course) (k now : ℕ) (fresh : List ℕ) (f :
       then record (dealt_with w.dealt given n) { going = went_heard z k now fresh f w.dealt.going c (Some m) }
       else if beyond then record (dealt_with w.dealt given n) { going = went_refused f w.dealt.going c insufficient_resources }
       else dealt_next z k f (dealt_with w.dealt given n) c given) cs) turns → AreGiven h turns given → AllMeet z h turns
-      → InARow now fresh place turns → FoundAs place w.dealt.going → SingleEvent given w c m cs event
+      → Row now fresh place turns → FoundAs place w.dealt.going → SingleEvent given w c m cs event
   by_event cs rest w c m n given turns place false beyond is early room heard fors are meet row found =
       let less : n + length cs ≤ 4096 = omega (arith, room) in
       let r = rest (owned_aside z k now fresh f w c (Some m)) n given turns place less fors are meet row
@@ -345,7 +354,7 @@ module _ (z : ServerSettings) (h : Course) (k now : ℕ) (fresh : List ℕ) (f :
       (turns : List Placed) (place : ℕ) → n + length (c ∷ cs) ≤ 4096 → heard_message z w.dealt.going.logons k f c ≡ o
       → AreFor k f ((if asks_it (dealt_with w.dealt given n) c o then c ∷ [] else [])
       ++ asked_all z k now fresh f (dealt_heard z k now fresh f (dealt_with w.dealt given n) c o) cs) turns → AreGiven h turns given
-      → AllMeet z h turns → InARow now fresh place turns → FoundAs place w.dealt.going → SingleHere given w c o cs
+      → AllMeet z h turns → Row now fresh place turns → FoundAs place w.dealt.going → SingleHere given w c o cs
   heard_rows cs rest w c None n given turns place room heard fors are meet row found =
       let less : n + length cs ≤ 4096 = omega (arith, room) in
       let r = rest (owned_aside z k now fresh f w c None) n given turns place less fors are meet row (λ none. found) in
@@ -365,7 +374,7 @@ module _ (z : ServerSettings) (h : Course) (k now : ℕ) (fresh : List ℕ) (f :
       (turns : List Placed) (place : ℕ) → n + length (c ∷ cs) ≤ 4096
       → AreFor k f (asked_in z k f (dealt_with w.dealt given n) t
       ++ asked_all z k now fresh f (dealt_turn z k now fresh f (dealt_with w.dealt given n) c t) cs) turns → AreGiven h turns given
-      → AllMeet z h turns → InARow now fresh place turns → FoundAs place w.dealt.going → SingleTurn given w c t cs
+      → AllMeet z h turns → Row now fresh place turns → FoundAs place w.dealt.going → SingleTurn given w c t cs
   turn_rows cs rest w c (Goes e) n given turns place room fors are meet row found =
       let r = heard_rows cs rest w e (heard_message z w.dealt.going.logons k f e) n given turns place room refl fors are meet row found in
       record { mishaps = r.mishaps; is = r.is }
@@ -389,7 +398,7 @@ module _ (z : ServerSettings) (h : Course) (k now : ℕ) (fresh : List ℕ) (f :
       (place : ℕ) (stopped : Bool) → is_some w.dealt.stopped ≡ stopped → n + length (c ∷ cs) ≤ 4096
       → AreFor k f (if stopped then [] else asked_in z k f (dealt_with w.dealt given n) (turn_of w.dealt.going.carried c)
       ++ asked_all z k now fresh f (dealt_turn z k now fresh f (dealt_with w.dealt given n) c (turn_of w.dealt.going.carried c)) cs) turns
-      → AreGiven h turns given → AllMeet z h turns → InARow now fresh place turns → Found place w.dealt → SingleIf given w c cs stopped
+      → AreGiven h turns given → AllMeet z h turns → Row now fresh place turns → Found place w.dealt → SingleIf given w c cs stopped
   stop_rows cs rest w c n given turns place true is room fors are meet row found =
       record { mishaps = []; is = none_given turns given fors are }
   stop_rows cs rest w c n given turns place false is room fors are meet row found =
@@ -406,13 +415,33 @@ module _ (z : ServerSettings) (h : Course) (k now : ℕ) (fresh : List ℕ) (f :
 
 -- ---- the frame
 
+are_none : (h g : Course) (given : List Given) → AreGiven h [] given → AreGiven g [] given
+are_none h g [] are = tt
+are_none h g (x ∷ xs) are = absurd are
+
+-- from what the first of its turns found; whatever that is, where it has none
+rows_of : (z : ServerSettings) (h : Course) (k now : ℕ) (fresh : List ℕ) (f : ServerEnd) (cs : List Checked) (server : model.Server)
+    (logons : Logons) (before : ℕ) (given : List Given) (turns : List Placed) (place : ℕ) (s : Stand) → before + length cs ≤ 4096
+    → AreFor k f (asked_all z k now fresh f (dealt_with (owning server logons f []).dealt given before) cs) turns → AreGiven h turns given
+    → AllMeet z h turns → InARow place turns → AreAtOnce now fresh turns → FindsFirst h turns server logons → h.found place ≡ On s
+    → Single z h k now fresh f given (owning server logons f []) cs
+rows_of z h k now fresh f cs server logons before given [] place s room fors are meet row once first found =
+    let any : Stand = record { server = server; logons = logons; records = [] } in
+    let g : Course = record { found = λ (n : ℕ). On any; given = h.given } in
+    let r = all_rows z g k now fresh f cs (owning server logons f []) before given [] place room fors (are_none h g given are) tt tt
+    (λ none. (any, refl, refl, refl)) in
+    record { mishaps = r.mishaps; is = r.is }
+rows_of z h k now fresh f cs server logons before given (x ∷ xs) place s room fors are meet row once first found =
+    let q = first s (ap h.found row.0 ∙ found) in
+    all_rows z h k now fresh f cs (owning server logons f []) before given (x ∷ xs) place room fors are meet
+    (row_of now fresh place (x ∷ xs) row once) (λ none. (s, found, q.0, q.1))
+
 pub alone_frames : SingleEvents → AloneFrames
-alone_frames single z h k f before frame turns G t x place s meet checked room row found servers logons =
-    let w = owning t.server t.logons x.server_end [] in
+alone_frames single z h k f before frame turns G t x place s meet checked room row found =
     let asked : AreFor k x.server_end (asked_all z k t.now t.fresh x.server_end (first_dealt t.server t.logons x.server_end before t.given)
     x.messages) turns = subst (λ (r : Result Frame world.ConnEnd). AreAsked z k t.now t.fresh before t.server t.logons t.given r turns) checked t.asked in
-    let r = all_rows z h k t.now t.fresh x.server_end x.messages w before t.given turns place room asked t.are meet row
-    (λ none. (s, found, servers, logons)) in
+    let r = rows_of z h k t.now t.fresh x.server_end x.messages t.server t.logons before t.given turns place s room asked t.are meet row
+    t.at_once t.first found in
     let one = (single z k t.now t.fresh before t.server t.logons f r.mishaps x room).0 in
     let step : G ≡ given_of z k t.now t.fresh before t.server t.logons f t.given (Ok x) =
     t.is ∙ ap (λ (y : Result Frame world.ConnEnd). given_of z k t.now t.fresh before t.server t.logons f t.given y) checked in

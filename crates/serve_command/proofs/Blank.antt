@@ -27,4 +27,5 @@ module _ {X : Type 0} where
     each = tt;
     told = λ at x e. absurd (apart x (sym (ap (λ (l : List (Option X)). get_or l at none) is ∙ blank n at) ∙ e));
     back = λ n among. absurd among;
+    as_many = refl;
   }

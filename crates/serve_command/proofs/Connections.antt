@@ -1,6 +1,6 @@
 -- The connections of a server, by the seats that have ended.
-use Rattle.std.proofs.Common.{◌≡◌, ◌⊎◌, inl, inr, ℕ, zero, suc, ◌+◌, ◌%◌, ◌^◌, ◌==◌, ◌≤◌, ◌<◌, Bool, true, false, List, [], ◌∷◌, ◌++◌}
-use Rattle.std.proofs.Common.{slice_get, get_or, Option, Some, None, refl, sym, ap, subst, ◌∙◌, arith, eqb-true}
+use Rattle.std.proofs.Common.{◌≡◌, inl, inr, ℕ, zero, suc, ◌+◌, ◌%◌, ◌^◌, ◌==◌, ◌≤◌, ◌<◌, true, false, List, [], ◌∷◌, ◌++◌}
+use Rattle.std.proofs.Common.{length, slice_get, Option, Some, None, refl, sym, ap, subst, ◌∙◌, arith}
 use Rattle.std.proofs.Math.Nat.{mod-eq_of_lt}
 use Rattle.spec_world.specs.Settings.{ServerSettings}
 use Rattle.serve_turns.specs.connection_turns.Serving.{WasServedBy}
@@ -17,8 +17,8 @@ use Rattle.serve_turns.specs.shared_book.Numbers as numbers
 use Rattle.serve_turns.specs.shared_book.Numbers.{IsOneOf, numbers_in}
 use Rattle.serve_command.specs.Guid.{server_guid}
 use Rattle.serve_command.specs.Serving.{serves_link}
-use Rattle.serve_command.specs.Whole.{AllPassed, AllServed, AreApart, AreNumbered, AreOfFirst, AreTold, EndedConnection, HasEndedSo}
-use Rattle.serve_command.specs.Whole.{HasSeat, WasServed, number_of}
+use Rattle.serve_command.specs.Whole.{AllPassed, AllServed, AreApart, AreNumbered, AreOfFirst, EndedConnection, HasEndedSo}
+use Rattle.serve_command.specs.Whole.{HasSeat, WasServed}
 
 none_there : {X : Type 0} (i : ℕ) (x : X) → slice_get [] i ≡ Some x → ⊥
 none_there zero x here = absurd (let q : None ≡ Some x = here in cc)
@@ -74,6 +74,14 @@ module _ {B : Type 0} (z : ServerSettings) (guid : z.guid ≡ server_guid) (h : 
   connections [] (x ∷ xs) each have = []
   connections (l ∷ ls) [] each have = []
   connections (l ∷ ls) (x ∷ xs) each have = (made l.0 l.1 x each.1.1 have.0).connection ∷ connections ls xs each.2 have.1
+
+  -- there are as many as links
+  pub as_many : (links : List (ℕ × Ended)) (seats : List Seat) (each : Each links seats) (have : HaveAll log seats)
+      → length (connections links seats each have) ≡ length links
+  as_many [] [] each have = refl
+  as_many [] (x ∷ xs) each have = absurd each
+  as_many (l ∷ ls) [] each have = absurd each
+  as_many (l ∷ ls) (x ∷ xs) each have = ap (λ (n : ℕ). suc n) (as_many ls xs each.2 have.1)
 
   -- what is known of each
   record Facts (c : EndedConnection) (seats : List ℕ) : Type 0 where
@@ -219,6 +227,7 @@ pub record Connected (z : ServerSettings) (h : Course) (log : List (Entry Turn A
   pub all : List EndedConnection
   pub each : AllServed z h log all
   pub passed : AllPassed over all
+  pub as_many : length all ≡ length links
   pub apart : AreApart all
   pub of_first : AreOfFirst count all
   pub numbered : count < 2 ^ 32 → AreNumbered all
@@ -234,6 +243,7 @@ connected z guid h log meets seat_at opening kept count links seats over each ha
   all = connections z guid h log meets seat_at opening kept count over links seats each have;
   each = all_served z guid h log meets seat_at opening kept count over links seats each have apart;
   passed = all_passed z guid h log meets seat_at opening kept count over links seats each have apart;
+  as_many = as_many z guid h log meets seat_at opening kept count over links seats each have;
   apart = all_apart z guid h log meets seat_at opening kept count over links seats each have apart;
   of_first = all_of_first z guid h log meets seat_at opening kept count over links seats each have apart;
   numbered = all_numbered z guid h log meets seat_at opening kept count over links seats each have apart;

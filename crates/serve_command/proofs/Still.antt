@@ -32,11 +32,12 @@ module _ {D : Type 0} (server : Server D) where
 
 pub behind_of : (written written' : Option (List ℕ)) (sink sink' : ℕ) (bound : Option Bound) (halt : Halt)
     (ends ends' : List (Option Ended))
-    (b b' : Bool) (e : Ending) → ends ≡ ends' → b ≡ b' → Behind written written' sink sink' bound halt ends b e
-    → Behind written written' sink sink' bound halt ends' b' e
-behind_of written written' sink sink' bound halt ends ends' b b' e p q h =
-    subst (λ (x : List (Option Ended)). Behind written written' sink sink' bound halt x b' e) p
-    (subst (λ (y : Bool). Behind written written' sink sink' bound halt ends y e) q h)
+    (b b' r r' : Bool) (e : Ending) → ends ≡ ends' → b ≡ b' → r ≡ r' → Behind written written' sink sink' bound halt ends b r e
+    → Behind written written' sink sink' bound halt ends' b' r' e
+behind_of written written' sink sink' bound halt ends ends' b b' r r' e p q s h =
+    subst (λ (x : List (Option Ended)). Behind written written' sink sink' bound halt x b' r' e) p
+    (subst (λ (y : Bool). Behind written written' sink sink' bound halt ends y r' e) q
+    (subst (λ (y : Bool). Behind written written' sink sink' bound halt ends b y e) s h))
 
 pub memory_kept : (old new : ℕ) (why : ReadError) → why ≡ whys.Memory → HasOutsideFailed old new why → new ≡ old
 memory_kept old new why is failed = subst (λ (x : ReadError). HasOutsideFailed old new x) is failed
@@ -54,7 +55,7 @@ pub serves_still : {D N : Type 0} (told : Type 0) (seen : D → List ℕ) (may_l
     → Serves told seen may_leave faults listens_at links net_faults over before at bound server from written written' sink sink' net net' disk' ending
 serves_still told seen may_leave faults listens_at links net_faults over before at bound server from written written' sink sink' net heard net' disk'
     ending place accepted calm (inl h) =
-    inl (subst (λ (n : ℕ). Rose n (net_faults net')) calm h.0, h.1, h.2 ∙ place, h.3)
+    inl (subst (λ (n : ℕ). Rose n (net_faults net')) calm h.0, h.1, h.2 ∙ place, h.3 ∙ accepted, h.4)
 serves_still told seen may_leave faults listens_at links net_faults over before at bound server from written written' sink sink' net heard net' disk'
     ending place accepted calm (inr h) =
     inr (h.0, h.1, h.2 ∙ accepted, h.3 ∙ calm, h.4)

@@ -1,12 +1,11 @@
 -- A server that was served, from what its book, its seats and its first state tell.
-use Rattle.std.proofs.Common.{◌≡◌, ◌⊎◌, inl, inr, ℕ, ◌≤◌, Bool, true, false, List, [], ◌∷◌, length, slice_get, get_or, Option, Some, None}
+use Rattle.std.proofs.Common.{◌≡◌, ◌⊎◌, inl, inr, ℕ, ◌+◌, true, false, List, [], length, slice_get, Option, Some}
 use Rattle.std.proofs.Common.{refl, sym, ap, subst, ◌∙◌, arith}
 use Rattle.law_nonces.specs.event_nonces.Events.{NonceTables}
 use Rattle.law_records.proofs.recovery.Restarts.{bare_fold}
 use Rattle.spec_crypto.specs.tokens.Tokens.{Users}
 use Rattle.spec_exchange.specs.Fold.{recovery_records}
 use Rattle.spec_exchange.specs.State as model
-use Rattle.spec_wire.specs.journal.Grammar.{StandsFor}
 use Rattle.spec_world.specs.Ends.{Logons, no_logons}
 use Rattle.std.proofs.Common.{◌++◌}
 use Rattle.server_checks.specs.declared.tables.Config.{Config}
@@ -14,26 +13,28 @@ use Rattle.server_recovery.specs.journaled_tables.Holds.{JournaledStands}
 use Rattle.server_recovery.specs.server_start.Begun.{ServerBegins}
 use Rattle.server_core.specs.declared.disk_server.book.Book.{Book}
 use Rattle.server_core.specs.declared.server.Server.{Server}
-use Rattle.server_core.specs.disk_server.Shown.{ShowsBook}
-use Rattle.server_core.specs.Shown.{HoldsServer, config_of, disk_of, journal_of, state_of, stopped_of}
+use Rattle.server_core.specs.Shown.{HoldsServer, disk_of, journal_of, state_of, stopped_of}
 use Rattle.serve_turns.specs.declared.event_book.turn.Answer.{Answer}
 use Rattle.serve_turns.specs.declared.event_book.turn.Turn.{Turn}
 use Rattle.serve_turns.specs.declared.link_serving.ended.Ended.{Ended}
 use Rattle.serve_turns.specs.declared.shared_book.view.Entry.{Entry}
 use Rattle.serve_turns.specs.declared.shared_book.view.View.{View}
 use Rattle.serve_turns.specs.event_book.History.{Course, Off, On, RunsBy, Stand, Standing}
-use Rattle.serve_turns.specs.event_book.Steps.{GoesOn, ShowsStanding}
+use Rattle.serve_turns.specs.event_book.Steps.{ShowsStanding}
 use Rattle.serve_turns.specs.link_serving.Passage.{Passage}
 use Rattle.serve_turns.specs.shared_book.Histories.{Replays, entries_of}
 use Rattle.serve_turns.specs.shared_book.Numbers.{IsOneOf, IsWhole, numbers_in, numbers_of}
 use Rattle.serve_turns.specs.shared_book.Seats.{Closes}
 use Rattle.serve_turns.proofs.event_book.Courses.{course_of, found_by, own_meet, runs_by}
-use Rattle.serve_command.specs.Serving.{AreServedBy, ServingOpens, serves_link}
+use Rattle.serve_command.specs.Serving.{AreServedBy, ServingOpens}
 use Rattle.serve_command.specs.Steps.{ServerBook, server_shows, server_steps, server_stopped}
-use Rattle.serve_command.specs.Whole.{BeginsAt, DiskStands, HasSeat, IsOnDisk, OnDiskAt, WasServedWhole, first_stand, settings_of}
+use Rattle.serve_command.specs.Whole.{BeginsAt, DiskStands, IsOnDisk, OnDiskAt, WasServedWhole, first_stand, settings_of}
 use Rattle.serve_command.proofs.Books.{Booked, booked}
 use Rattle.serve_command.proofs.Connections.{Connected, connected, no_entry}
 use Rattle.serve_command.proofs.nonces.Once.{are_once}
+
+all_many : (n m count : ℕ) → n ≡ m → 0 + m ≡ count → n ≡ count
+all_many n m count same all = omega (arith, same, all)
 
 module _ {D : Type 0} (told : Type 0) (seen : D → List ℕ) (may_leave : D → List ℕ → Type 0) where
   abbrev shows : Book D → Users → model.Server → Logons → List model.Record → Type 0
@@ -146,6 +147,7 @@ module _ {D : Type 0} (told : Type 0) (seen : D → List ℕ) (may_leave : D →
     runs = runs;
     each = c.each;
     passed = c.passed;
+    as_many = all_many (length c.all) (length s.links) count c.as_many s.as_many;
     apart = c.apart;
     of_first = c.of_first;
     numbered = c.numbered;

@@ -4,6 +4,7 @@ use Rattle.std.specs.Prelude.{Option, Some, None}
 use Rattle.serve_turns.specs.connection_turns.Serving as turns
 use Rattle.serve_turns.specs.declared.event_book.turn.Answer.{Answer}
 use Rattle.serve_turns.specs.declared.event_book.turn.Turn.{Turn}
+use Rattle.serve_turns.specs.link_threads.Accepted.{AreAccepted}
 use Rattle.serve_turns.specs.link_threads.Covering.{HaveEnds}
 use Rattle.serve_turns.specs.declared.link_threads.links.Halt.{Halt}
 use Rattle.serve_turns.specs.declared.link_threads.links.Halt.TheVariants as halts
@@ -78,16 +79,17 @@ module _ (written written' : Option (List ℕ)) (sink sink' : ℕ) where
 abbrev pub has_risen : ℕ → ℕ → Bool
 has_risen old new = nat_lt old new || new == 18446744073709551615
 
-module _ {D : Type 0} (faults : D → ℕ) where
-  -- the server stopped, and the count of faults of its disk rose
-  abbrev pub has_failed : ℕ → ServerBook D → Bool
-  has_failed before last = is_some (stopped_of last.server.server) && has_risen before (faults (disk_of last.server.server))
+-- the server takes nothing more
+abbrev pub has_stopped : {D : Type 0} → ServerBook D → Bool
+has_stopped last = is_some (stopped_of last.server.server)
 
 module _ (written written' : Option (List ℕ)) (sink sink' : ℕ) where
-  -- that the disk failed goes before all else
-  abbrev pub Behind : Option Bound → Halt → List (Option Ended) → Bool → Ending → Type 0
-  Behind bound halt ends true ending = IsQuiet written written' sink sink' DiskFailed ending
-  Behind bound halt ends false ending = Tells written written' sink sink' bound halt ends ending
+  -- By whether the server stopped, and whether the count of faults of its disk rose: that the disk failed goes before all else. Nothing is
+  -- told of a server that stopped without a fault.
+  abbrev pub Behind : Option Bound → Halt → List (Option Ended) → (stopped risen : Bool) → Ending → Type 0
+  Behind bound halt ends true true ending = IsQuiet written written' sink sink' DiskFailed ending
+  Behind bound halt ends true false ending = IsQuiet written written' sink sink' Memory ending
+  Behind bound halt ends false risen ending = Tells written written' sink sink' bound halt ends ending
 
 -- ---- a server that began
 
@@ -110,8 +112,9 @@ pub record ServingOpens {D : Type 0} (server : Server D) (view : View (ServerBoo
 module _ {D N : Type 0} (told : Type 0) (seen : D → List ℕ) (may_leave : D → List ℕ → Type 0) (faults : D → ℕ)
     (listens_at : N → Option Address) (links : N → ℕ) (net_faults : N → ℕ) (over : Passage → Type 0) where
   -- Links were served, each by a seat of one book, whose history leads from the server that began, and stood there then, to the one that was
-  -- there in the end. The disk is that of the last server. The net listens where it did. Where it ended with 0 as many links were accepted as
-  -- the words say, and of each an end is told, or as many as have numbers. Of all that passed over a link which the net accepted this holds.
+  -- there in the end. They are all that the net accepted, but for one that was let go at once. The disk is that of the last server. The net
+  -- listens where it did. Where it ended with 0 the server goes on, and as many links were accepted as the words say, and of each an end is
+  -- told, or as many as have numbers. Of all that passed over a link which the net accepted this holds.
   pub record HasServed (before : ℕ) (bound : Option Bound) (server : Server D) (from : Stand) (written written' : Option (List ℕ)) (sink sink' : ℕ)
       (net net' : N) (disk' : Option D) (ending : Ending) : Type 0 where
     pub view : View (ServerBook D) Turn Answer
@@ -121,13 +124,18 @@ module _ {D N : Type 0} (told : Type 0) (seen : D → List ℕ) (may_leave : D �
     pub last : ServerBook D
     pub net_failed : halt ≡ halts.NetFault → Rose (net_faults net) (net_faults net')
     pub listens : listens_at net' ≡ listens_at net
-    pub served : AreServedBy over (serving_accepted bound) view ends
+    pub links_served : ℕ
+    pub accepted : AreAccepted (serving_accepted bound) links_served halt (links net) (links net')
+    pub served : AreServedBy over links_served view ends
     pub closes : Closes (server_steps told seen may_leave) view last
     pub disk_is : disk' ≡ Some (disk_of last.server.server)
-    pub rose : has_failed faults before last ≡ true → Rose before (faults (disk_of last.server.server))
+    pub rose : (has_stopped last && has_risen before (faults (disk_of last.server.server))) ≡ true
+        → Rose before (faults (disk_of last.server.server))
     pub counted : ending ≡ Done → AllEnded bound ends (links net) (links net')
-    pub whole : WasServedWhole told seen may_leave over (serving_accepted bound) opens.opening from ends last
-    pub tells : Behind written written' sink sink' bound halt ends (has_failed faults before last) ending
+    pub goes_on : ending ≡ Done → stopped_of last.server.server ≡ None
+    pub whole : WasServedWhole told seen may_leave over links_served opens.opening from ends last
+    pub tells : Behind written written' sink sink' bound halt ends (has_stopped last)
+        (has_risen before (faults (disk_of last.server.server))) ending
 
   -- a net listens
   abbrev pub ServesOn : ℕ → Option Bound → Server D → Stand → (written written' : Option (List ℕ)) → (sink sink' : ℕ) → (net net' : N) → Option D
@@ -136,12 +144,13 @@ module _ {D N : Type 0} (told : Type 0) (seen : D → List ℕ) (may_leave : D �
       (IsQuiet written written' sink sink' Memory ending × (net' ≡ net) × (disk' ≡ None))
       ⊎ HasServed before bound server from written written' sink sink' net net' disk' ending
 
-  -- It was told to listen at an address, which may fail. Then the disk is given back, and the net listens where it did.
+  -- It was told to listen at an address, which may fail: only where the net's count of faults rose. Then the disk is given back, and the
+  -- net listens where it did and accepted nothing.
   abbrev pub Serves : ℕ → Address → Option Bound → Server D → Stand → (written written' : Option (List ℕ)) → (sink sink' : ℕ) → (net net' : N)
       → Option D → Ending → Type 0
   Serves before at bound server from written written' sink sink' net net' disk' ending =
       (Rose (net_faults net) (net_faults net') × IsQuiet written written' sink sink' NetFailed ending
-      × (listens_at net' ≡ listens_at net) × (disk' ≡ Some (disk_of server)))
+      × (listens_at net' ≡ listens_at net) × (links net' ≡ links net) × (disk' ≡ Some (disk_of server)))
       ⊎ ((ready : N) × (listens_at ready ≡ Some at) × (links ready ≡ links net) × (net_faults ready ≡ net_faults net)
       × ServesOn before bound server from written written' sink sink' ready net' disk' ending)
 
@@ -149,12 +158,13 @@ module _ {D N : Type 0} (told : Type 0) (seen : D → List ℕ) (may_leave : D �
   abbrev pub IsNetUnused : (net net' : N) → Type 0
   IsNetUnused net net' = (listens_at net' ≡ listens_at net) × (links net' ≡ links net) × (net_faults net' ≡ net_faults net)
 
-  -- The disk refuses, by its cause, and the net isn't used; or a server began on what the disk holds, with this configuration.
+  -- The disk refuses, by its cause, and is given up, and the net isn't used; or a server began on what the disk holds, with this
+  -- configuration.
   abbrev pub Starts : Said → Config → D → (written written' : Option (List ℕ)) → (sink sink' : ℕ) → (net net' : N) → Option D → Ending
       → Type 0
   Starts said config disk written written' sink sink' net net' disk' ending =
       ((error : JournalError) × RestartRefused told seen faults disk error × IsUnbegun written written' sink sink' error ending
-      × IsNetUnused net net')
+      × IsNetUnused net net' × (disk' ≡ None))
       ⊎ ((server : Server D) × (begins : ServerBegins told seen may_leave faults config disk (state_of server))
       × (config_of server ≡ config)
       × Serves (faults disk) said.address said.bound server (first_stand config begins.2 begins.3) written written' sink sink' net net' disk' ending)

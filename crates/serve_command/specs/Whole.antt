@@ -1,5 +1,5 @@
 -- A server that was served: its history, its connections, its disk and its nonces go together.
-use Rattle.std.specs.Prelude.{◌≡◌, ℕ, ◌+◌, ◌%◌, ◌^◌, ◌≤◌, ◌<◌, Bool, List, length, Option, None, Some, slice_get, get_or}
+use Rattle.std.specs.Prelude.{◌≡◌, ℕ, ◌+◌, ◌%◌, ◌^◌, ◌≤◌, ◌<◌, List, length, Option, None, Some, slice_get, get_or}
 use Rattle.law_records.specs.recovery.Restarted.{Bare}
 use Rattle.spec_exchange.specs.Fold.{recovered, recovery_records}
 use Rattle.spec_exchange.specs.State as model
@@ -13,7 +13,6 @@ use Rattle.server_checks.specs.declared.tables.Config.{Config}
 use Rattle.server_recovery.specs.Reading.{BodiesSpell}
 use Rattle.server_recovery.specs.restart_tables.Restart.{configuration_of}
 use Rattle.server_core.specs.declared.server.Server.{Server}
-use Rattle.server_core.specs.disk_server.Shown.{ShowsBook}
 use Rattle.server_core.specs.Shown.{HoldsServer, config_of, disk_of, stopped_of}
 use Rattle.serve_turns.specs.connection_turns.Serving.{WasServedBy}
 use Rattle.serve_turns.specs.declared.event_book.turn.Answer.{Answer}
@@ -148,8 +147,9 @@ module _ {D : Type 0} (told : Type 0) (seen : D → List ℕ) (may_leave : D →
 
   -- Of the server that began, the history, the connections, and the server that was there in the end: the history runs in the model; each
   -- connection's turns are its seat's entries, and what it wrote are the answers to what came, and that is all that passed over a link of which
-  -- this holds; no entry is anybody else's; links, seats and numbers are each one connection's own; of which it is told how they ended, they
-  -- ended so; the disk stands for the records at each place; and no nonce came twice.
+  -- this holds; no entry is anybody else's; there are as many connections as links, each of one of the links; links, seats and numbers are
+  -- each one connection's own; of which it is told how they ended, they ended so; the disk stands for the records at each place; and no
+  -- nonce came twice.
   pub record WasServedWhole (over : Passage → Type 0) (count : ℕ) (opening : ServerBook D) (from : Stand) (ends : List (Option Ended)) (last : ServerBook D)
       : Type 0 where
     pub log : List (Entry Turn Answer)
@@ -160,6 +160,7 @@ module _ {D : Type 0} (told : Type 0) (seen : D → List ℕ) (may_leave : D →
     pub runs : RunsBy (settings_of opening.server.server) (On from) log h to
     pub each : AllServed (settings_of opening.server.server) h log connections
     pub passed : AllPassed over connections
+    pub as_many : length connections ≡ count
     pub apart : AreApart connections
     pub of_first : AreOfFirst count connections
     pub numbered : count < 2 ^ 32 → AreNumbered connections

@@ -1,20 +1,21 @@
 //! What is left of a server behind its last turn.
 ghost use Rattle.std.specs.Prelude.{◌≡◌};
 ghost use Rattle.server_core.specs.Shown.{disk_of};
-ghost use Rattle.serve_command.specs.Serving.{Behind, has_failed, has_risen};
+ghost use Rattle.serve_command.specs.Serving.{Behind, has_risen, has_stopped};
 
 use crate::ending::Ending;
 use crate::lines::ended;
-use crate::server_book::{Book, ServerBook};
 use crate::server_settings::Bound;
 use base_outside::{Disk, Sink};
 use serve_turns::{Ended, EventBook, Halt};
+use server_core::Book;
 use std::alloc::Global;
 
-/// The disk of a server that is no more, and whether the server stopped since a call of the disk failed.
+/// The disk of a server that is no more, whether the server had stopped, and whether the disk failed meanwhile.
 #[derive(Drop)]
 pub(crate) struct Left<D> {
-    pub failed: bool,
+    pub stopped: bool,
+    pub risen: bool,
     pub disk: D,
 }
 
@@ -26,8 +27,9 @@ fn has_risen(before: u64, after: u64) -> bool
 }
 
 /// What is left of a server, whose disk had failed so often before.
-pub(crate) fn left_of<D: Disk>(last: ServerBook<D>, before: u64) -> Left<D>
-    ensures failed { result.failed ≡ has_failed D.faults before last }
+pub(crate) fn left_of<D: Disk>(last: EventBook<Book<D>>, before: u64) -> Left<D>
+    ensures stopped { result.stopped ≡ has_stopped last }
+    ensures risen { result.risen ≡ has_risen before (D.faults (disk_of last.server.server)) }
     ensures disk { result.disk ≡ disk_of last.server.server }
 {
     let EventBook { alloc: _, server } = last;
@@ -36,25 +38,31 @@ pub(crate) fn left_of<D: Disk>(last: ServerBook<D>, before: u64) -> Left<D>
     let disk = server.stop();
     let risen = has_risen(before, disk.fault_count());
     Left {
-        failed: stopped && risen,
+        stopped,
+        risen,
         disk,
     }
 }
 
-/// How the command ends behind the last turn, by whether the disk failed.
+/// How the command ends behind the last turn, by whether the server stopped and its disk failed. A server stops only where its disk failed:
+/// of one that says otherwise nothing is told, so that no connection's line says it either.
 pub(crate) fn behind<O: Sink>(
     alloc: Global,
     bound: Option<Bound>,
     sink: &mut O,
     halt: Halt,
     ends: &[Option<Ended>],
-    failed: bool,
+    stopped: bool,
+    risen: bool,
 ) -> Ending
-    ensures { Behind (O.written sink.old) (O.written sink.new) (O.faults sink.old) (O.faults sink.new) bound halt ends.now failed
-        result }
+    ensures { Behind (O.written sink.old) (O.written sink.new) (O.faults sink.old) (O.faults sink.new) bound halt ends.now stopped
+        risen result }
 {
-    if failed {
+    if !stopped {
+        return ended(alloc, bound, sink, halt, ends);
+    }
+    if risen {
         return Ending::DiskFailed;
     }
-    ended(alloc, bound, sink, halt, ends)
+    Ending::Memory
 }

@@ -14,11 +14,11 @@ ghost use Rattle.serve_command.specs.Serving.{serving_accepted, serving_listed};
 use crate::behind::{Left, behind, left_of};
 use crate::ending::Ending;
 use crate::opening::{settled, unbegun};
-use crate::server_book::{Book, Server, ServerBook};
 use crate::server_settings::{Bound, Said, Setup};
 use base_outside::{Clock, Disk, Failed, Net, Sink, Source};
 use rand_core::Rng;
 use serve_turns::{BookSeat, Connections, Ended, EventBook, Roll, Served, SharedBook, serve_links};
+use server_core::{Book, Server};
 use std::alloc::{AllocError, Global};
 use std::sync::{Mutex, Wait};
 use std::thread::Threads;
@@ -28,6 +28,9 @@ const GUID: [u8; 16] = *b"smb311-server-01";
 
 /// How many links can have numbers of their own, from 1 on: a connection's number has 32 bits.
 const LINKS_OF_OWN_NUMBER: usize = 4_294_967_295;
+
+/// A server on a disk whose connections take turns.
+type ServerBook<D> = EventBook<Book<D>>;
 
 /// How the command ended, with the net, and the disk where it was not given up.
 #[derive(Drop)]
@@ -295,8 +298,20 @@ where
     let Roll { seat, ends } = roll;
     let last = closed(rt, book, seat);
     let left = left_of(last, before);
-    let Left { failed, disk } = left;
-    let ending = behind(alloc, said.bound, sink, halt, ends.as_slice(), failed);
+    let Left {
+        stopped,
+        risen,
+        disk,
+    } = left;
+    let ending = behind(
+        alloc,
+        said.bound,
+        sink,
+        halt,
+        ends.as_slice(),
+        stopped,
+        risen,
+    );
     Finished {
         ending,
         net,

@@ -12,7 +12,6 @@ mod ending;
 mod lines;
 mod opening;
 mod printing;
-mod server_book;
 mod server_settings;
 
 pub use alone::alone_law;
@@ -21,5 +20,4 @@ pub use due::due_law;
 pub use ending::Ending;
 pub use opening::settled;
 pub use printing::usage;
-pub use server_book::{Book, Server, ServerBook};
 pub use server_settings::{Bound, Said, SettingsRefusal, Setup, config_in, read_words};

@@ -1,24 +1,22 @@
 -- What one connection sealed: no nonce twice, each under a number that was drawn at the place of a turn of its own.
-use Rattle.std.proofs.Common.{◌≡◌, ◌⊎◌, inl, inr, ℕ, ◌+◌, ◌≤◌, Bool, true, List, [], ◌∷◌, ◌++◌, slice_get, Option, Some, None, Ok, Err}
+use Rattle.std.proofs.Common.{◌≡◌, ℕ, ◌+◌, ◌≤◌, Bool, true, List, [], ◌∷◌, ◌++◌, slice_get, Option, Some, None, Ok, Err}
 use Rattle.std.proofs.Common.{refl, sym, ap, subst, ◌∙◌, arith, append-nil, append_assoc}
 use Rattle.std.specs.Prelude.{Result}
-use Rattle.spec_crypto.specs.declared.sessions.material.Keys.{Keys}
 use Rattle.spec_exchange.specs.State as model
 use Rattle.spec_exchange.specs.Table.{put}
 use Rattle.spec_world.specs.Answering.{Seal}
-use Rattle.spec_world.specs.Connection.{Going, answered, ended_by}
+use Rattle.spec_world.specs.Connection.{Going, answered}
 use Rattle.spec_world.specs.Ends as world
 use Rattle.spec_world.specs.Ends.{ServerEnd, Logons, first_server_end}
 use Rattle.spec_world.specs.Given.{Given, GivenStep, dealt_of, dealt_step, given_of}
 use Rattle.spec_world.specs.Hearing.{Frame, check_frame}
 use Rattle.spec_world.specs.Settings.{ServerSettings}
 use Rattle.law_nonces.specs.server_nonces.Numbering.{NonceNumbered, Sealer, sealer_of}
-use Rattle.law_nonces.proofs.event_nonces.Seals.{EndFrom, SealsFrom, answered_along, answered_from, joined_from, none_from}
+use Rattle.law_nonces.proofs.event_nonces.Seals.{EndFrom, SealsFrom, answered_along, answered_from, joined_from}
 use Rattle.law_nonces.proofs.negotiation.Tables.{put_same}
-use Rattle.law_nonces.proofs.server_nonces.Numbers.{grow_keeps}
 use Rattle.law_nonces.proofs.server_nonces.Serving.{FrameSame, SameSealing, frame_same, sealer_same}
-use Rattle.conn_core.specs.frame_events.Shared.{asked_all, first_dealt}
-use Rattle.serve_turns.specs.connection_turns.Frames.{Answers, AnswersAll, AreAsked, AreFor, AreGiven}
+use Rattle.conn_core.specs.frame_events.Shared.{first_dealt}
+use Rattle.serve_turns.specs.connection_turns.Frames.{Answers, AnswersAll, AreAsked, AreGiven}
 use Rattle.serve_turns.specs.declared.event_book.turn.Answer.{Answer}
 use Rattle.serve_turns.specs.declared.event_book.turn.Turn.{Turn}
 use Rattle.serve_turns.specs.declared.shared_book.view.Entry.{Entry}

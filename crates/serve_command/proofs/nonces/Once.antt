@@ -1,18 +1,17 @@
 -- No two messages that a served server sealed have one nonce in one session.
-use Rattle.std.proofs.Common.{◌≡◌, ◌⊎◌, inl, inr, ℕ, zero, suc, ◌+◌, ◌-◌, ◌==◌, ◌≤◌, ◌<◌, Bool, true, false, List, [], ◌∷◌, ◌++◌, length}
-use Rattle.std.proofs.Common.{slice_get, Option, Some, None, refl, sym, ap, subst, ◌∙◌, arith, eqb-true}
+use Rattle.std.proofs.Common.{◌≡◌, inl, inr, ℕ, zero, suc, ◌+◌, ◌-◌, ◌==◌, ◌≤◌, ◌<◌, Bool, true, false, List, [], ◌∷◌, ◌++◌, length}
+use Rattle.std.proofs.Common.{slice_get, Some, None, refl, sym, ap, subst, ◌∙◌, arith, eqb-true}
 use Rattle.std.specs.Prelude.{nat_lt}
 use Rattle.std.proofs.lemmas.Bool.{ltb-true, ltb-false}
-use Rattle.spec_crypto.specs.declared.sessions.material.Keys.{Keys}
 use Rattle.spec_world.specs.Answering.{Seal}
 use Rattle.spec_world.specs.Ends.{first_server_end}
 use Rattle.spec_world.specs.Settings.{ServerSettings}
 use Rattle.law_nonces.specs.event_nonces.Events.{NonceTables}
-use Rattle.law_nonces.specs.server_nonces.Numbering.{NonceNumbered, Sealer, sealer_of}
+use Rattle.law_nonces.specs.server_nonces.Numbering.{NonceNumbered, Sealer}
 use Rattle.law_nonces.proofs.event_nonces.Seals.{SealsFrom, none_from}
 use Rattle.law_nonces.proofs.server_nonces.Numbers.{grow_keeps}
 use Rattle.law_nonces.proofs.server_nonces.Runs.{none_sealed, same_place}
-use Rattle.serve_turns.specs.connection_turns.Serving.{HadNoRoom, WasLetGo, WasRefused, WasServedBy, WasTakenIn}
+use Rattle.serve_turns.specs.connection_turns.Serving.{WasTakenIn}
 use Rattle.serve_turns.specs.declared.event_book.turn.Answer.{Answer}
 use Rattle.serve_turns.specs.declared.event_book.turn.Turn.{Turn}
 use Rattle.serve_turns.specs.declared.link_serving.ended.Ended.{Ended}
@@ -21,8 +20,8 @@ use Rattle.serve_turns.specs.event_book.History.{Course, On, Placed, RunsBy, Sta
 use Rattle.serve_turns.specs.shared_book.Histories.{entries_of, entry_if}
 use Rattle.serve_command.specs.Whole.{AreApart, AreOnce, EndedConnection, WasServed, number_of}
 use Rattle.serve_command.proofs.nonces.Frames.{Sealed, all_sealed}
-use Rattle.serve_command.proofs.nonces.Tables.{Kept, TablesAt, drawn_at, drawn_entry, drawn_next, grows, kept}
-use Rattle.serve_command.proofs.nonces.Turns.{DrawnHere, GoOn, go_back, go_front}
+use Rattle.serve_command.proofs.nonces.Tables.{TablesAt, drawn_at, drawn_entry, drawn_next, grows, kept}
+use Rattle.serve_command.proofs.nonces.Turns.{DrawnHere, GoOn, go_front}
 
 module _ (z : ServerSettings) (h : Course) (log : List (Entry Turn Answer)) (from : Stand) (to : Standing)
     (runs : RunsBy z (On from) log h to) (first : NonceTables from.server from.logons (λ x. 0)) where

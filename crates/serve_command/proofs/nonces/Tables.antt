@@ -1,5 +1,5 @@
 -- The numbers that sessions drew at each place of a server's history.
-use Rattle.std.proofs.Common.{◌≡◌, ◌⊎◌, inl, inr, ℕ, zero, suc, ◌+◌, ◌==◌, ◌≤◌, ◌<◌, Bool, true, false, if◌then◌else◌, List, [], ◌∷◌, ◌++◌}
+use Rattle.std.proofs.Common.{◌≡◌, inl, inr, ℕ, zero, suc, ◌+◌, ◌==◌, ◌≤◌, ◌<◌, Bool, true, false, if◌then◌else◌, List, [], ◌∷◌}
 use Rattle.std.specs.Prelude.{nat_lt}
 use Rattle.std.proofs.lemmas.Bool.{ltb-true, ltb-false}
 use Rattle.std.proofs.Common.{length, slice_get, Option, Some, None, Result, Ok, Err, refl, sym, ap, subst, ◌∙◌, arith}
@@ -7,14 +7,13 @@ use Rattle.spec_crypto.specs.declared.sessions.material.Keys.{Keys}
 use Rattle.spec_crypto.specs.tokens.Tokens.{Users}
 use Rattle.spec_exchange.specs.Network.{answer_to}
 use Rattle.spec_exchange.specs.State as model
-use Rattle.spec_exchange.specs.Step.{step}
 use Rattle.spec_exchange.specs.Table.{put}
 use Rattle.spec_world.specs.Ends.{Logons}
 use Rattle.spec_world.specs.Given.{Given}
 use Rattle.spec_world.specs.Logon.{Progress, Stays, Interim, Final, progress}
 use Rattle.spec_world.specs.Settings.{ServerSettings}
 use Rattle.law_nonces.specs.event_nonces.Events.{EventDraws, IsFaultDenied, KeysBehind, NonceTables}
-use Rattle.law_nonces.specs.server_nonces.Numbering.{key_sessions, next_drawn, next_names}
+use Rattle.law_nonces.specs.server_nonces.Numbering.{next_drawn}
 use Rattle.law_nonces.proofs.event_nonces.Tables.{alone_draws, heard_draws, other_draws}
 use Rattle.law_nonces.proofs.negotiation.Going.{heard_is}
 use Rattle.law_nonces.proofs.server_nonces.Going.{heard_session}
@@ -36,7 +35,7 @@ use Rattle.serve_turns.specs.declared.event_book.turn.Turn.{Turn}
 use Rattle.serve_turns.specs.declared.event_book.turn.What.{What}
 use Rattle.serve_turns.specs.declared.event_book.turn.What.TheVariants.{Accept, Message, End}
 use Rattle.serve_turns.specs.declared.shared_book.view.Entry.{Entry}
-use Rattle.serve_turns.specs.event_book.History.{Course, GivenIf, Meets, MeetsMessage, MeetsOther, Off, On, RunsBy, Stand, Standing, StandsAt}
+use Rattle.serve_turns.specs.event_book.History.{Course, GivenIf, Meets, MeetsMessage, Off, On, RunsBy, Stand, Standing, StandsAt}
 use Rattle.serve_turns.specs.event_book.History.{StopsAt}
 use Rattle.serve_turns.proofs.event_book.Places.{asked_is}
 

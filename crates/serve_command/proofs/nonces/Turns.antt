@@ -1,9 +1,8 @@
 -- The replies to one frame's messages: each final one tells a number that was drawn at the place of its own turn.
-use Rattle.std.proofs.Common.{◌≡◌, ℕ, ◌+◌, ◌-◌, ◌==◌, ◌≤◌, ◌<◌, ◌^◌, Bool, true, false, not, if◌then◌else◌, List, [], ◌∷◌, ◌++◌}
+use Rattle.std.proofs.Common.{◌≡◌, ℕ, ◌+◌, ◌-◌, ◌≤◌, ◌<◌, Bool, true, false, not, if◌then◌else◌, List, [], ◌∷◌, ◌++◌}
 use Rattle.std.proofs.Common.{slice_get, Option, Some, None, Ok, Err, refl, sym, ap, subst, ◌∙◌, arith}
 use Rattle.std.specs.Prelude.{is_some}
-use Rattle.spec_crypto.specs.declared.sessions.material.Keys.{Keys}
-use Rattle.spec_exchange.specs.Commands.{Command, Aside, Setup}
+use Rattle.spec_exchange.specs.Commands.{Command, Setup}
 use Rattle.spec_exchange.specs.Network.{answer_to}
 use Rattle.spec_exchange.specs.State as model
 use Rattle.spec_exchange.specs.Status.{insufficient_resources, no_memory}
@@ -28,7 +27,6 @@ use Rattle.conn_core.specs.frame_messages.Checking.{message_in}
 use Rattle.conn_core.specs.declared.served.error.ServeError.TheVariants as errors
 use Rattle.conn_core.specs.frame_events.Dealing.{EventAnswer}
 use Rattle.conn_core.specs.frame_events.Shared.{asked_all, asked_in, asks_it}
-use Rattle.conn_core.specs.frame_events.Telling.{ToldIf}
 use Rattle.conn_core.specs.requests.Telling.{told_message}
 use Rattle.conn_core.proofs.requests.Asked.{greeting_told, told_is}
 use Rattle.serve_turns.specs.connection_turns.Frames.{AreFor, AreGiven, IsFor, IsTurnFor}
@@ -38,7 +36,7 @@ use Rattle.serve_turns.specs.declared.event_book.turn.Turn as events
 use Rattle.serve_turns.specs.declared.event_book.turn.What.{What}
 use Rattle.serve_turns.specs.declared.event_book.turn.What.TheVariants.{Accept, Message, End}
 use Rattle.serve_turns.specs.declared.shared_book.view.Entry.{Entry}
-use Rattle.serve_turns.specs.event_book.History.{Course, GivenIf, Meets, MeetsAt, MeetsMessage, Off, On, Placed, Stand, Standing, StandsAt}
+use Rattle.serve_turns.specs.event_book.History.{Course, GivenIf, Meets, MeetsAt, MeetsMessage, Off, On, Placed, Stand, Standing}
 use Rattle.serve_command.proofs.nonces.Tables.{TablesAt, due_at, drawn_at, drawn_entry, drawn_if, drawn_what, has_drawn, took}
 use Rattle.serve_command.proofs.nonces.Tables.{asked_denied}
 

@@ -14,4 +14,10 @@ returns-in-Ok g c = λ from begins. inr (
 
 pub returns-in-Err : goal.returns-in-Err
 returns-in-Err g c = λ from begins.
-    inl (c.in-Err.ensures.cause.1, (refl, (refl, Keeps-refl _)), c.in-Err.ensures.failed, ap Some c.stop.ensures)
+    inl (
+      c.in-Err.ensures.cause.1,
+      (refl, (refl, Keeps-refl _)),
+      c.in-Err.ensures.failed,
+      c.listen.ensures.accepted,
+      ap Some c.stop.ensures,
+    )

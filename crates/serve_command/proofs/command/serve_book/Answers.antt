@@ -2,8 +2,9 @@ use Rattle.std.proofs.Common.{ap, subst, ℕ}
 use Rattle.std.specs.Prelude.{Some}
 use Rattle.serve_turns.specs.link_serving.Passage.{IsOfLink, Passage}
 use Rattle.serve_turns.specs.shared_book.Words.{view_of}
-use Rattle.serve_command.specs.Serving.{AreServedBy, serving_accepted}
-use Rattle.serve_command.proofs.Counted.{counted}
+use Rattle.serve_turns.specs.link_threads.Accepted.{AreAccepted}
+use Rattle.serve_turns.specs.link_threads.Covering.{HaveEnds}
+use Rattle.serve_command.proofs.Counted.{counted, none_stopped}
 use Rattle.serve_command.proofs.Rises.{rises}
 use Rattle.serve_command.proofs.Still.{behind_of, still_opens}
 use Rattle.serve_command.proofs.Wholes.{whole_of}
@@ -13,8 +14,12 @@ pub returns : goal.returns
 returns g c = λ server from opening begins. (let over : Passage → Type 0 =
     IsOfLink g.N.L.Link.told g.N.L.Link.given g.N.L.Link.written g.N.L.Link.faults g.N.L.Link.ended in
     let opens = still_opens server _ _ opening c.serve_links-served.ensures.opening in
-    let served = subst (λ (n : ℕ). AreServedBy over n (view_of c.serve_links-served.result.roll.seat) c.serve_links-served.result.roll.ends.items)
-    c.accepted-count.ensures c.serve_links-served.ensures.served in
+    let most = c.accepted-count.ensures in
+    let all = c.serve_links-served.ensures.served in
+    let accepted = subst (λ (n : ℕ). AreAccepted n all.0 c.serve_links-served.result.halt (g.N.Net.accepted c.args.net)
+    (g.N.Net.accepted c.serve_links-served.result.net)) most all.1 in
+    let tells = behind_of _ _ _ _ _ _ _ _ _ _ _ _ _ c.as_slice.ensures.value c.left_of-left.ensures.stopped c.left_of-left.ensures.risen
+    c.behind-ending.ensures in
     record {
       view = view_of c.serve_links-served.result.roll.seat;
       opens = opens;
@@ -23,16 +28,18 @@ returns g c = λ server from opening begins. (let over : Passage → Type 0 =
       last = c.closed-last.result;
       net_failed = c.serve_links-served.ensures.net;
       listens = c.serve_links-served.ensures.place;
-      served = served;
+      links_served = all.0;
+      accepted = accepted;
+      served = all.2;
       closes = c.closed-last.ensures;
       disk_is = ap Some c.left_of-left.ensures.disk;
       rose = rises _ _ _;
-      counted = counted _ _ _ _ _ _ _ _ _ _ _ _ _
-          (behind_of _ _ _ _ _ _ _ _ _ _ _ c.as_slice.ensures.value c.left_of-left.ensures.failed c.behind-ending.ensures)
-          c.accepted-count.ensures c.requires.room c.serve_links-served.ensures.count c.serve_links-served.ensures.ends
-          c.serve_links-served.ensures.accepted;
-      whole = whole_of g.D.Disk.told g.D.Disk.seen g.D.Disk.may_leave over (serving_accepted c.args.said.now.bound) server from
-          (view_of c.serve_links-served.result.roll.seat) c.serve_links-served.result.roll.ends.items c.closed-last.result opens served
+      counted = counted _ _ _ _ _ _ _ _ _ _ _ _ _ _ tells c.requires.room c.serve_links-served.ensures.count
+          (λ is. subst (λ (n : ℕ). HaveEnds n c.serve_links-served.result.roll.ends.items) most (c.serve_links-served.ensures.ends is))
+          accepted;
+      goes_on = none_stopped _ _ _ _ _ _ _ _ _ _ tells;
+      whole = whole_of g.D.Disk.told g.D.Disk.seen g.D.Disk.may_leave over all.0 server from
+          (view_of c.serve_links-served.result.roll.seat) c.serve_links-served.result.roll.ends.items c.closed-last.result opens all.2
           c.closed-last.ensures begins;
-      tells = behind_of _ _ _ _ _ _ _ _ _ _ _ c.as_slice.ensures.value c.left_of-left.ensures.failed c.behind-ending.ensures;
+      tells = tells;
     })

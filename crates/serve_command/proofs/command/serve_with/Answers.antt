@@ -1,4 +1,4 @@
-use Rattle.std.proofs.Common.{inl, inr}
+use Rattle.std.proofs.Common.{inl, inr, refl}
 use Rattle.serve_command.specs.Whole.{first_stand}
 use Rattle.serve_command.proofs.Still.{serves_still}
 use Rattle.serve_command.proofs.Wholes.{begins_at}
@@ -22,4 +22,5 @@ returns-in-Err g c = inl (
   c.in-Err.ensures.refused,
   c.unbegun-ending.ensures,
   (c.watch.ensures.place, c.watch.ensures.accepted, c.watch.ensures.calm),
+  refl,
 )
