@@ -1,0 +1,4 @@
+mod Borrowed
+mod Guards
+mod Steps
+mod Stands

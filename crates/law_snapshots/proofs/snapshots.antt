@@ -1,0 +1,6 @@
+mod Bytes
+mod Files
+mod Opens
+mod Ranges
+mod Tables
+mod Whole

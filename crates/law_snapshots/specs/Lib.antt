@@ -1,0 +1,3 @@
+pub mod snapshots
+pub mod behind
+pub mod examples

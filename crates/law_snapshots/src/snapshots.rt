@@ -1,0 +1,24 @@
+//! A snapshot stands for the part of a state that outlives a restart.
+//!
+//! Each law is a public function with an empty body, whose contract is the statement.
+
+ghost use Rattle.std.specs.Prelude.{◌≡◌, ℕ, List, [], ◌++◌, length};
+ghost use Rattle.spec_exchange.specs.State.{Server};
+ghost use Rattle.law_snapshots.specs.snapshots.Kept.{SnapshotKeeps, parts_joined, patches_of};
+ghost use Rattle.law_snapshots.specs.snapshots.Pieces.{FileBytes, shown};
+
+/// Of a server that fits together, with its files in the order of their numbers: what its snapshot stands for is all that outlives a
+/// restart of it, its files with their bytes, its persistent opens with their rows, slots, guids and ranges in their order, the guids
+/// of expired ones, and the numbers; however the bytes are told, and whichever of them are stored beside the journal.
+pub fn snapshot_law()
+    ensures { (s : Server) (held : ℕ → FileBytes) (guids : List (ℕ × ℕ)) → SnapshotKeeps s held guids }
+{}
+
+/// Two ways to tell a file's bytes: nothing of it stored, and all parts of it one behind the other, cut anywhere (`cut`); or all of
+/// it stored, with any bytes behind, and nothing told (`stored`).
+pub fn held_law()
+    ensures cut { (parts : List (List ℕ)) (w : List ℕ)
+        → shown (record { stored = 0; patches = patches_of 0 parts }) (length (parts_joined parts)) w ≡ parts_joined parts }
+    ensures stored { (bytes more : List ℕ)
+        → shown (record { stored = length bytes; patches = [] }) (length bytes) (bytes ++ more) ≡ bytes }
+{}
