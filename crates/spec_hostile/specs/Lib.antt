@@ -1,0 +1,3 @@
+pub mod RepeatRuns
+pub mod SignedFor
+pub mod HostileNetwork
