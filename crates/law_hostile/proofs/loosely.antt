@@ -1,0 +1,4 @@
+pub mod Lists
+pub mod KindsStay
+pub mod Staying
+pub mod Runs

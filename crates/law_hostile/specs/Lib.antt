@@ -1,0 +1,6 @@
+pub mod taken_ids
+pub mod negotiating
+pub mod sifting
+pub mod loosely
+pub mod unforged
+pub mod puts

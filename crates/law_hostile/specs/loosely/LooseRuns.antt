@@ -1,0 +1,77 @@
+-- Runs of the model of values on a network that also loses single messages and delivers them in another order: between its events a
+-- message or a reply that waits is lost, or the one behind it overtakes it.
+use Rattle.std.specs.Prelude.{◌≡◌, ℕ, zero, suc, ◌+◌, ◌≤◌, Bool, true, false, if◌then◌else◌, List, [], ◌∷◌}
+use Rattle.spec_exchange.specs.Table.{put}
+use Rattle.spec_exchange.specs.Operations.{is_ok}
+use Rattle.spec_exchange.specs.Network.{World, Event, Conn, Settings, happens, start}
+use Rattle.spec_exchange.specs.Runs.{acts_now, is_once, never_acted}
+use Rattle.spec_exchange.specs.Statements.{NeverAfterNewer}
+
+-- ---- lists, whose places count from 0
+
+-- what stands at this place is gone
+unfoldable pub without_at : {X : Type 0} → ℕ → List X → List X
+without_at n [] = []
+without_at zero (x ∷ xs) = xs
+without_at (suc n) (x ∷ xs) = x ∷ without_at n xs
+
+-- what stands behind this place stands before it
+unfoldable pub overtaken_at : {X : Type 0} → ℕ → List X → List X
+overtaken_at n [] = []
+overtaken_at n (x ∷ []) = x ∷ []
+overtaken_at zero (x ∷ y ∷ xs) = y ∷ x ∷ xs
+overtaken_at (suc n) (x ∷ y ∷ xs) = x ∷ overtaken_at n (y ∷ xs)
+
+abbrev pub loses : Conn → Bool → ℕ → Conn
+loses c true n = record c { up = without_at n c.up }
+loses c false n = record c { down = without_at n c.down }
+
+abbrev pub overtakes : Conn → Bool → ℕ → Conn
+overtakes c true n = record c { up = overtaken_at n c.up }
+overtakes c false n = record c { down = overtaken_at n c.down }
+
+-- ---- events and runs
+
+pub data LooseEvent : Type 0 where
+  Meets : (event : Event) → LooseEvent
+  Loses : (k : ℕ) (up : Bool) (place : ℕ) → LooseEvent
+  Overtakes : (k : ℕ) (up : Bool) (place : ℕ) → LooseEvent
+
+abbrev pub with_connection : World → ℕ → Conn → World
+with_connection w k c = record w { conns = put w.conns k c }
+
+abbrev pub loose_happens : World → LooseEvent → World
+loose_happens w (Meets e) = happens w e
+loose_happens w (Loses k up place) = with_connection w k (loses (w.conns k) up place)
+loose_happens w (Overtakes k up place) = with_connection w k (overtakes (w.conns k) up place)
+
+unfoldable pub loose_run : List LooseEvent → World → World
+loose_run [] w = w
+loose_run (e ∷ es) w = loose_run es (loose_happens w e)
+
+abbrev pub loose_acts_now : World → LooseEvent → ℕ → Bool
+loose_acts_now w (Meets e) g = acts_now w e g
+loose_acts_now w (Loses k up place) g = false
+loose_acts_now w (Overtakes k up place) g = false
+
+unfoldable pub loose_acts : List LooseEvent → World → ℕ → ℕ
+loose_acts [] w g = 0
+loose_acts (e ∷ es) w g = (if loose_acts_now w e g then 1 else 0) + loose_acts es (loose_happens w e) g
+
+-- ---- what is said of them
+
+pub record LooseOnce (es : List LooseEvent) (w : World) : Type 0 where
+  pub at_most : (g : ℕ) → is_once ((loose_run es w).client.op g) ≡ true → loose_acts es w g ≤ 1
+  pub acknowledged :
+      (g : ℕ) → is_once ((loose_run es w).client.op g) ≡ true → is_ok ((loose_run es w).client.outcome g) ≡ true
+      → loose_acts es w g ≡ 1
+  -- so far
+  pub never :
+      (g : ℕ) → is_once ((loose_run es w).client.op g) ≡ true → never_acted ((loose_run es w).client.outcome g) ≡ true
+      → loose_acts es w g ≡ 0
+
+abbrev pub LooselyOnce : Type 0
+LooselyOnce = (z : Settings) (es : List LooseEvent) → LooseOnce es (start z)
+
+abbrev pub LooselyNewer : Type 0
+LooselyNewer = (z : Settings) (es : List LooseEvent) → NeverAfterNewer (loose_run es (start z))

@@ -1,0 +1,19 @@
+//! Laws on a network that repeats, reorders and redirects what both ends ever sent: what stands so far of the statement on such
+//! runs. It is a room because nothing on the network that only loses stands on it. Nothing stands on it.
+//!
+//! Each law is the contract of a public function that does nothing.
+#![tactic(auto)]
+
+mod loosely;
+mod negotiating;
+mod puts;
+mod sifting;
+mod taken_ids;
+mod unforged;
+
+pub use loosely::{loose_newer_law, loose_once_law};
+pub use negotiating::repeat_negotiation_law;
+pub use puts::{put_stays_law, signed_was_put_law};
+pub use sifting::lists_may_sift_law;
+pub use taken_ids::{frames_take_once_law, opening_takes_once_law, signed_takes_once_law};
+pub use unforged::forged_or_signed_law;
