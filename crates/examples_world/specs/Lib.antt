@@ -3,3 +3,4 @@ pub mod commands
 pub mod runs
 pub mod connections
 pub mod settings
+pub mod repeats

@@ -2,7 +2,7 @@
 //! found no memory or a server that stopped, what is signed, sealed and bound, and a dialog without credits; and a worked
 //! logon, the bytes of which another implementation makes.
 
-ghost use Rattle.std.specs.Prelude.{◌≡◌, ℕ, [], ◌∷◌, ◌++◌, ◌+◌, true, false, Some, None, Err, replicate, length};
+ghost use Rattle.std.specs.Prelude.{◌≡◌, ℕ, [], ◌∷◌, ◌+◌, true, false, Some, None, Err, replicate, length};
 ghost use Rattle.spec_wire.specs.credits.Ids.{ids_from};
 ghost use Rattle.spec_exchange.specs.Client.{SaidFirst, SaidSecond, AskedTree};
 ghost use Rattle.spec_exchange.specs.Commands.{Setup, TreeConnect};

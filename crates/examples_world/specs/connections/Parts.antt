@@ -7,7 +7,7 @@ use Rattle.spec_exchange.specs.State.{Server, Message}
 use Rattle.spec_exchange.specs.Fold.{nothing_yet}
 use Rattle.spec_exchange.specs.Network.{ForOp}
 use Rattle.spec_crypto.specs.declared.sessions.material.Keys.{Keys}
-use Rattle.spec_world.specs.Settings.{ServerSettings, WorldSettings}
+use Rattle.spec_world.specs.Settings.{WorldSettings}
 use Rattle.spec_world.specs.Messages.{HeardMessage, message_spelling, unsigned_field, heard_in}
 use Rattle.spec_world.specs.Ends.{ClientEnd, ServerEnd, no_client_end, first_server_end, no_logons, no_keys, no_choice}
 use Rattle.spec_world.specs.Hearing.{Checked}

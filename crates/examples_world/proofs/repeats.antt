@@ -1,0 +1,4 @@
+pub mod PutUp
+pub mod Twice
+pub mod Redirected
+pub mod Misread
