@@ -4,3 +4,4 @@ pub mod sifting
 pub mod loosely
 pub mod unforged
 pub mod puts
+pub mod acts

@@ -4,6 +4,7 @@
 //! Each law is the contract of a public function that does nothing.
 #![tactic(auto)]
 
+mod acts;
 mod loosely;
 mod negotiating;
 mod puts;
@@ -11,6 +12,7 @@ mod sifting;
 mod taken_ids;
 mod unforged;
 
+pub use acts::{acts_are_guarded_law, faulty_acts_not_law};
 pub use loosely::{loose_newer_law, loose_once_law};
 pub use negotiating::repeat_negotiation_law;
 pub use puts::{put_stays_law, signed_was_put_law};
