@@ -1,0 +1,4 @@
+pub mod Listing
+pub mod MadeFiles
+pub mod Telling
+pub mod Asking
