@@ -1,6 +1,5 @@
 -- What was read, from how a text was taken; and the operations of lines.
-use Rattle.std.proofs.Common.{◌≡◌, ℕ, List, [], ◌∷◌, ◌++◌, Option, Result, Ok, Err, refl, sym, ap, subst, ◌∙◌}
-use Rattle.std.specs.Prelude.{◌⊎◌}
+use Rattle.std.proofs.Common.{◌≡◌, ℕ, List, [], ◌∷◌, ◌++◌, Option, Result, Ok, Err, refl, sym, ap, ◌∙◌}
 use Rattle.std.proofs.Common.{inl, inr, append-nil, append_assoc, drop, length, arith}
 use Rattle.base_outside.specs.streams.Faults.{Rose}
 use Rattle.base_outside.specs.whole_texts.Outside.{HasOutsideFailed, HasRead}
@@ -9,7 +8,6 @@ use Rattle.base_outside.specs.declared.whole_texts.read_error.ReadError.TheVaria
 use Rattle.client_values.specs.declared.operations.values.OpKind.{OpKind}
 use Rattle.script_words.specs.outcome_lines.Text.{refusal_line}
 use Rattle.script_words.specs.declared.text_lines.line.Line.{Line}
-use Rattle.script_words.specs.declared.text_lines.line.Refusal.{Refusal}
 use Rattle.script_words.specs.declared.text_lines.line.Script.{Script}
 use Rattle.run_command.specs.Asking.{Asks, ScriptTakes, WritesText, kinds_said, operations_said}
 use Rattle.run_command.specs.declared.ending.Ending.{Ending}

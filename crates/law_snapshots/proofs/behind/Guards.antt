@@ -1,6 +1,6 @@
 -- What a record asks of a state before it changes anything: the same of states that are alike.
 use Rattle.std.proofs.Common.{◌≡◌, ℕ, ◌+◌, ◌-◌, ◌==◌, nat_lt, nat_le, Bool, true, false, not, ◌&&◌, ◌||◌, if◌then◌else◌, List, [], ◌∷◌, length}
-use Rattle.std.proofs.Common.{Option, Some, None, is_some, refl, sym, ap, subst, ◌∙◌, arith, eqb-true}
+use Rattle.std.proofs.Common.{Option, Some, None, is_some, refl, sym, ap, subst, ◌∙◌, arith}
 use Rattle.spec_exchange.specs.Commands.{Basic}
 use Rattle.spec_exchange.specs.Texts.{same_name, is_path, parent_of, is_below}
 use Rattle.spec_exchange.specs.State.{Server, Entry, Kept, NewOpen}

@@ -1,6 +1,6 @@
 -- What a record changes, of states that are alike.
 use Rattle.std.proofs.Common.{◌≡◌, ℕ, ◌+◌, ◌==◌, nat_lt, nat_le, Bool, true, false, not, ◌&&◌, ◌||◌, if◌then◌else◌, List, [], ◌∷◌, ◌++◌, length}
-use Rattle.std.proofs.Common.{Option, Some, None, refl, sym, ap, subst, ◌∙◌, arith, eqb-true, max, ◌%◌}
+use Rattle.std.proofs.Common.{Option, Some, None, refl, sym, ap, subst, ◌∙◌, arith}
 use Rattle.spec_exchange.specs.Table.{put, put2}
 use Rattle.spec_exchange.specs.Status.{success}
 use Rattle.spec_exchange.specs.Content.{written, ended, is_empty}
@@ -14,9 +14,9 @@ use Rattle.spec_exchange.specs.Opens.{drop_open, without_gone, goes, pending_beh
 use Rattle.spec_exchange.specs.Effects.{keep_slot}
 use Rattle.spec_exchange.specs.CheckOpen.{is_slot, file_of, target_of}
 use Rattle.spec_exchange.specs.Step.{add_expired_guid, max_expired_guids}
-use Rattle.spec_exchange.specs.Fold.{fold_from, with_record, sweep, begin_epoch, set_version, restore, created_file, may_create, may_have_open, is_file}
+use Rattle.spec_exchange.specs.Fold.{fold_from, with_record, sweep, restore, created_file, may_create, may_have_open, is_file}
 use Rattle.spec_exchange.specs.Fold.{may_rename, may_remove, lock_granted, lock_recorded, shut_recorded}
-use Rattle.law_server.proofs.tables.Logic.{front_of, back_of}
+use Rattle.law_server.proofs.tables.Logic.{front_of}
 use Rattle.law_server.proofs.tables.Lists.{exists-pushed, exists-without, exists-moved}
 use Rattle.law_snapshots.specs.behind.Alike.{RecordAlike}
 use Rattle.law_snapshots.proofs.behind.Guards.{over, of_over, and_same, file_same, room_same, goes_same, create_same, open_same, remove_same}

@@ -1,9 +1,9 @@
 -- The bytes of a file, patch by patch.
-use Rattle.std.proofs.Common.{◌≡◌, ℕ, ◌+◌, ◌-◌, ◌≤◌, ◌==◌, Bool, true, false, if◌then◌else◌, List, [], ◌∷◌, ◌++◌, length, take, drop, replicate}
-use Rattle.std.proofs.Common.{refl, sym, ap, subst, ◌∙◌, arith}
+use Rattle.std.proofs.Common.{◌≡◌, ℕ, ◌+◌, ◌-◌, ◌≤◌, List, [], ◌∷◌, ◌++◌, length, take, drop, replicate}
+use Rattle.std.proofs.Common.{refl, sym, ap, ◌∙◌, arith}
 use Rattle.std.proofs.lemmas.List.{append-nil, append_assoc, take_at, take_all, take-replicate, drop_at, drop-drop, drop-replicate, length-append}
 use Rattle.spec_exchange.specs.Content.{written, padded, is_empty, ended}
-use Rattle.law_snapshots.specs.snapshots.Pieces.{Patch, patched}
+use Rattle.law_snapshots.specs.snapshots.Pieces.{patched}
 use Rattle.law_snapshots.specs.snapshots.Kept.{parts_joined, patches_of}
 
 padded_same : (n : ℕ) (c : List ℕ) → n - length c ≡ 0 → padded n c ≡ c

@@ -1,18 +1,18 @@
 -- The files of a snapshot, piece by piece.
-use Rattle.std.proofs.Common.{◌≡◌, ℕ, ◌+◌, ◌<◌, ◌==◌, nat_lt, Bool, true, false, not, ◌&&◌, ◌||◌, if◌then◌else◌, List, [], ◌∷◌, ◌++◌, length, take}
+use Rattle.std.proofs.Common.{◌≡◌, ℕ, ◌+◌, ◌<◌, ◌==◌, nat_lt, Bool, true, false, not, ◌||◌, if◌then◌else◌, List, [], ◌∷◌, ◌++◌, length, take}
 use Rattle.std.proofs.Common.{refl, sym, ap, subst, ◌∙◌, arith, eqb-true}
 use Rattle.std.proofs.lemmas.Bool.Decides.{nat_tests}
-use Rattle.std.proofs.lemmas.List.{append-nil, append_assoc, length-append}
+use Rattle.std.proofs.lemmas.List.{append-nil, append_assoc}
 use Rattle.spec_exchange.specs.Table.{put, has}
 use Rattle.spec_exchange.specs.Content.{written, ended}
 use Rattle.spec_exchange.specs.State.{Server, Entry}
 use Rattle.spec_exchange.specs.Files.{exists_in}
 use Rattle.law_server.specs.tables.Fits.{is_ascending}
-use Rattle.law_server.proofs.tables.Logic.{either, front_of, back_of, both}
+use Rattle.law_server.proofs.tables.Logic.{front_of, back_of, both}
 use Rattle.law_server.proofs.tables.Lists.{exists-pushed}
 use Rattle.law_records.specs.fold.Order.{numbers}
 use Rattle.law_records.proofs.fold.Numbers.{above, ascending_above, ascending_rest, has_numbers}
-use Rattle.law_snapshots.specs.snapshots.Pieces.{SnapshotPiece, BytesPiece, FileBytes, Patch, shown, patched, placed_entry, may_place, place_file}
+use Rattle.law_snapshots.specs.snapshots.Pieces.{SnapshotPiece, FileBytes, Patch, shown, patched, placed_entry, may_place, place_file}
 use Rattle.law_snapshots.specs.snapshots.Pieces.{with_piece, with_pieces, bytes_pieces, file_piece, file_pieces}
 
 pub behind_both : (t : Server) (ps qs : List SnapshotPiece) → with_pieces t (ps ++ qs) ≡ with_pieces (with_pieces t ps) qs

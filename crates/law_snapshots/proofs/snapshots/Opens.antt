@@ -1,9 +1,9 @@
 -- The opens of a snapshot, one behind the other, with their slots.
-use Rattle.std.proofs.Common.{◌≡◌, ◌≢◌, ℕ, ◌+◌, ◌<◌, ◌≤◌, ◌==◌, nat_lt, nat_le, Bool, true, false, not, ◌&&◌, ◌||◌, if◌then◌else◌, List, [], ◌∷◌, ◌++◌}
+use Rattle.std.proofs.Common.{◌≡◌, ◌≢◌, ℕ, ◌+◌, ◌<◌, ◌≤◌, ◌==◌, nat_lt, Bool, true, false, not, ◌&&◌, ◌||◌, if◌then◌else◌, List, [], ◌∷◌, ◌++◌}
 use Rattle.std.proofs.Common.{Option, Some, None, zero, suc, is_some, refl, sym, ap, subst, ◌∙◌, arith, eqb-true}
 use Rattle.std.proofs.lemmas.Bool.Decides.{nat_tests}
 use Rattle.std.proofs.lemmas.List.{append-nil, append_assoc}
-use Rattle.spec_exchange.specs.Table.{put, put2, has, placed_in}
+use Rattle.spec_exchange.specs.Table.{put2, has, placed_in}
 use Rattle.spec_exchange.specs.Commands.{deletes_on_close}
 use Rattle.spec_exchange.specs.State.{Server, Entry, Open, Kept}
 use Rattle.spec_exchange.specs.Files.{root, exists, exists_in}
@@ -12,9 +12,9 @@ use Rattle.spec_exchange.specs.Opens.{add_open, with_guid}
 use Rattle.spec_exchange.specs.Effects.{keep_slot}
 use Rattle.spec_exchange.specs.CheckOpen.{is_slot}
 use Rattle.law_server.specs.tables.Fits.{Fits, is_ascending}
-use Rattle.law_server.proofs.tables.Logic.{front_of, back_of, both, not_true}
-use Rattle.law_records.proofs.fold.Numbers.{above, above_less, ascending_above, ascending_rest, ascending_front}
-use Rattle.law_snapshots.specs.snapshots.Pieces.{SnapshotPiece, OpenPiece, SlotPiece, with_piece, with_pieces, may_stand, has_free_guid, slot_piece, slot_pieces, open_pieces}
+use Rattle.law_server.proofs.tables.Logic.{front_of, back_of, both}
+use Rattle.law_records.proofs.fold.Numbers.{above, ascending_above, ascending_rest, ascending_front}
+use Rattle.law_snapshots.specs.snapshots.Pieces.{OpenPiece, SlotPiece, with_piece, with_pieces, may_stand, has_free_guid, slot_piece, slot_pieces, open_pieces}
 use Rattle.law_snapshots.proofs.snapshots.Files.{behind_both, put_same, put_other}
 
 -- ---- the slots of one open

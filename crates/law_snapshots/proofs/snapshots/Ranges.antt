@@ -1,17 +1,16 @@
 -- The ranges and the guids of a snapshot.
-use Rattle.std.proofs.Common.{◌≡◌, ℕ, ◌+◌, ◌<◌, ◌==◌, nat_lt, Bool, true, false, ◌&&◌, ◌||◌, if◌then◌else◌, List, [], ◌∷◌, ◌++◌, length}
-use Rattle.std.proofs.Common.{Option, Some, None, zero, suc, slice_get, refl, sym, ap, subst, ◌∙◌, arith, eqb-true}
+use Rattle.std.proofs.Common.{◌≡◌, ℕ, ◌+◌, ◌==◌, Bool, true, false, ◌||◌, if◌then◌else◌, List, [], ◌∷◌, ◌++◌, length}
+use Rattle.std.proofs.Common.{Some, suc, slice_get, refl, sym, ap, subst, ◌∙◌, arith, eqb-true}
 use Rattle.std.proofs.lemmas.Bool.Decides.{nat_tests}
 use Rattle.std.proofs.lemmas.List.{append-nil, append_assoc}
-use Rattle.spec_exchange.specs.Table.{put, put2}
+use Rattle.spec_exchange.specs.Table.{put2}
 use Rattle.spec_exchange.specs.State.{Server, Entry, Range}
-use Rattle.spec_exchange.specs.Files.{root, exists, exists_in}
+use Rattle.spec_exchange.specs.Files.{exists, exists_in}
 use Rattle.spec_exchange.specs.Fold.{stays, ranges_that_stay}
 use Rattle.law_server.specs.tables.Fits.{Fits, is_ascending}
-use Rattle.law_server.proofs.tables.Logic.{front_of, back_of, both}
 use Rattle.law_records.specs.fold.Order.{numbers}
 use Rattle.law_records.proofs.fold.Numbers.{ascending_rest}
-use Rattle.law_snapshots.specs.snapshots.Pieces.{SnapshotPiece, RangePiece, GuidPiece, with_piece, with_pieces, push_range, range_pieces, all_range_pieces, guid_pieces}
+use Rattle.law_snapshots.specs.snapshots.Pieces.{RangePiece, GuidPiece, with_piece, with_pieces, push_range, range_pieces, all_range_pieces, guid_pieces}
 use Rattle.law_snapshots.specs.snapshots.Kept.{has_pair}
 use Rattle.law_snapshots.proofs.snapshots.Files.{behind_both, put_same, put_other, not_in}
 

@@ -1,8 +1,8 @@
 -- Pieces of opens, ranges and guids leave the files alone.
-use Rattle.std.proofs.Common.{◌≡◌, ℕ, ◌+◌, Bool, true, false, ◌&&◌, if◌then◌else◌, List, [], ◌∷◌, ◌++◌, Option, Some, None, zero, suc}
+use Rattle.std.proofs.Common.{◌≡◌, ℕ, ◌+◌, Bool, true, false, ◌&&◌, List, [], ◌∷◌, ◌++◌, Option, Some, None, zero, suc}
 use Rattle.std.proofs.Common.{refl, sym, ap, subst, ◌∙◌, arith}
 use Rattle.spec_exchange.specs.Commands.{Basic}
-use Rattle.spec_exchange.specs.State.{Server, Entry, Open, Range, Kept}
+use Rattle.spec_exchange.specs.State.{Server, Entry, Range, Kept}
 use Rattle.spec_exchange.specs.Files.{root, exists_in}
 use Rattle.spec_exchange.specs.Fold.{nothing_yet, persistent_in, ranges_that_stay}
 use Rattle.spec_exchange.specs.Opens.{add_open}
@@ -10,12 +10,12 @@ use Rattle.spec_exchange.specs.Effects.{keep_slot}
 use Rattle.spec_exchange.specs.CheckOpen.{is_slot}
 use Rattle.law_server.specs.tables.Fits.{Fits}
 use Rattle.law_server.proofs.tables.Logic.{either, front_of, back_of, both}
-use Rattle.law_records.specs.fold.Order.{numbers, FilesAscend}
+use Rattle.law_records.specs.fold.Order.{FilesAscend}
 use Rattle.law_snapshots.specs.snapshots.Pieces.{SnapshotPiece, BasePiece, FilePiece, BytesPiece, OpenPiece, SlotPiece, RangePiece, GuidPiece, with_piece}
 use Rattle.law_snapshots.specs.snapshots.Pieces.{with_pieces, FileBytes, may_stand, slot_piece, slot_pieces, open_pieces, range_pieces, all_range_pieces}
 use Rattle.law_snapshots.specs.snapshots.Pieces.{guid_pieces, file_pieces, base_piece, snapshot, unfolded}
-use Rattle.law_snapshots.specs.snapshots.Kept.{SnapshotFiles, FilesKept, TellsBytes}
-use Rattle.law_snapshots.proofs.snapshots.Files.{behind_both, Walked, walked, Behind, SameAt}
+use Rattle.law_snapshots.specs.snapshots.Kept.{SnapshotFiles, TellsBytes}
+use Rattle.law_snapshots.proofs.snapshots.Files.{behind_both, Walked, walked, Behind}
 
 pub record SameFiles (t u : Server) : Type 0 where
   pub entries : u.entries ≡ t.entries

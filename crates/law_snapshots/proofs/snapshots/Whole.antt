@@ -1,14 +1,13 @@
 -- A snapshot stands for the part of a state that outlives a restart.
-use Rattle.std.proofs.Common.{◌≡◌, ℕ, ◌+◌, ◌<◌, ◌≤◌, ◌==◌, Bool, true, false, ◌&&◌, ◌||◌, if◌then◌else◌, List, [], ◌∷◌, ◌++◌, length}
+use Rattle.std.proofs.Common.{◌≡◌, ℕ, ◌+◌, ◌≤◌, ◌==◌, Bool, true, false, ◌&&◌, ◌||◌, if◌then◌else◌, List, [], ◌++◌, length}
 use Rattle.std.proofs.Common.{Option, Some, None, refl, sym, ap, subst, ◌∙◌, arith, eqb-true}
-use Rattle.std.proofs.lemmas.Bool.Decides.{nat_tests}
 use Rattle.spec_exchange.specs.Table.{has}
 use Rattle.spec_exchange.specs.State.{Server, Entry, Range}
 use Rattle.spec_exchange.specs.Files.{root, exists, exists_in}
 use Rattle.spec_exchange.specs.Fold.{persistent_in, stays, stays_by_guid, ranges_that_stay}
 use Rattle.law_server.specs.tables.Fits.{Fits}
-use Rattle.law_snapshots.specs.snapshots.Pieces.{FileBytes, SnapshotPiece, with_pieces, file_pieces, open_pieces, range_pieces, all_range_pieces, guid_pieces, snapshot, unfolded}
-use Rattle.law_snapshots.specs.snapshots.Kept.{ListsGuids, Keeps, OpensKept, CountsKept, SnapshotKeeps, has_pair}
+use Rattle.law_snapshots.specs.snapshots.Pieces.{FileBytes, with_pieces, file_pieces, open_pieces, range_pieces, all_range_pieces, guid_pieces, snapshot, unfolded}
+use Rattle.law_snapshots.specs.snapshots.Kept.{ListsGuids, OpensKept, CountsKept, SnapshotKeeps, has_pair}
 use Rattle.law_snapshots.proofs.snapshots.Files.{behind_both, Walked}
 use Rattle.law_snapshots.proofs.snapshots.Tables.{based, files_walked, files_kept, no_root, behind_files}
 use Rattle.law_snapshots.proofs.snapshots.Opens.{Opened, opened_all, told_of, has_persistent, ascending_persistent}

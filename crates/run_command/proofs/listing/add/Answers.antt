@@ -1,4 +1,3 @@
-use Rattle.std.proofs.Common.{◌∙◌}
 use Rattle.run_command.proofs.Listed.{none_next, on_ok, one_next}
 use Rattle.run_command.proofs.listing.add.Goals as goal
 

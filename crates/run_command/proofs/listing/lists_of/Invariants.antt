@@ -1,4 +1,4 @@
-use Rattle.std.proofs.Common.{◌≡◌, ◌+◌, length, take}
+use Rattle.std.proofs.Common.{◌+◌, length, take}
 use Rattle.run_command.specs.Listing.{AreNumbersOf}
 use Rattle.run_command.proofs.listing.lists_of.Given as goal
 

@@ -1,4 +1,4 @@
-use Rattle.std.proofs.Common.{◌+◌, ◌<◌, ◌≤◌, length, ap, ◌∙◌, arith}
+use Rattle.std.proofs.Common.{◌≤◌, length, ap, ◌∙◌, arith}
 use Rattle.run_command.specs.MadeFiles.{made_files}
 use Rattle.run_command.proofs.Listed.{next}
 use Rattle.run_command.proofs.Made.{all_files, more_files, no_files}
