@@ -13,7 +13,7 @@ ghost use Rattle.conn_core.specs.frame_messages.Checking.{AllHaveMessages, AreIn
 ghost use Rattle.conn_core.specs.served.Replies.{some_acted, some_lacked};
 ghost use Rattle.conn_core.specs.served.Serving.{Onward};
 ghost use Rattle.conn_core.specs.message_replies.Replying.{AreAsked, AreMessagesShort};
-ghost use Rattle.conn_core.specs.frame_events.Dealing.{Alone, taken_records};
+ghost use Rattle.conn_core.specs.frame_events.Dealing.{Alone};
 ghost use Rattle.conn_core.specs.reply_frames.Replying.{AreAnswers, walk_replied};
 ghost use Rattle.conn_core.specs.Taking.{FrameFinishes, HaltsAt, IsEnded, FrameServes, FrameTakes};
 

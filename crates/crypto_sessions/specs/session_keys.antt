@@ -1,4 +1,3 @@
 pub mod Giving
 pub mod Sealing
-pub mod Telling
 pub mod Unsealing

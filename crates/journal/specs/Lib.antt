@@ -1,2 +1,3 @@
 pub mod record_bytes
 pub mod disk_journal
+pub mod record_bodies

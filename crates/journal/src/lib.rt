@@ -3,12 +3,14 @@
 #![tactic(auto)]
 
 mod disk_journal;
+pub mod record_bodies;
 pub mod record_bytes;
 
 pub use disk_journal::{
     BytesList, Found, Journal, JournalError, broken_means_nothing, one_break, one_meaning, prepare,
     repair,
 };
+pub use record_bodies::{body_law, elements_of, guid_of, spelled};
 pub use record_bytes::{
     Basic, NewOpen, Origin, Record, RecordError, Records, can_write, read_records, records_law,
     write_records,

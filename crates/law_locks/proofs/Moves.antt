@@ -1,5 +1,5 @@
 -- Written by tools/law_locks.py. The server moves, and carries out no lock.
-use Rattle.std.proofs.Common.{◌≡◌, ℕ, ◌+◌, ◌≤◌, ◌<◌, true, false, arith, Some, None, slice_get}
+use Rattle.std.proofs.Common.{◌≡◌, ℕ, ◌≤◌, true, false, arith, Some, None, slice_get}
 use Rattle.spec_exchange.specs.Status.{success}
 use Rattle.spec_exchange.specs.Commands.{deletes_on_close}
 use Rattle.spec_exchange.specs.State.{Server}

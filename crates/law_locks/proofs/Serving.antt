@@ -1,6 +1,6 @@
 -- What is known where the server takes the front of a connection, and how a verdict that isn't a lock's keeps it.
 use Rattle.law_sessions.proofs.sessions.Serving.{work_keeps, dialog_keeps}
-use Rattle.std.proofs.Common.{eqb-true, ◌≡◌, ◌≢◌, ◌⊎◌, inl, inr, ℕ, ◌+◌, ◌==◌, ◌≤◌, ◌<◌, Bool, true, false, ◌&&◌, if◌then◌else◌, List, []}
+use Rattle.std.proofs.Common.{eqb-true, ◌≡◌, ◌≢◌, inl, inr, ℕ, ◌+◌, ◌==◌, ◌≤◌, ◌<◌, Bool, true, false, ◌&&◌, if◌then◌else◌, List, []}
 use Rattle.std.proofs.Common.{Option, Some, None, slice_get, is_some, refl, arith, sym, ◌∙◌, subst}
 use Rattle.spec_exchange.specs.Status.{success, disk_full}
 use Rattle.spec_exchange.specs.Commands.{Command, TreeDisconnect, Create, CreateRequest, Durable, deletes_on_close}

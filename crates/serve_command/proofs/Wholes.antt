@@ -9,8 +9,8 @@ use Rattle.spec_exchange.specs.State as model
 use Rattle.spec_world.specs.Ends.{Logons, no_logons}
 use Rattle.std.proofs.Common.{◌++◌}
 use Rattle.server_checks.specs.declared.tables.Config.{Config}
-use Rattle.server_recovery.specs.journaled_tables.Holds.{JournaledStands}
-use Rattle.server_recovery.specs.server_start.Begun.{ServerBegins}
+use Rattle.server_core.specs.journaled_tables.Holds.{JournaledStands}
+use Rattle.server_core.specs.server_start.Begun.{ServerBegins}
 use Rattle.server_core.specs.declared.disk_server.book.Book.{Book}
 use Rattle.server_core.specs.declared.server.Server.{Server}
 use Rattle.server_core.specs.Shown.{HoldsServer, disk_of, journal_of, state_of, stopped_of}

@@ -15,11 +15,11 @@ use Rattle.serve_command.specs.Guid.{server_guid}
 use Rattle.serve_command.specs.Steps.{ServerBook, server_steps}
 use Rattle.serve_command.specs.Whole.{WasServedWhole, first_stand}
 use Rattle.serve_turns.specs.event_book.History.{Stand}
-use Rattle.server_recovery.specs.server_start.Begun.{ServerBegins}
+use Rattle.server_core.specs.server_start.Begun.{ServerBegins}
 use Rattle.server_checks.specs.declared.tables.Config.{Config}
 use Rattle.server_core.specs.Shown.{config_of, disk_of, state_of, stopped_of}
 use Rattle.server_core.specs.declared.server.Server.{Server}
-use Rattle.server_recovery.specs.restart_tables.Restart.{RestartRefused}
+use Rattle.server_core.specs.restart_tables.Restart.{RestartRefused}
 use Rattle.serve_turns.specs.link_serving.Lines.{ended_lines}
 use Rattle.serve_turns.specs.link_serving.Passage.{Passage, ServesOver}
 use Rattle.serve_turns.specs.link_serving.Serving.{AreServed}

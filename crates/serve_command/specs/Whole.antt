@@ -10,8 +10,8 @@ use Rattle.spec_world.specs.Ends.{no_logons}
 use Rattle.spec_world.specs.Settings.{ServerSettings}
 use Rattle.spec_world.specs.Statements.{IsOneNonce}
 use Rattle.server_checks.specs.declared.tables.Config.{Config}
-use Rattle.server_recovery.specs.Reading.{BodiesSpell}
-use Rattle.server_recovery.specs.restart_tables.Restart.{configuration_of}
+use Rattle.server_core.specs.Reading.{BodiesSpell}
+use Rattle.server_core.specs.restart_tables.Restart.{configuration_of}
 use Rattle.server_core.specs.declared.server.Server.{Server}
 use Rattle.server_core.specs.Shown.{HoldsServer, config_of, disk_of, stopped_of}
 use Rattle.serve_turns.specs.connection_turns.Serving.{WasServedBy}

@@ -1,3 +1,12 @@
+pub mod durable_state
+pub mod body_writing
+pub mod Reading
+pub mod Opening
+pub mod restart_tables
+pub mod journaled_tables
+pub mod server_start
+pub mod recording
+pub mod crash
 pub mod logon_progress
 pub mod commit_event
 pub mod behind_expiry

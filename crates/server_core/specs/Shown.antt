@@ -4,8 +4,8 @@ use Rattle.spec_exchange.specs.State as model
 use Rattle.journal.specs.disk_journal.Journal.{JournalState}
 use Rattle.server_checks.specs.declared.tables.Config.{Config}
 use Rattle.server_core.specs.declared.server.Server.{Server}
-use Rattle.server_recovery.specs.journaled_tables.Holds.{JournaledHolds}
-use Rattle.server_recovery.specs.declared.journaled_tables.state.ServerState.{ServerState}
+use Rattle.server_core.specs.journaled_tables.Holds.{JournaledHolds}
+use Rattle.server_core.specs.declared.journaled_tables.state.ServerState.{ServerState}
 use Rattle.spec_world.specs.Ends.{Logons}
 
 abbrev pub state_of : {D : Type 0} → Server D → ServerState D

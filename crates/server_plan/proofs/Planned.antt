@@ -1,6 +1,6 @@
 -- A plan from what its parts tell.
-use Rattle.std.proofs.Common.{◌≡◌, ◌≤◌, ◌<◌, ℕ, suc, ◌+◌, ◌==◌, nat_le, Bool, true, false, ◌||◌, if◌then◌else◌, List, [], ◌∷◌, length}
-use Rattle.std.proofs.Common.{Option, refl, sym, ap, subst, arith, eqb-true, ◌∙◌}
+use Rattle.std.proofs.Common.{◌≡◌, ◌≤◌, ◌<◌, ℕ, ◌+◌, ◌==◌, nat_le, Bool, true, false, ◌||◌, if◌then◌else◌, List, [], ◌∷◌, length}
+use Rattle.std.proofs.Common.{Option, refl, sym, ap, subst, arith, ◌∙◌}
 use Rattle.std.specs.Prelude.{IfOk, Result, Ok, Err}
 use Rattle.std.proofs.lemmas.Bool.Decides.{nat_tests}
 use Rattle.wire_commands.specs.declared.values.request.Message.{Message}
@@ -16,7 +16,7 @@ use Rattle.server_checks.specs.declared.event_heard.asked.Asked.TheVariants as a
 use Rattle.server_checks.specs.declared.event_heard.asked.LogonPart.{LogonPart}
 use Rattle.journal.specs.record_bytes.Meaning.{record_of, records_of}
 use Rattle.journal.specs.declared.record_bytes.value.Record.{Record}
-use Rattle.server_records.specs.record_bodies.Body.{IsBody, IsBodyOf, fits_by}
+use Rattle.journal.specs.record_bodies.Body.{IsBody, IsBodyOf, fits_by}
 use Rattle.law_server.specs.tables.Fits.{Fits}
 use Rattle.server_plan.specs.owed_records.Owing.{Owing}
 use Rattle.server_plan.proofs.Lesser.{lesser_owes, none_owed}
@@ -109,13 +109,6 @@ not_none r rs e = cc
 pub none_of : (rs : List Record) → records_of rs ≡ [] → rs ≡ []
 none_of [] e = refl
 none_of (r ∷ rs) e = absurd (not_none (record_of r) (records_of rs) e)
-
-pub none_body : (rs : List Record) (b : List ℕ) → (length rs == 0) ≡ true → b ≡ [] → IsBody b rs
-none_body [] b e h = h
-none_body (r ∷ rs) b e h = let n : suc (length rs) ≡ 0 = eqb-true (suc (length rs)) 0 e in absurd (omega (arith, n))
-
-pub some_records : (rs : List Record) → (length rs == 0) ≡ false → rs ≡ [] → ⊥
-some_records rs e h = let k : true ≡ false = ap (λ (v : List Record). length v == 0) (sym h) ∙ e in cc
 
 body_none : (b : List ℕ) → IsBodyOf b [] → b ≡ []
 body_none b i = subst (λ (rs : List Record). IsBody b rs) (none_of i.0 i.1) i.2

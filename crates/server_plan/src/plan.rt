@@ -4,7 +4,7 @@ ghost use Rattle.spec_exchange.specs.State as model;
 ghost use Rattle.spec_exchange.specs.Step as steps;
 ghost use Rattle.spec_exchange.specs.Step.{carried_out};
 ghost use Rattle.server_checks.specs.event_heard.Heard.{event_of};
-ghost use Rattle.server_records.specs.record_bodies.Body.{IsBody, IsBodyOf, fits_by};
+ghost use Rattle.journal.specs.record_bodies.Body.{IsBodyOf, fits_by};
 ghost use Rattle.server_checks.specs.Shown.{TablesShown};
 ghost use Rattle.law_server.specs.tables.Fits.{Fits};
 ghost use Rattle.server_plan.specs.Plans.{OwingOf, PlanFor, is_early, may_owe_by};
@@ -13,10 +13,9 @@ ghost use Rattle.server_plan.specs.rulings.Rulings.{ruling_of};
 use crate::owed_records::owing_law;
 use crate::owing::owed_by;
 use crate::rulings::{Ruling, rule, without_records};
-use journal::Records;
+use journal::{body_law, spelled};
 use server_checks::{Asked, Tables};
-use server_records::{body_law, spelled};
-use std::alloc::{AllocError, Global};
+use std::alloc::AllocError;
 use wire_bytes::Bytes;
 
 // Entries that begin no epoch end here, and a body has its length in front, in 4 bytes, and the next gate behind.
@@ -101,20 +100,9 @@ pub fn body_of(
         → may_owe_by (ruling_of (event_of asked.now) ruling.now) ≡ false → IsOk result }
 {
     match owed_by(t, asked, ruling, now) {
-        Ok(records) => body_with(t.alloc, &records),
+        Ok(records) => spelled(t.alloc, &records),
         Err(error) => Err(error),
     }
-}
-
-// The body of records; none want no memory.
-fn body_with(alloc: Global, records: &Records) -> Result<Bytes, AllocError>
-    ensures told { IfOk result (λ b. IsBody b records.now) }
-    ensures sure { records.now ≡ [] → IsOk result }
-{
-    if records.is_empty() {
-        return Ok(Bytes::new(alloc));
-    }
-    spelled(alloc, records)
 }
 
 /// Whether a body of so many bytes fits below the lower limit; none always does.

@@ -10,8 +10,7 @@ use client_ends::{ClientConfig, Dialog, Fresh, Heard, start};
 use std::alloc::{AllocError, Global};
 use std::fmt::Write;
 use std::io;
-use wire_bytes::Text;
-use wire_messages::Numbers;
+use wire_bytes::{Numbers, Text};
 
 fn config(alloc: Global) -> Result<ClientConfig, AllocError>
     ensures { IfOk result (λ c. CanOffer c) }

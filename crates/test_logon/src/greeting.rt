@@ -4,9 +4,8 @@ use crate::frames::{header, push_hashed};
 use crate::tokens::init_token;
 use crypto_sessions::{Chain, Chosen};
 use std::alloc::{AllocError, Global};
-use wire_bytes::Bytes;
-use wire_messages::{
-    NegotiateRequest, NegotiateResponse, Numbers, Offer, context_count, write_contexts,
+use wire_bytes::{
+    Bytes, NegotiateRequest, NegotiateResponse, Numbers, Offer, context_count, write_contexts,
     write_negotiate_request, write_negotiate_response,
 };
 

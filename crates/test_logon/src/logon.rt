@@ -6,7 +6,7 @@ use crate::requests::{create, create_reply, tree, tree_reply};
 use crate::setup::{final_reply, set_up};
 use crypto_sessions::{Chain, Chosen, derive};
 use std::alloc::{AllocError, Global};
-use wire_messages::{Offer, choose};
+use wire_bytes::{Offer, choose};
 
 // The ten frames of a logon, of which five are hashed, and the keys come from them.
 fn log_on(

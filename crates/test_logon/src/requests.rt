@@ -3,10 +3,9 @@ use crate::draws::create_guid;
 use crate::frames::{Line, SESSION, header, push_guarded};
 use crate::greeting::START;
 use std::alloc::{AllocError, Global};
-use wire_bytes::utf16_of;
-use wire_messages::{
+use wire_bytes::{
     CreateContexts, CreateRequest, CreateResponse, Dh2q, Dh2qReply, ReplyContexts,
-    TreeConnectRequest, TreeConnectResponse, write_chain, write_create_request,
+    TreeConnectRequest, TreeConnectResponse, utf16_of, write_chain, write_create_request,
     write_create_response, write_reply_chain, write_tree_connect_request,
     write_tree_connect_response,
 };

@@ -3,9 +3,8 @@ use crate::frames::{Line, SESSION, header, push_hashed, push_signed};
 use crate::tokens::{final_token, first_token, interim_token, second_token};
 use crypto_sessions::Chain;
 use std::alloc::{AllocError, Global};
-use wire_bytes::Bytes;
-use wire_messages::{
-    SessionSetupRequest, SessionSetupResponse, write_session_setup_request,
+use wire_bytes::{
+    Bytes, SessionSetupRequest, SessionSetupResponse, write_session_setup_request,
     write_session_setup_response,
 };
 

@@ -9,8 +9,8 @@ use std::fmt::Write;
 // Puts the body that is written of records.
 fn push_written(said: &mut String, alloc: Global, records: &Records) -> Result<(), AllocError> {
     said.push_str("\n  ")?;
-    if can_write(records) {
-        push_bytes(said, write_records(alloc, records))
+    if can_write(records.as_slice()) {
+        push_bytes(said, write_records(alloc, records.as_slice()))
     } else {
         unwritten(said)
     }

@@ -5,9 +5,8 @@ use client_ends::dialog_calls::hear as hear_dialog;
 use client_ends::line_calls::hear;
 use client_ends::{ClientConfig, Dialog, Fresh, Heading, Heard, Line, request_of, send, start};
 use std::alloc::{AllocError, Global};
-use wire_bytes::{Bytes, Request, Text};
+use wire_bytes::{Bytes, Numbers, Request, Text};
 use wire_commands::{Body, Command, CreateRequest, Reply, reply_of};
-use wire_messages::Numbers;
 
 /// The longest body of a request.
 const LONGEST_BODY: usize = 1_113_996;

@@ -1,7 +1,7 @@
 // Why an operation came to nothing, by the words of a row. Two tables name these values in two ways.
 use crate::words::Words;
 use client_values::Why;
-use wire_messages::{Choice, Refusal};
+use wire_bytes::{Choice, Refusal};
 
 /// Why a dialog was refused. Another word is read as a status: it shows in the answer.
 pub fn refusal_in(words: &mut Words<'_>) -> Refusal {

@@ -1,19 +1,155 @@
-//! Bytes that contracts see as lists, readers and writers of numbers and texts, frames on a stream, headers and the
-//! messages of a frame (MS-SMB2 2.1, 2.2.1). It is a room because all readers and writers of messages share it. All
-//! code above stands on it.
+//! Bytes that contracts see as lists, frames on a stream, headers and the messages of a frame; readers and writers of
+//! the messages of sessions and files, and of the contexts of NEGOTIATE and CREATE (MS-SMB2 2.1, 2.2). It is a room
+//! because the readers of all messages share their parts. All code above stands on it.
 #![tactic(auto)]
 
 pub mod byte_lists;
+mod create_contexts;
+pub mod file_messages;
 mod frames;
 mod headers;
+pub mod negotiate_contexts;
+pub mod session_messages;
 
-pub use byte_lists::{
-    Bytes, Cursor, FixedOut, Halves, Out, Short, Text, TextError, array_at, fields_fit, halves_of,
-    text_of_utf16, u8_at, u16_at, u32_at, u64_at, utf16_of,
-};
-pub use frames::{Deframer, Frame, FrameError, frame_of};
-pub use headers::{
-    ContextAt, Header, HeaderError, MessageError, Part, Parts, Request, Span, context_behind,
-    contexts_of, counted_at, gap_before, is_badly_linked, items_behind, part_of, piece_of,
-    read_header, split_compound, told_place, write_header,
-};
+pub use byte_lists::Bytes;
+pub use byte_lists::Cursor;
+pub use byte_lists::FixedOut;
+pub use byte_lists::Halves;
+pub use byte_lists::Out;
+pub use byte_lists::Short;
+pub use byte_lists::Text;
+pub use byte_lists::TextError;
+pub use byte_lists::array_at;
+pub use byte_lists::fields_fit;
+pub use byte_lists::halves_of;
+pub use byte_lists::text_of_utf16;
+pub use byte_lists::u8_at;
+pub use byte_lists::u16_at;
+pub use byte_lists::u32_at;
+pub use byte_lists::u64_at;
+pub use byte_lists::utf16_of;
+pub use create_contexts::ChainError;
+pub use create_contexts::CreateContexts;
+pub use create_contexts::Dh2c;
+pub use create_contexts::Dh2q;
+pub use create_contexts::Dh2qReply;
+pub use create_contexts::DiskId;
+pub use create_contexts::MaximalAccess;
+pub use create_contexts::ReplyContexts;
+pub use create_contexts::read_chain;
+pub use create_contexts::read_reply_chain;
+pub use create_contexts::write_chain;
+pub use create_contexts::write_reply_chain;
+pub use file_messages::CloseRequest;
+pub use file_messages::CloseResponse;
+pub use file_messages::CreateRequest;
+pub use file_messages::CreateResponse;
+pub use file_messages::FlushRequest;
+pub use file_messages::FlushResponse;
+pub use file_messages::LockElement;
+pub use file_messages::LockRequest;
+pub use file_messages::LockResponse;
+pub use file_messages::ReadRequest;
+pub use file_messages::ReadResponse;
+pub use file_messages::WriteRequest;
+pub use file_messages::WriteResponse;
+pub use file_messages::lock_element_at;
+pub use file_messages::push_lock_element;
+pub use file_messages::read_close_request;
+pub use file_messages::read_close_response;
+pub use file_messages::read_create_request;
+pub use file_messages::read_create_response;
+pub use file_messages::read_flush_request;
+pub use file_messages::read_flush_response;
+pub use file_messages::read_lock_request;
+pub use file_messages::read_lock_response;
+pub use file_messages::read_read_request;
+pub use file_messages::read_read_response;
+pub use file_messages::read_write_request;
+pub use file_messages::read_write_response;
+pub use file_messages::write_close_request;
+pub use file_messages::write_close_response;
+pub use file_messages::write_create_request;
+pub use file_messages::write_create_response;
+pub use file_messages::write_flush_request;
+pub use file_messages::write_flush_response;
+pub use file_messages::write_lock_request;
+pub use file_messages::write_lock_response;
+pub use file_messages::write_read_request;
+pub use file_messages::write_read_response;
+pub use file_messages::write_write_request;
+pub use file_messages::write_write_response;
+pub use frames::Deframer;
+pub use frames::Frame;
+pub use frames::FrameError;
+pub use frames::frame_of;
+pub use headers::ContextAt;
+pub use headers::Header;
+pub use headers::HeaderError;
+pub use headers::MessageError;
+pub use headers::Part;
+pub use headers::Parts;
+pub use headers::Request;
+pub use headers::Span;
+pub use headers::context_behind;
+pub use headers::contexts_of;
+pub use headers::counted_at;
+pub use headers::gap_before;
+pub use headers::is_badly_linked;
+pub use headers::items_behind;
+pub use headers::part_of;
+pub use headers::piece_of;
+pub use headers::read_header;
+pub use headers::split_compound;
+pub use headers::told_place;
+pub use headers::write_header;
+pub use negotiate_contexts::ChooseError;
+pub use negotiate_contexts::Chosen;
+pub use negotiate_contexts::CtxError;
+pub use negotiate_contexts::Numbers;
+pub use negotiate_contexts::Offer;
+pub use negotiate_contexts::choose;
+pub use negotiate_contexts::context_count;
+pub use negotiate_contexts::read_contexts;
+pub use negotiate_contexts::write_contexts;
+pub use session_messages::Choice;
+pub use session_messages::EchoRequest;
+pub use session_messages::EchoResponse;
+pub use session_messages::ErrorResponse;
+pub use session_messages::LogoffRequest;
+pub use session_messages::LogoffResponse;
+pub use session_messages::NegotiateRequest;
+pub use session_messages::NegotiateResponse;
+pub use session_messages::Refusal;
+pub use session_messages::SessionSetupRequest;
+pub use session_messages::SessionSetupResponse;
+pub use session_messages::TreeConnectRequest;
+pub use session_messages::TreeConnectResponse;
+pub use session_messages::TreeDisconnectRequest;
+pub use session_messages::TreeDisconnectResponse;
+pub use session_messages::read_echo_request;
+pub use session_messages::read_echo_response;
+pub use session_messages::read_error_response;
+pub use session_messages::read_logoff_request;
+pub use session_messages::read_logoff_response;
+pub use session_messages::read_negotiate_request;
+pub use session_messages::read_negotiate_response;
+pub use session_messages::read_session_setup_request;
+pub use session_messages::read_session_setup_response;
+pub use session_messages::read_tree_connect_request;
+pub use session_messages::read_tree_connect_response;
+pub use session_messages::read_tree_disconnect_request;
+pub use session_messages::read_tree_disconnect_response;
+pub use session_messages::write_echo_request;
+pub use session_messages::write_echo_response;
+pub use session_messages::write_error_response;
+pub use session_messages::write_logoff_request;
+pub use session_messages::write_logoff_response;
+pub use session_messages::write_negotiate_request;
+pub use session_messages::write_negotiate_response;
+pub use session_messages::write_session_setup_request;
+pub use session_messages::write_session_setup_response;
+pub use session_messages::write_tree_connect_request;
+pub use session_messages::write_tree_connect_response;
+pub use session_messages::write_tree_disconnect_request;
+pub use session_messages::write_tree_disconnect_response;

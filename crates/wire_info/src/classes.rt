@@ -1,6 +1,6 @@
-//! The information classes of files and of volumes (MS-FSCC 2.4, 2.5), the entry of the answer that tells
-//! network interfaces (MS-SMB2 2.2.32.5) and an object id (MS-FSCC 2.1.3.1), both ways. A reader takes the bytes of one class, a writer
-//! gives them.
+//! The information classes of files and of volumes (MS-FSCC 2.4, 2.5), the entry of the answer that tells network
+//! interfaces (MS-SMB2 2.2.32.5) and an object id (MS-FSCC 2.1.3.1), both ways. A reader takes the bytes of one class,
+//! a writer gives them.
 
 mod directory_entry;
 mod directory_reading;

@@ -10,7 +10,7 @@ use Rattle.spec_exchange.specs.ClientStep.{Finishes}
 use Rattle.spec_exchange.specs.Network.{Finish, changed}
 use Rattle.spec_exchange.specs.Operations.{NoSession}
 use Rattle.spec_exchange.specs.State.{no_later}
-use Rattle.wire_messages.specs.declared.session_messages.refusal.Refusal.{Refusal}
+use Rattle.wire_bytes.specs.declared.session_messages.refusal.Refusal.{Refusal}
 use Rattle.spec_world.specs.Events.{Plain, bytes_happen, bytes_later}
 use Rattle.spec_world.specs.Settings.{WorldSettings}
 use Rattle.spec_world.specs.World as bytes

@@ -2,7 +2,7 @@
 use Rattle.std.specs.Prelude.{◌≡◌, ℕ, Option, Some, None, Result, Ok, Err, MatchResult, Bool, ⊤}
 use Rattle.spec_exchange.specs.Network as network
 use Rattle.client_values.specs.outcomes.Meaning.{refusal_of}
-use Rattle.wire_messages.specs.declared.session_messages.refusal.Refusal.{Refusal}
+use Rattle.wire_bytes.specs.declared.session_messages.refusal.Refusal.{Refusal}
 use Rattle.client_values.specs.operations.Meaning.{op_of}
 use Rattle.spec_world.specs.Courses.{push_lowest}
 use Rattle.spec_world.specs.Events.{ByteEvent, Plain, Tamper, bytes_happen, flip, forge}

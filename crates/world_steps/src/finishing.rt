@@ -7,7 +7,7 @@ ghost use Rattle.world_steps.specs.Steps.{WorldFinishes};
 use crate::happening::happen;
 use crate::moments::later;
 use client_values::Why;
-use wire_messages::Refusal;
+use wire_bytes::Refusal;
 use world_ends::{Event, Played, World, WorldError};
 
 /// Whether a session is live.

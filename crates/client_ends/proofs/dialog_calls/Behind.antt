@@ -5,8 +5,8 @@ use Rattle.client_values.specs.outcomes.Meaning.{refusal_of}
 use Rattle.spec_wire.specs.credits.Purse.{Credits}
 use Rattle.spec_exchange.specs.Client.{Stage, SaidNegotiate, SaidFirst, SaidSecond}
 use Rattle.spec_exchange.specs.Operations.{Refusal, BadToken}
-use Rattle.wire_messages.specs.declared.session_messages.refusal.Refusal.{Refusal as DialogRefusal}
-use Rattle.wire_messages.specs.declared.session_messages.refusal.Refusal.TheVariants as refusals
+use Rattle.wire_bytes.specs.declared.session_messages.refusal.Refusal.{Refusal as DialogRefusal}
+use Rattle.wire_bytes.specs.declared.session_messages.refusal.Refusal.TheVariants as refusals
 use Rattle.spec_crypto.specs.tokens.Tokens.{first_token}
 use Rattle.spec_world.specs.Ends.{ClientEnd}
 use Rattle.spec_world.specs.Messages.{HeardMessage, has_header, header_in}

@@ -1,6 +1,6 @@
 -- The stage of a dialog, which is that of its end.
 use Rattle.std.proofs.Common.{◌≡◌, Bool, true, false, Result, Ok, sym, ap, ◌∙◌}
-use Rattle.wire_messages.specs.declared.session_messages.refusal.Refusal.{Refusal as DialogRefusal}
+use Rattle.wire_bytes.specs.declared.session_messages.refusal.Refusal.{Refusal as DialogRefusal}
 use Rattle.client_ends.specs.declared.ends.dialog.Stage.{Stage as DialogStage}
 use Rattle.client_ends.specs.declared.ends.dialog.Stage.TheVariants as stages
 use Rattle.client_ends.specs.declared.dialog_calls.heard.Heard.{Heard}

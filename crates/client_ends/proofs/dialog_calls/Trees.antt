@@ -2,7 +2,7 @@
 use Rattle.std.proofs.Common.{◌≡◌, ℕ, ◌-◌, ◌<◌, ◌^◌, Bool, true, false, if◌then◌else◌, List, length, drop, Option, Some, None, Result}
 use Rattle.std.proofs.Common.{Ok, Err, IfOk, refl, sym, ap, subst, ◌∙◌, arith, length-drop}
 use Rattle.spec_exchange.specs.Client.{AskedTree}
-use Rattle.wire_messages.specs.declared.session_messages.refusal.Refusal.TheVariants as refusals
+use Rattle.wire_bytes.specs.declared.session_messages.refusal.Refusal.TheVariants as refusals
 use Rattle.spec_crypto.specs.declared.sessions.error.SealError.{SealError}
 use Rattle.spec_crypto.specs.declared.sessions.error.SealError.TheVariants as seals
 use Rattle.spec_crypto.specs.declared.sessions.material.Keys.{Keys}

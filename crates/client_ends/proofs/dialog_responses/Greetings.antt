@@ -3,7 +3,7 @@ use Rattle.std.proofs.Common.{◌≡◌, ℕ, Bool, true, false, ◌&&◌, List,
 use Rattle.std.proofs.Common.{IfOk, Result, Ok, Err, refl, sym, ap, subst, ◌∙◌}
 use Rattle.std.specs.Prelude.{is_none}
 use Rattle.spec_exchange.specs.Operations.{Refusal, BadToken}
-use Rattle.wire_messages.specs.declared.session_messages.refusal.Refusal.{Refusal as DialogRefusal}
+use Rattle.wire_bytes.specs.declared.session_messages.refusal.Refusal.{Refusal as DialogRefusal}
 use Rattle.spec_crypto.specs.declared.sessions.choice.Chosen.{Chosen}
 use Rattle.spec_wire.specs.messages.Negotiate.{NegotiateResponseValue, negotiate_response_in, negotiate_response_fault}
 use Rattle.spec_wire.specs.messages.Contexts.{contexts_in}

@@ -12,7 +12,7 @@ use Rattle.spec_world.specs.Settings.{ClientSettings}
 use Rattle.spec_world.specs.Dialog.{status_due, is_dialogs, response_in}
 use Rattle.client_ends.specs.ends.Shown.{token_of}
 use Rattle.client_ends.proofs.ends.Headers.{long_of}
-use Rattle.wire_messages.specs.declared.session_messages.refusal.Refusal.{Refusal as DialogRefusal}
+use Rattle.wire_bytes.specs.declared.session_messages.refusal.Refusal.{Refusal as DialogRefusal}
 use Rattle.client_ends.specs.response_faults.Judging.{DueBy, IsResponseDue, early, faults, response_judged}
 
 -- ---- what is heard

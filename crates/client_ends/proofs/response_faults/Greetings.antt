@@ -10,7 +10,7 @@ use Rattle.spec_world.specs.Settings.{ClientSettings}
 use Rattle.spec_world.specs.Dialog.{choice_fault, chosen_told, first_refusal, has_contexts, is_dialogs, is_hint, is_response}
 use Rattle.spec_world.specs.Dialog.{response_in, unless}
 use Rattle.client_ends.specs.dialog_responses.Greeting.{greeting_refusal}
-use Rattle.wire_messages.specs.declared.session_messages.refusal.Refusal.{Refusal as DialogRefusal}
+use Rattle.wire_bytes.specs.declared.session_messages.refusal.Refusal.{Refusal as DialogRefusal}
 use Rattle.client_values.specs.outcomes.Meaning.{refusal_of}
 use Rattle.spec_crypto.specs.declared.sessions.choice.Chosen.{Chosen}
 use Rattle.client_ends.specs.response_faults.Judging.{IsHeaded, answers_on, faults, response_judged}

@@ -4,7 +4,7 @@ use Rattle.std.proofs.Common.{refl, sym, ap, ◌∙◌}
 use Rattle.std.specs.Prelude.{is_none, is_some}
 use Rattle.client_ends.specs.declared.response_faults.setup.Begun.{Begun}
 use Rattle.client_ends.specs.declared.response_faults.setup.Ended.{Ended}
-use Rattle.wire_messages.specs.declared.session_messages.refusal.Refusal.{Refusal as DialogRefusal}
+use Rattle.wire_bytes.specs.declared.session_messages.refusal.Refusal.{Refusal as DialogRefusal}
 use Rattle.spec_exchange.specs.Client.{SaidFirst, SaidSecond}
 use Rattle.spec_exchange.specs.Operations.{Refusal, BadChoice, BadToken, BadSignature}
 use Rattle.spec_crypto.specs.sessions.Chain.{chain}

@@ -15,7 +15,7 @@ use Rattle.client_ends.specs.response_faults.Judging.{JudgesTree, SignsTree, ans
 use Rattle.client_ends.specs.declared.ends.config.ClientConfig.{ClientConfig}
 use Rattle.client_ends.specs.declared.ends.line.Line.{Line}
 use Rattle.client_ends.specs.ends.Shown.{ShowsSeals, settings_of}
-use Rattle.wire_messages.specs.declared.session_messages.refusal.Refusal.{Refusal as DialogRefusal}
+use Rattle.wire_bytes.specs.declared.session_messages.refusal.Refusal.{Refusal as DialogRefusal}
 use Rattle.client_ends.proofs.response_faults.Forms.{judged_is}
 
 by_front : (p q r body signed : Bool)

@@ -5,8 +5,8 @@ use Rattle.spec_exchange.specs.Client.{Stage, SaidNegotiate, SaidFirst, SaidSeco
 use Rattle.spec_exchange.specs.Network.{ForDialog}
 use Rattle.spec_exchange.specs.Operations.{Refusal, BadToken, HadStatus}
 use Rattle.spec_exchange.specs.State.{Message}
-use Rattle.wire_messages.specs.declared.session_messages.refusal.Refusal.{Refusal as DialogRefusal}
-use Rattle.wire_messages.specs.declared.session_messages.refusal.Refusal.TheVariants as refusals
+use Rattle.wire_bytes.specs.declared.session_messages.refusal.Refusal.{Refusal as DialogRefusal}
+use Rattle.wire_bytes.specs.declared.session_messages.refusal.Refusal.TheVariants as refusals
 use Rattle.spec_crypto.specs.sessions.Chain.{value_behind}
 use Rattle.spec_crypto.specs.tokens.Tokens.{first_token}
 use Rattle.spec_world.specs.Ends.{ClientEnd}

@@ -5,7 +5,7 @@ use Rattle.spec_crypto.specs.declared.sessions.choice.Chosen.{Chosen}
 use Rattle.spec_wire.specs.messages.Negotiate.{negotiate_response_in}
 use Rattle.spec_world.specs.Settings.{ClientSettings}
 use Rattle.spec_world.specs.Dialog.{has_contexts, choice_fault, chosen_told, first_or, first_refusal, is_hint, unless, was_offered}
-use Rattle.wire_messages.specs.declared.session_messages.refusal.Refusal.{Refusal as DialogRefusal}
+use Rattle.wire_bytes.specs.declared.session_messages.refusal.Refusal.{Refusal as DialogRefusal}
 use Rattle.client_values.specs.outcomes.Meaning.{refusal_of}
 
 -- the first fault of a dialect, whether SHA-512 is among so many hashes, ciphers and signing algorithms

@@ -9,7 +9,7 @@ use Rattle.client_ends.specs.ends.Shown.{settings_of}
 use Rattle.client_ends.specs.declared.response_faults.greeting.Greeted.{Greeted}
 use Rattle.client_ends.specs.declared.response_faults.setup.Begun.{Begun}
 use Rattle.client_ends.specs.declared.response_faults.setup.Ended.{Ended}
-use Rattle.wire_messages.specs.declared.session_messages.refusal.Refusal.{Refusal as DialogRefusal}
+use Rattle.wire_bytes.specs.declared.session_messages.refusal.Refusal.{Refusal as DialogRefusal}
 use Rattle.spec_crypto.specs.declared.sessions.material.Keys.{Keys}
 use Rattle.spec_crypto.specs.declared.sessions.material.Signer.{Signer}
 use Rattle.spec_crypto.specs.sessions.Signing.{verifies}

@@ -11,7 +11,7 @@ use crate::dialog_requests::{Setup, setup_frame};
 use crate::ends::{Dialog, Stage};
 use spec_wire::Header;
 use std::alloc::AllocError;
-use wire_messages::Refusal;
+use wire_bytes::Refusal;
 
 /// The dialog is refused, and answers so from then on.
 pub(crate) fn refuse(d: &mut Dialog, why: Refusal) -> Heard

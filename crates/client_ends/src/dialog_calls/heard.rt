@@ -1,7 +1,6 @@
 use crate::ends::Line;
 use spec_crypto::{Chosen, Keys};
-use wire_bytes::Bytes;
-use wire_messages::Refusal;
+use wire_bytes::{Bytes, Refusal};
 
 /// What a dialog comes to by what it hears.
 #[derive(Drop)]

@@ -1,8 +1,8 @@
 //! A dialog that hears.
 ghost use Rattle.std.specs.Prelude.{◌≡◌, ◌≤◌, ◌<◌, ◌^◌, ℕ, true, false, length, is_some, nat_lt, Some, Ok, IfOk, OnErr};
 ghost use Rattle.spec_exchange.specs.Client.{SaidNegotiate, SaidFirst, SaidSecond, AskedTree};
-ghost use Rattle.wire_messages.specs.declared.session_messages.refusal.Refusal.{Refusal as RefusalTold};
-ghost use Rattle.wire_messages.specs.declared.session_messages.refusal.Refusal.TheVariants as refusals;
+ghost use Rattle.wire_bytes.specs.declared.session_messages.refusal.Refusal.{Refusal as RefusalTold};
+ghost use Rattle.wire_bytes.specs.declared.session_messages.refusal.Refusal.TheVariants as refusals;
 ghost use Rattle.crypto_sessions.specs.session_keys.Sealing.{HasCipher};
 ghost use Rattle.spec_world.specs.Ends.{ClientEnd};
 ghost use Rattle.spec_world.specs.Dialog.{response_in};
@@ -24,8 +24,7 @@ use crate::response_faults::{
 use crate::tokens::first_token;
 use crypto_sessions::{SealError, chain_law, unseal};
 use std::alloc::AllocError;
-use wire_bytes::Bytes;
-use wire_messages::Refusal;
+use wire_bytes::{Bytes, Refusal};
 
 /// A credit is left for the next request.
 fn has_credit(d: &Dialog) -> bool

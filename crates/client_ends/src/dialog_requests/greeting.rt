@@ -1,7 +1,7 @@
 //! The client's NEGOTIATE.
 ghost use Rattle.std.specs.Prelude.{◌≡◌, ◌<◌, ℕ, List, length, IfOk};
 ghost use Rattle.spec_exchange.specs.State.{Message};
-ghost use Rattle.wire_messages.specs.negotiate_contexts.Views.{offer as offer_view};
+ghost use Rattle.wire_bytes.specs.negotiate_contexts.Views.{offer as offer_view};
 ghost use Rattle.spec_world.specs.Negotiate.{client_offer, negotiate_request_body};
 ghost use Rattle.spec_world.specs.Sending.{greeting_text as greeting_due};
 ghost use Rattle.client_ends.specs.ends.Shown.{settings_of};
@@ -10,9 +10,8 @@ ghost use Rattle.client_ends.specs.dialog_requests.Dialogs.{IsDialogs, CanOffer}
 use crate::dialog_requests::frame::{header_for, message};
 use crate::ends::ClientConfig;
 use std::alloc::{AllocError, Global};
-use wire_bytes::Bytes;
-use wire_messages::{
-    NegotiateRequest, Numbers, Offer, context_count, write_contexts, write_negotiate_request,
+use wire_bytes::{
+    Bytes, NegotiateRequest, Numbers, Offer, context_count, write_contexts, write_negotiate_request,
 };
 
 /// SMB 3.1.1, the one dialect that is offered.

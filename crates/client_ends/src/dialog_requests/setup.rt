@@ -11,8 +11,7 @@ ghost use Rattle.client_ends.specs.dialog_requests.Dialogs.{IsDialogs, setup_val
 use crate::dialog_requests::frame::{header_for, message, sign_in_place};
 use spec_crypto::Signer;
 use std::alloc::{AllocError, Global};
-use wire_bytes::Bytes;
-use wire_messages::{SessionSetupRequest, write_session_setup_request};
+use wire_bytes::{Bytes, SessionSetupRequest, write_session_setup_request};
 
 /// What a SESSION_SETUP says (MS-SMB2 2.2.5): whether it binds, the session that a new one takes the place of, a token, and
 /// the ids of its header.

@@ -8,7 +8,7 @@ ghost use Rattle.client_ends.specs.dialog_responses.Greeting.{choice_by, chosen_
 
 use crate::ends::ClientConfig;
 use spec_crypto::Chosen;
-use wire_messages::{Choice, Offer, Refusal};
+use wire_bytes::{Choice, Offer, Refusal};
 
 #[tactic(auto, unfolding(spec_wire::specs::messages::Offer::has_id))]
 fn has_id(ids: &[u16], id: u16) -> bool

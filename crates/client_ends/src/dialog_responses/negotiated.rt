@@ -2,8 +2,8 @@
 ghost use Rattle.std.specs.Prelude.{◌≡◌, ℕ, List, None, IfOk, MatchOption, is_none, true, false};
 ghost use Rattle.spec_wire.specs.messages.Negotiate.{negotiate_response_in, negotiate_response_fault};
 ghost use Rattle.spec_wire.specs.messages.Offer.{offer_fault, offer_in};
-ghost use Rattle.wire_messages.specs.session_messages.Views.{negotiate_response};
-ghost use Rattle.wire_messages.specs.negotiate_contexts.Views.{offer as offer_view};
+ghost use Rattle.wire_bytes.specs.session_messages.Views.{negotiate_response};
+ghost use Rattle.wire_bytes.specs.negotiate_contexts.Views.{offer as offer_view};
 ghost use Rattle.client_ends.specs.ends.Shown.{settings_of};
 ghost use Rattle.client_ends.specs.dialog_responses.Greeting.{Greets, GreetingHints};
 
@@ -14,7 +14,7 @@ use crate::tokens::is_hint;
 use law_wire::negotiate_response_law;
 use spec_crypto::Chosen;
 use std::alloc::{AllocError, Global};
-use wire_messages::{NegotiateResponse, Offer, Refusal, read_contexts, read_negotiate_response};
+use wire_bytes::{NegotiateResponse, Offer, Refusal, read_contexts, read_negotiate_response};
 
 /// The response that stands in a message.
 fn response_in(m: &[u8]) -> Option<NegotiateResponse<'_>>

@@ -5,7 +5,7 @@ ghost use Rattle.spec_wire.specs.messages.TreeConnect.{tree_connect_response_fau
 ghost use Rattle.spec_world.specs.Dialog.{setup_flags, setup_token};
 
 use law_wire::session_setup_response_law;
-use wire_messages::{read_session_setup_response, read_tree_connect_response};
+use wire_bytes::{read_session_setup_response, read_tree_connect_response};
 
 /// What a SESSION_SETUP response tells: its SessionFlags and its token.
 #[derive(Clone, Copy)]

@@ -1,7 +1,6 @@
 use spec_crypto::Keys;
 use std::alloc::{AllocError, Global};
-use wire_bytes::Text;
-use wire_messages::Numbers;
+use wire_bytes::{Numbers, Text};
 
 /// What a client is configured with (MS-SMB2 3.2.1.1): its user, the share that it connects to, the ciphers and the
 /// signing algorithms that it offers, in its order, and its ClientGuid, its first byte the lowest.

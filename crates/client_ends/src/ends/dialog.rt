@@ -2,7 +2,7 @@ use crate::ends::config::{Bound, ClientConfig};
 use crate::ends::line::Line;
 use crypto_sessions::Chain;
 use spec_crypto::Chosen;
-use wire_messages::Refusal;
+use wire_bytes::Refusal;
 
 /// How far a dialog has come: the message that it said last, or what it ended as.
 #[derive(Clone, Copy)]

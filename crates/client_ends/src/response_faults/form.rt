@@ -8,7 +8,7 @@ ghost use Rattle.client_ends.specs.response_faults.Judging.{DueBy, IsResponseDue
 use crate::dialog_responses::is_response;
 use crate::ends::{Line, heard_header};
 use spec_wire::Header;
-use wire_messages::Refusal;
+use wire_bytes::Refusal;
 
 /// A header whose status is the one that is due.
 fn due_of(header: Header, due: u32) -> Result<Header, Refusal>

@@ -11,7 +11,7 @@ use crate::response_faults::form::{answers, due_header};
 use spec_crypto::Chosen;
 use spec_wire::Header;
 use std::alloc::AllocError;
-use wire_messages::Refusal;
+use wire_bytes::Refusal;
 
 const SUCCESS: u32 = 0;
 

@@ -15,8 +15,7 @@ use crate::tokens::{answer_token, is_final};
 use crypto_sessions::{Credentials, Keys, bind, derive, verify};
 use spec_wire::Header;
 use std::alloc::AllocError;
-use wire_bytes::Bytes;
-use wire_messages::{Choice, Refusal};
+use wire_bytes::{Bytes, Choice, Refusal};
 
 const SUCCESS: u32 = 0;
 

@@ -11,7 +11,7 @@ use crate::ends::Line;
 use crate::response_faults::form::{answers, due_header};
 use crypto_sessions::verify;
 use spec_wire::Header;
-use wire_messages::Refusal;
+use wire_bytes::Refusal;
 
 const SUCCESS: u32 = 0;
 

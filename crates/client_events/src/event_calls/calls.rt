@@ -13,7 +13,7 @@ use client_rows::Cut;
 use client_steps::{Client, Pushed};
 use client_values::{OpKind, Why};
 use std::alloc::{AllocError, Global};
-use wire_messages::Refusal;
+use wire_bytes::Refusal;
 
 pub(crate) fn submit(
     client: &mut Client,

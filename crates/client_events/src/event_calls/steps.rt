@@ -8,8 +8,8 @@ use crate::event_calls::responses::hear;
 use client_steps::Client;
 use client_values::{OpKind, Why};
 use std::alloc::{AllocError, Global};
+use wire_bytes::Refusal;
 use wire_commands::Body;
-use wire_messages::Refusal;
 
 /// What happens to a client. A channel is given by its number.
 #[derive(Drop)]

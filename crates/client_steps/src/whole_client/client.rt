@@ -33,7 +33,7 @@ use client_rows::Cut;
 use client_tables::{Attached, Open, Table};
 use client_values::{OpKind, Why};
 use std::alloc::{AllocError, Global};
-use wire_messages::Refusal;
+use wire_bytes::Refusal;
 
 /// A client's operations, its session and its opens.
 #[derive(Drop)]

@@ -2,7 +2,7 @@
 use Rattle.std.proofs.Common.{◌≡◌, ℕ, ◌+◌, ◌<◌, ◌≤◌, Bool, true, false, if◌then◌else◌, List, [], ◌∷◌, ◌++◌, map, refl, ap, sym, ◌∙◌, arith}
 use Rattle.std.proofs.Common.{Result, Ok, Err, OnErr}
 use Rattle.base_lists.specs.declared.watch_lists.Link.{Link as Watch}
-use Rattle.wire_messages.specs.declared.session_messages.refusal.Refusal.{Refusal}
+use Rattle.wire_bytes.specs.declared.session_messages.refusal.Refusal.{Refusal}
 use Rattle.spec_exchange.specs.Client.{Client, begin_session, bind_channel, leave_dialog, note_refusal}
 use Rattle.spec_exchange.specs.ClientStep.{becomes_ready, ready_after}
 use Rattle.client_values.specs.declared.outcomes.outcome.RefusedDialog.{RefusedDialog as Refused}

@@ -9,7 +9,7 @@ ghost use Rattle.client_tables.specs.whole_table.Shown.{TableFits, ShowsTable};
 use crate::whole_table::parts::Table;
 use client_values::RefusedDialog;
 use std::alloc::AllocError;
-use wire_messages::Refusal;
+use wire_bytes::Refusal;
 
 impl Table {
     /// The dialog of a channel that isn't ready ended well, in a session with these ids. False where the channel can't be ready in it.

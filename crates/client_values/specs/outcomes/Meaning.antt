@@ -1,9 +1,9 @@
 -- The model's outcomes and dialogs that those of the code stand for.
 use Rattle.std.specs.Prelude.{ℕ}
-use Rattle.wire_messages.specs.declared.session_messages.refusal.Choice.{Choice}
-use Rattle.wire_messages.specs.declared.session_messages.refusal.Choice.TheVariants.{Dialect, Hash, Cipher, Signing, SessionFlags}
-use Rattle.wire_messages.specs.declared.session_messages.refusal.Refusal.{Refusal as DialogRefusal}
-use Rattle.wire_messages.specs.declared.session_messages.refusal.Refusal.TheVariants as refusals
+use Rattle.wire_bytes.specs.declared.session_messages.refusal.Choice.{Choice}
+use Rattle.wire_bytes.specs.declared.session_messages.refusal.Choice.TheVariants.{Dialect, Hash, Cipher, Signing, SessionFlags}
+use Rattle.wire_bytes.specs.declared.session_messages.refusal.Refusal.{Refusal as DialogRefusal}
+use Rattle.wire_bytes.specs.declared.session_messages.refusal.Refusal.TheVariants as refusals
 use Rattle.client_values.specs.declared.outcomes.outcome.Outcome.{Outcome as Settled}
 use Rattle.client_values.specs.declared.outcomes.outcome.Outcome.TheVariants as outcomes
 use Rattle.client_values.specs.declared.outcomes.outcome.Why.{Why as Cause}

@@ -6,8 +6,7 @@ ghost use Rattle.client_values.specs.operations.Meaning.{reply_of};
 ghost use Rattle.client_values.specs.outcomes.Meaning.{outcome_of};
 
 use crate::operations::{OpReply, TextList};
-use wire_bytes::Bytes;
-use wire_messages::Refusal;
+use wire_bytes::{Bytes, Refusal};
 
 /// How an operation settled. The first six say what one that succeeded was answered; to hold them here saves the 8 bytes that a
 /// reply of its own would take.

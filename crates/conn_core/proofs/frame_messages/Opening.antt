@@ -1,6 +1,7 @@
 -- A sealed frame that is opened where it stands.
 use Rattle.std.proofs.Common.{◌≡◌, ℕ, ◌<◌, ◌≤◌, ◌==◌, nat_le, Bool, true, false, not, ◌&&◌, if◌then◌else◌}
-use Rattle.std.proofs.Common.{List, drop, take, length, arith}
+use Rattle.std.proofs.Common.{List, [], ◌∷◌, drop, take, length, arith}
+use Rattle.std.specs.Prelude.{nat_eq}
 use Rattle.std.proofs.Common.{Option, Some, None, Ok, Err, refl, sym, ap, subst, ◌∙◌}
 use Rattle.spec_crypto.specs.declared.sessions.material.Keys.{Keys}
 use Rattle.spec_crypto.specs.declared.sessions.error.SealError.{SealError}
@@ -10,13 +11,11 @@ use Rattle.spec_crypto.specs.sessions.Sealing.{tag_is_right, key_for, shown}
 use Rattle.std.specs.Str.{bytes_eq}
 use Rattle.spec_wire.specs.messages.Places.{bytes_at}
 use Rattle.crypto_sessions.specs.session_keys.Unsealing.{UnsealsInPlace}
-use Rattle.spec_world.specs.Hearing.{opened_by, is_encrypted}
+use Rattle.spec_world.specs.Hearing.{begins_sealed, is_encrypted, opened_by}
 use Rattle.conn_core.specs.declared.end.ConnEnd.{ConnEnd}
 use Rattle.conn_core.specs.declared.end.ConnEnd.TheVariants as ends
 use Rattle.conn_core.specs.frame_messages.Checking.{HeardBy, TextBy}
-use Rattle.conn_core.proofs.frame_messages.Headers.{not_true, other_number, too_few}
-use Rattle.std.proofs.lemmas.List.{take_all}
-use Rattle.std.proofs.lemmas.Slice.Eq.{bytes_eq-Decides}
+use Rattle.conn_core.proofs.frame_messages.Headers.{other_number, too_few}
 
 by_cipher : (keys : Keys) (frame : List ℕ) (o : Option (List ℕ)) → (keys.cipher == 0) ≡ false → is_encrypted frame ≡ true
     → opened keys true frame ≡ o → opened_by (Some keys) frame ≡ o
@@ -83,14 +82,19 @@ of_other_flags keys old new e =
     subst (λ (o : Option (List ℕ)). HeardBy o (Err ends.Unsealable) new old)
     (sym (by_flags (keys.cipher == 0) (is_encrypted old) (opened keys true old) e)) refl
 
--- a frame that is too short for the protocol's four bytes doesn't begin with them
-pub short_front : (frame : List ℕ) → length frame < 4 → bytes_eq (bytes_at 4 frame 0) protocol ≡ false
-unfolding bytes_at
-short_front frame short = not_true (bytes_eq (bytes_at 4 frame 0) protocol) (λ e.
-    let all : take 4 frame ≡ frame = take_all 4 frame (omega (arith, short)) in
-    let same : take 4 frame ≡ protocol = (bytes_eq-Decides (take 4 frame) protocol).0 e in
-    let size : length frame ≡ 4 = ap length (sym all ∙ same) in
-    absurd (omega (arith, short, size)))
+-- the protocol's four bytes in front of a frame
+eq_same : (a b : ℕ) → nat_eq a b ≡ nat_eq b a
+eq_same a b = grind arith
+
+bytes_same : (xs ys : List ℕ) → bytes_eq xs ys ≡ bytes_eq ys xs
+bytes_same [] [] = refl
+bytes_same [] (y ∷ ys) = refl
+bytes_same (x ∷ xs) [] = refl
+bytes_same (x ∷ xs) (y ∷ ys) = rw (eq_same x y, bytes_same xs ys) refl
+
+pub in_front : (frame : List ℕ) → bytes_eq protocol (take 4 frame) ≡ begins_sealed frame
+unfolding begins_sealed bytes_at
+in_front frame = bytes_same protocol (take 4 frame)
 
 -- ---- where its text begins
 

@@ -1,5 +1,5 @@
 //! What the connection hears in a frame, before any of its messages is carried out (MS-SMB2 3.3.5.2).
-ghost use Rattle.std.specs.Prelude.{◌≡◌, ◌<◌, ◌≤◌, ◌^◌, ◌+◌, ◌%◌, ◌/◌, ℕ, Bool, List, [], length, drop, true, false, Some, option_copied, OnOk};
+ghost use Rattle.std.specs.Prelude.{◌≡◌, ◌<◌, ◌≤◌, ◌^◌, ◌+◌, ◌%◌, ◌/◌, ℕ, List, [], length, drop, true, false, Some, option_copied, OnOk};
 ghost use Rattle.std.specs.Prelude.{IfOk, if◌then◌else◌, not, ◌&&◌, ◌||◌, ◌==◌, is_some};
 ghost use Rattle.spec_exchange.specs.Commands.{has_bit as has_bit_of};
 ghost use Rattle.spec_world.specs.Ends.{ServerEnd};
@@ -15,9 +15,7 @@ use crate::end::ConnEnd;
 use crate::frame_messages::checked::{Checked, CheckedFrame};
 use crypto_sessions::{Keys, unseal_in_place, verify};
 use std::alloc::Global;
-use wire_bytes::{
-    Cursor, Header, HeaderError, Parts, Span, read_header, split_compound, u16_at, u64_at,
-};
+use wire_bytes::{Header, HeaderError, Parts, Span, read_header, split_compound, u16_at, u64_at};
 
 /// The most bytes of a frame's message.
 const MOST: usize = 1_114_112;
@@ -55,15 +53,11 @@ const RELATED: u32 = 4;
 const SIGNED: u32 = 8;
 
 /// A frame that begins FD 'S' 'M' 'B'.
-#[tactic(auto, using(crate::proofs::frame_messages::Opening::short_front), unfolding(spec_world::specs::Hearing::begins_sealed))]
+#[tactic(auto, using(crate::proofs::frame_messages::Opening::in_front))]
 fn begins_sealed(frame: &[u8]) -> bool
     ensures { result ≡ hearing.begins_sealed frame.now }
 {
-    let mut cursor = Cursor::new(frame);
-    match cursor.get_array::<4>() {
-        Ok(protocol) => protocol == PROTOCOL,
-        Err(_short) => false,
-    }
+    frame.starts_with(&PROTOCOL)
 }
 
 #[tactic(auto, unfolding(spec_exchange::specs::Commands::has_bit))]

@@ -1,10 +1,10 @@
 //! NEGOTIATE at the server (MS-SMB2 3.3.5.4).
 ghost use Rattle.std.specs.Prelude.{[], ◌≡◌, ◌≤◌, ◌<◌, ℕ, List, None, Err, length, IfOk};
 ghost use Rattle.spec_wire.specs.messages.Offer.{offer_fault, offer_in};
-ghost use Rattle.wire_messages.specs.session_messages.Views.{negotiate_request};
+ghost use Rattle.wire_bytes.specs.session_messages.Views.{negotiate_request};
 ghost use Rattle.spec_wire.specs.messages.Places.{number_of};
 ghost use Rattle.spec_crypto.specs.tokens.Tokens as tokens;
-ghost use Rattle.wire_messages.specs.negotiate_contexts.Views.{offer as offer_view};
+ghost use Rattle.wire_bytes.specs.negotiate_contexts.Views.{offer as offer_view};
 ghost use Rattle.spec_world.specs.Negotiate as negotiate;
 ghost use Rattle.conn_core.specs.negotiating.Greeting.{HasDialect, IsAsked, IsHello};
 
@@ -12,10 +12,10 @@ use crypto_sessions::{InitToken, NTLM_LIST, write_init};
 use law_wire::negotiate_request_law;
 use spec_crypto::Chosen;
 use std::alloc::{AllocError, Global};
-use wire_bytes::{Bytes, halves_of, u16_at};
-use wire_messages::{
-    ChooseError, NegotiateRequest, NegotiateResponse, Numbers, Offer, choose, context_count,
-    read_contexts, read_negotiate_request, write_contexts, write_negotiate_response,
+use wire_bytes::{
+    Bytes, ChooseError, NegotiateRequest, NegotiateResponse, Numbers, Offer, choose, context_count,
+    halves_of, read_contexts, read_negotiate_request, u16_at, write_contexts,
+    write_negotiate_response,
 };
 
 const SUCCESS: u32 = 0;

@@ -11,8 +11,7 @@ ghost use Rattle.conn_core.specs.related.Carrying.{carry_of, file_told, handed_b
 use crate::frame_messages::Checked;
 use crate::served::{Reply, ServeError};
 use spec_wire::MessageError;
-use wire_bytes::FixedOut;
-use wire_messages::read_echo_request;
+use wire_bytes::{FixedOut, read_echo_request};
 
 const SUCCESS: u32 = 0;
 

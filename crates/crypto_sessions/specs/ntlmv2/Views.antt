@@ -1,7 +1,6 @@
 -- The messages in code as the definitions see them.
-use Rattle.std.specs.Prelude.{◌≡◌, ℕ, ◌<◌, List, length, Result, Ok, Err}
+use Rattle.std.specs.Prelude.{◌≡◌, ℕ, ◌<◌, length, Result, Ok, Err}
 use Rattle.spec_crypto.specs.declared.tokens.ntlm.NtlmError.{NtlmError}
-use Rattle.spec_crypto.specs.declared.tokens.ntlm.NtlmError.TheVariants as ntlm
 use Rattle.spec_crypto.specs.declared.tokens.ntlm.LogonError.{LogonError}
 use Rattle.spec_crypto.specs.declared.tokens.ntlm.LogonError.TheVariants as logon
 use Rattle.spec_crypto.specs.tokens.Messages.{Type2Value, Type3Value}

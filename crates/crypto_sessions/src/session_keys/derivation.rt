@@ -1,5 +1,5 @@
 //! Keys derived from a logon's exported key and the value of the preauthentication chain.
-ghost use Rattle.std.specs.Prelude.{◌≡◌, ◌||◌, ◌==◌, if◌then◌else◌, take};
+ghost use Rattle.std.specs.Prelude.{◌≡◌, ◌||◌, ◌==◌};
 ghost use Rattle.spec_crypto.specs.ciphers.Kdf.{derived};
 ghost use Rattle.spec_crypto.specs.sessions.Derivation.{signing_key, to_server_key, to_client_key, cipher_bits, known, keys_of, bound_keys};
 

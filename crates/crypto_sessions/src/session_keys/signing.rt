@@ -1,55 +1,13 @@
 //! Signatures of messages.
-ghost use Rattle.std.specs.Prelude.{◌≡◌, ◌≤◌, ◌<◌, ◌^◌, ◌++◌, ◌==◌, if◌then◌else◌, MatchResult, length, take, replicate};
-ghost use Rattle.spec_crypto.specs.sessions.Signing.{signing_nonce, signature, verifies};
-ghost use Rattle.crypto_sessions.specs.session_keys.Telling.{TellsSigner};
+ghost use Rattle.std.specs.Prelude.{◌≡◌, ◌≤◌, ◌<◌, ◌^◌, ◌++◌, length, take, replicate};
+ghost use Rattle.spec_crypto.specs.sessions.Signing.{role, signing_nonce, signature, verifies};
+ghost use Rattle.spec_wire.specs.messages.Places.{bytes_at};
 
 use crypto_ciphers::{Aes, cmac_joined, gmac_joined, is_same};
 use spec_crypto::Signer;
-use wire_bytes::{Cursor, FixedOut, Short};
+use wire_bytes::{u8_at, u16_at};
 
-/// What a message's header tells to its signature.
-#[derive(Clone, Copy)]
-struct Told {
-    command: u16,
-    flags: u8,
-    id: [u8; 8],
-    signature: [u8; 16],
-}
-
-fn header_of(message: &[u8]) -> Result<Told, Short>
-    ensures { MatchResult result (λ t. TellsSigner message.now t) (λ e. length message.now < 64) }
-{
-    let mut cursor = Cursor::new(message);
-    let _front = cursor.take(12)?;
-    let command = cursor.get_u16()?;
-    let _credits = cursor.get_u16()?;
-    let flags = cursor.get_u8()?;
-    let _further = cursor.take(7)?;
-    let id = cursor.get_array::<8>()?;
-    let _ids = cursor.take(16)?;
-    let signature = cursor.get_array::<16>()?;
-    Ok(Told {
-        command,
-        flags,
-        id,
-        signature,
-    })
-}
-
-fn told_of(message: &[u8]) -> Told
-    requires { 64 ≤ length message.now }
-    ensures { TellsSigner message.now result }
-{
-    match header_of(message) {
-        Ok(told) => told,
-        Err(_short) => Told {
-            command: 0,
-            flags: 0,
-            id: [0; 8],
-            signature: [0; 16],
-        },
-    }
-}
+const CANCEL: u16 = 12;
 
 /// The header with zeros for its signature.
 fn unsigned_header(message: &[u8]) -> [u8; 64]
@@ -61,24 +19,40 @@ fn unsigned_header(message: &[u8]) -> [u8; 64]
     header
 }
 
-fn cancel_bit(command: u16) -> u8
-    ensures same { result ≡ (if command == 12 then 2 else 0) }
-    ensures small { result ≤ 2 }
+/// Who sends what (MS-SMB2 3.1.4.1): 1 of a server's message, and 2 more of a CANCEL.
+fn role_of(message: &[u8]) -> u32
+    requires { 64 ≤ length message.now }
+    ensures same { result ≡ role message.now }
+    ensures small { result ≤ 3 }
 {
-    if command == 12 { 2 } else { 0 }
+    let sent = (u8_at(message, 16) % 2) as u32;
+    if u16_at(message, 12) == CANCEL {
+        return sent + 2;
+    }
+    sent
 }
 
-/// GMAC's nonce: the message id, and who sends what.
+/// GMAC's nonce: the message id, and who sends what in four bytes.
+#[tactic(auto, using(wire_bytes::proofs::byte_lists::Endian::le_4), unfolding(spec_wire::specs::messages::Places::bytes_at))]
 fn nonce_of(message: &[u8]) -> [u8; 12]
     requires { 64 ≤ length message.now }
     ensures { result ≡ signing_nonce message.now }
 {
-    let told = told_of(message);
-    let role = told.flags % 2 + cancel_bit(told.command);
-    let mut out = FixedOut::<12>::new();
-    out.put_slice(&told.id);
-    out.put_u32(role as u32);
-    out.finish()
+    let mut nonce = [0; 12];
+    nonce[..8].copy_from_slice(&message[24..32]);
+    nonce[8..].copy_from_slice(&role_of(message).to_le_bytes());
+    nonce
+}
+
+/// The Signature field.
+#[tactic(auto, unfolding(spec_wire::specs::messages::Places::bytes_at))]
+fn signature_of(message: &[u8]) -> [u8; 16]
+    requires { 64 ≤ length message.now }
+    ensures { result ≡ bytes_at 16 message.now 48 }
+{
+    let mut signature = [0; 16];
+    signature.copy_from_slice(&message[48..64]);
+    signature
 }
 
 /// The signature of a message of 64 bytes at least, whatever stands in its Signature field: AES-GMAC for the algorithm
@@ -107,5 +81,5 @@ pub fn verify(signer: &Signer, message: &[u8]) -> bool
     requires short { length message.now < 2 ^ 60 }
     ensures { result ≡ verifies signer.now message.now }
 {
-    is_same(&told_of(message).signature, &sign(signer, message))
+    is_same(&signature_of(message), &sign(signer, message))
 }

@@ -1,6 +1,6 @@
 //! Elements of DER: a tag, a length and contents.
 ghost use Rattle.std.specs.Prelude.{◌≡◌, ◌≤◌, ◌<◌, ◌+◌, ◌^◌, length, true, IfOk};
-ghost use Rattle.spec_crypto.specs.tokens.Der.{long_length, length_in, element, comes, ends, behind};
+ghost use Rattle.spec_crypto.specs.tokens.Der.{long_length, length_in, element, comes, ends};
 ghost use Rattle.crypto_sessions.specs.spnego.Pieces.{der_piece, parted, DerAnswers};
 
 use spec_crypto::DerError;

@@ -11,8 +11,8 @@ use script_words::text_lines::Settings;
 use script_words::{Cipher, Given, Signing, User, UserList, with_defaults};
 use server_checks::Config;
 use std::alloc::{AllocError, Global};
+use wire_bytes::Numbers;
 use wire_commands::Address;
-use wire_messages::Numbers;
 
 /// One more who may log on.
 fn push_user(copied: &mut Users, user: &User) -> Result<(), AllocError>

@@ -18,7 +18,7 @@ ghost use Rattle.world_steps.specs.Steps.{WorldFinishes};
 use crate::settling::linking::{
     both, cut_one, drain, drop_one, either, has_frames, link_in, push_one,
 };
-use wire_messages::Refusal;
+use wire_bytes::Refusal;
 use world_steps::events::{finished, note};
 use world_steps::{
     Channel, ClientSide, Played, World, WorldError, finish, is_open, is_ready, is_served,

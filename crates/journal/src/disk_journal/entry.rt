@@ -1,9 +1,7 @@
 // One entry, behind its gate.
-ghost use Rattle.std.specs.Prelude.{◌≡◌, ℕ, ◌-◌, ◌<◌, ◌^◌, List, [], ◌∷◌, ◌++◌, length, OnOk, OnErr};
-ghost use Rattle.spec_wire.specs.messages.Places.{le};
+ghost use Rattle.std.specs.Prelude.{◌≡◌, ℕ, ◌-◌, ◌<◌, ◌^◌, List, [], ◌∷◌, ◌++◌, OnOk};
 ghost use Rattle.base_outside.specs.streams.Disk.{Only};
 ghost use Rattle.base_outside.specs.streams.Faults.{CountsFault};
-ghost use Rattle.spec_wire.specs.journal.Grammar.{entry};
 ghost use Rattle.spec_wire.specs.journal.Moments.{LeavesOnly};
 ghost use Rattle.journal.specs.disk_journal.Entry.{EntryEndsAt, StaysClosed, IsClosedOrOpened};
 ghost use Rattle.journal.specs.disk_journal.Repair.{ClosedAt};

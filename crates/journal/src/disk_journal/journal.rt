@@ -1,13 +1,12 @@
 // The journal.
 ghost use Rattle.std.specs.Prelude.{◌≡◌, ◌⊎◌, ℕ, ◌+◌, ◌-◌, ◌≤◌, ◌<◌, ◌^◌, List, [], ◌∷◌, ◌++◌, length, IfOk, OnOk, OnErr, vec_capacity};
-ghost use Rattle.spec_wire.specs.messages.Places.{le};
 ghost use Rattle.spec_wire.specs.journal.Grammar.{entry, StandsFor};
 ghost use Rattle.spec_wire.specs.journal.Moments.{LeavesOnly, Quiet};
 ghost use Rattle.journal.specs.disk_journal.Entry.{IsEntryNew};
 ghost use Rattle.journal.specs.disk_journal.Journal.{JournalState, JournalSettled, JournalAdmits, Appends, Reserves};
 ghost use Rattle.journal.specs.disk_journal.Journal.{JournalCreates, JournalRecovers};
 ghost use Rattle.journal.specs.disk_journal.Journal.{HandsOut, JournalNextAnswers, HandsOutRest, RestAnswers, HandsOutAll};
-ghost use Rattle.journal.specs.disk_journal.Journal.{AllAnswers, BeforeOrAfter, limit_of};
+ghost use Rattle.journal.specs.disk_journal.Journal.{AllAnswers, BeforeOrAfter};
 
 use crate::disk_journal::entry::write_entry;
 use crate::disk_journal::list::BytesList;
@@ -17,7 +16,7 @@ use base_outside::Disk;
 use std::alloc::{AllocError, Global};
 use std::marker::Model;
 use thiserror::Error;
-use wire_bytes::{Bytes, FixedOut};
+use wire_bytes::Bytes;
 
 // Entries that begin no epoch leave this much of the journal free.
 // So a server whose journal is full can still start: each start adds an epoch, and the marks of directories that it clears,
@@ -107,16 +106,15 @@ fn admit(stopped: Option<u64>, gate: u64, length: u64, epoch: bool) -> Result<()
 }
 
 // What stands behind the gate of an entry: the length, the body and the next closed gate.
+#[tactic(auto, using(wire_bytes::proofs::byte_lists::Endian::le_4))]
 fn fill(buffer: &mut Vec<u8>, body: &[u8]) -> Result<(), AllocError>
     requires { length body.now < 2 ^ 32 }
     ensures filled { OnOk result (buffer.new.items ≡ entry body.now ++ 0 ∷ []) }
     ensures room { vec_capacity buffer.old ≤ vec_capacity buffer.new }
     ensures full { OnErr result (vec_capacity buffer.old < length body.now + 5) }
 {
-    let mut length: FixedOut<4> = FixedOut::new();
-    length.put_u32(body.len() as u32);
     buffer.clear();
-    buffer.extend_from_slice(&length.finish())?;
+    buffer.extend_from_slice(&(body.len() as u32).to_le_bytes())?;
     buffer.extend_from_slice(body)?;
     buffer.push(0)?;
     Ok(())

@@ -1,5 +1,5 @@
 // A disk that a crash may have left, made a journal again.
-ghost use Rattle.std.specs.Prelude.{◌≡◌, ◌⊎◌, ℕ, ◌-◌, ◌<◌, ◌≤◌, ◌^◌, List, [], ◌∷◌, ◌++◌, length, IfOk, OnOk};
+ghost use Rattle.std.specs.Prelude.{◌≡◌, ◌⊎◌, ℕ, ◌-◌, ◌<◌, ◌≤◌, ◌^◌, List, length, IfOk, OnOk};
 ghost use Rattle.base_outside.specs.streams.Disk.{Only};
 ghost use Rattle.base_outside.specs.streams.Faults.{CountsFault};
 ghost use Rattle.spec_wire.specs.journal.Grammar.{StandsFor};

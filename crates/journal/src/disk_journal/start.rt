@@ -1,5 +1,5 @@
 // A new journal.
-ghost use Rattle.std.specs.Prelude.{◌≡◌, ◌≤◌, [], ◌∷◌, ◌++◌, length, replicate, OnOk};
+ghost use Rattle.std.specs.Prelude.{◌≡◌, [], ◌∷◌, ◌++◌, replicate, OnOk};
 ghost use Rattle.base_outside.specs.streams.Disk.{Only};
 ghost use Rattle.base_outside.specs.streams.Faults.{CountsFault};
 ghost use Rattle.spec_wire.specs.journal.Grammar.{magic, StandsFor};

@@ -1,6 +1,6 @@
 use std::alloc::AllocError;
 use thiserror::Error;
-use wire_bytes::{Short, TextError};
+use wire_bytes::Short;
 
 /// Why bytes give no list of records.
 #[derive(Clone, Copy, Debug, PartialEq, Eq, Error)]

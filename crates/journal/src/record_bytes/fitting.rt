@@ -3,7 +3,6 @@ ghost use Rattle.std.specs.Prelude.{◌≡◌, ◌<◌, length, IsTrue, ◌↔�
 ghost use Rattle.spec_wire.specs.messages.Utf16.{units_of};
 ghost use Rattle.journal.specs.record_bytes.Grammar.{TextFits, OpenFits, WrittenRecordFits, WrittenRecordsFit};
 
-use crate::record_bytes::list::Records;
 use crate::record_bytes::value::{NewOpen, Record};
 use wire_bytes::Text;
 
@@ -55,10 +54,10 @@ fn record_fits(r: &Record) -> bool
 
 /// Whether each text has fewer than 65,536 bytes in UTF-16, the bytes of each write are fewer than 2^32, the elements of each
 /// lock are whole ones and fewer than 65,536, and each version told is 2: `write_records` asks for it.
-pub fn can_write(records: &Records) -> bool
+pub fn can_write(records: &[Record]) -> bool
     ensures { IsTrue result ↔ WrittenRecordsFit records.now }
 {
-    for r in records.as_slice() {
+    for r in records {
         if !record_fits(r) {
             return false;
         }

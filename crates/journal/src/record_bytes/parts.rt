@@ -1,6 +1,5 @@
 //! Parts of a record, read one after the other.
 ghost use Rattle.std.specs.Prelude.{◌≡◌, Bool, MatchOption};
-ghost use Rattle.spec_wire.specs.messages.Utf16.{utf16};
 ghost use Rattle.journal.specs.record_bytes.Grammar.{flag, origin_table, basic_table};
 ghost use Rattle.journal.specs.record_bytes.Reading.{StepsOver, ReadsText};
 

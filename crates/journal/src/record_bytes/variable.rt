@@ -1,7 +1,6 @@
 //! The fields of records that don't have always the same size, or whose bytes may tell no record. They borrow their bytes.
 ghost use Rattle.std.specs.Prelude.{◌≡◌, ◌+◌, ◌*◌, ◌<◌, ◌≤◌, length, MatchResult};
 ghost use Rattle.spec_wire.specs.messages.Places.{number};
-ghost use Rattle.spec_wire.specs.messages.Table.{Stands};
 ghost use Rattle.journal.specs.record_bytes.Reading.{StepsOver, ReadsFields, open_fields_table, create_fields_table};
 ghost use Rattle.journal.specs.record_bytes.Reading.{write_fields_table, delete_fields_table, rename_fields_table};
 ghost use Rattle.journal.specs.record_bytes.Reading.{lock_fields_table};

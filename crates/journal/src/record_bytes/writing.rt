@@ -7,7 +7,6 @@ ghost use Rattle.journal.specs.record_bytes.Grammar.{flag, kind, origin_table, t
 ghost use Rattle.journal.specs.record_bytes.Grammar.{TextFits, OpenFits, WrittenRecordFits, WrittenRecordsFit};
 ghost use Rattle.journal.specs.record_bytes.Grammar.{records_spelling, record_spelling};
 
-use crate::record_bytes::list::Records;
 use crate::record_bytes::value::{NewOpen, Record};
 use spec_exchange::values::{Basic, Origin};
 use std::alloc::{AllocError, Global};
@@ -281,12 +280,12 @@ fn put_record(alloc: Global, out: &mut Out, r: &Record) -> Result<(), AllocError
 }
 
 /// Writes records one behind the other, in version 2. `can_write` tells whether their texts, bytes and elements fit.
-pub fn write_records(alloc: Global, records: &Records) -> Result<Bytes, AllocError>
+pub fn write_records(alloc: Global, records: &[Record]) -> Result<Bytes, AllocError>
     requires { WrittenRecordsFit records.now }
     ensures { IfOk result (λ b. b ≡ records_spelling records.now) }
 {
     let mut out = Out::new(alloc);
-    for r in records.as_slice() {
+    for r in records {
         put_record(alloc, &mut out, r)?;
     }
     Ok(out.finish())

@@ -2,7 +2,7 @@
 use Rattle.std.proofs.Common.{◌≡◌, ℕ, ◌+◌, ◌*◌, ◌^◌, ◌≤◌, ◌<◌, ◌==◌, Bool, true, false, refl, sym, ap, ◌∙◌, subst}
 use Rattle.std.proofs.Common.{arith, ◌⊎◌, inl, inr, zero, suc}
 use Rattle.spec_exchange.specs.ClientStep.{some_unsettled}
-use Rattle.spec_exchange.specs.Network.{World as Values, run}
+use Rattle.spec_exchange.specs.Network.{World as Values}
 use Rattle.spec_exchange.specs.Schedules as values
 use Rattle.spec_exchange.specs.Schedules.{least}
 use Rattle.law_answers.proofs.completeness.Equations as model

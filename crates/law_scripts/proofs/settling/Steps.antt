@@ -25,7 +25,7 @@ use Rattle.spec_world.specs.Events.{ByteEvent, Plain, bytes_happen, bytes_start}
 use Rattle.spec_world.specs.Sending.{may_seal}
 use Rattle.spec_world.specs.Settings.{WorldSettings, values_of}
 use Rattle.spec_world.specs.Statements.{AreAlong, ListsAreAlong, plain_run, plainly, value_event, value_events}
-use Rattle.spec_world.specs.World.{World, cost, cost_of, may_pay, paid}
+use Rattle.spec_world.specs.World.{World, cost, cost_of, may_pay}
 use Rattle.law_ties.specs.wire_facts.Fitting.{IsFitting}
 use Rattle.law_ties.specs.wire_facts.Steps.{restarts_in, submits_in}
 use Rattle.law_ties.proofs.events.InStep.{tied_goes}

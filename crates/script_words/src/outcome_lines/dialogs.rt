@@ -9,7 +9,7 @@ use crate::outcome_lines::shown::status_text;
 use client_values::RefusedDialog;
 use std::alloc::{AllocError, Global};
 use std::fmt::Write;
-use wire_messages::Refusal;
+use wire_bytes::Refusal;
 
 /// Adds a line for each dialog.
 pub(crate) fn push_dialogs(

@@ -111,13 +111,17 @@ fn status_of(answer: &Result<Reply, ServeError>) -> u32 {
     }
 }
 
-/// The status of a message behind the answers of those in front of it: that with which it fails, or by the next answer, if it has one. None
-/// of a message of which the server heard nothing.
-fn answered(checked: &Checked, next: Option<&Result<Reply, ServeError>>) -> Option<u32> {
+/// The status of a message behind the answers of those in front of it: that with which it fails, or by the next answer, if it asks something
+/// and has one. None of a message of which the server heard nothing.
+fn answered(
+    checked: &Checked,
+    asks: bool,
+    next: Option<&Result<Reply, ServeError>>,
+) -> Option<u32> {
     if checked.fails.is_some() {
         return checked.fails;
     }
-    if !has_event(checked) {
+    if !asks {
         return None;
     }
     match next {
@@ -150,10 +154,11 @@ pub(crate) fn news_of(asked: &CheckedFrame, replies: &Replies) -> Option<News> {
     let mut news = None;
     let mut place: usize = 0;
     for checked in asked.messages.as_slice() {
-        if let Some(status) = answered(checked, replies.as_slice().get(place)) {
+        let asks = has_event(checked);
+        if let Some(status) = answered(checked, asks, replies.as_slice().get(place)) {
             news = Some(first_of(news, message_news(asked.bytes.as_slice(), checked, status)));
         }
-        if has_event(checked) {
+        if asks {
             place = place.saturating_add(1);
         }
     }

@@ -3,7 +3,7 @@ use Rattle.std.proofs.Common.{◌≡◌, ℕ, ◌∙◌}
 use Rattle.spec_exchange.specs.State.{Accept, End, Heard, Server, ServerEvent, Stop}
 use Rattle.server_checks.specs.Shown.{TablesShown}
 use Rattle.server_checks.specs.declared.tables.Tables.{Tables}
-use Rattle.server_recovery.specs.journaled_tables.Counted.{counting}
+use Rattle.server_core.specs.journaled_tables.Counted.{counting}
 use Rattle.server_effects.specs.prepared_event.Prepared.{IsPrepared}
 use Rattle.server_effects.specs.declared.prepared_event.prepared.Prepared.{Prepared}
 use Rattle.server_effects.specs.declared.prepared_event.prepared.Prepared.TheVariants as prepared

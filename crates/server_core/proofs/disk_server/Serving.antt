@@ -39,9 +39,9 @@ use Rattle.server_checks.specs.setups.Setups.{keys_behind, progress_of, request_
 use Rattle.server_checks.specs.declared.setups.error.EventError.{EventError}
 use Rattle.server_checks.specs.declared.setups.error.EventError.TheVariants.{Memory, DiskFault, Stopped}
 use Rattle.server_checks.specs.declared.setups.setup.SetupHeard.{SetupHeard}
-use Rattle.server_recovery.specs.journaled_tables.Beside.{BesideReply, SetupAnswers, logons_behind}
-use Rattle.server_recovery.specs.journaled_tables.Holds.{EventRefused, ExpiredAlone, JournaledHolds, StepAnswers}
-use Rattle.server_recovery.specs.declared.journaled_tables.state.ServerState.{ServerState}
+use Rattle.server_core.specs.journaled_tables.Beside.{BesideReply, SetupAnswers, logons_behind}
+use Rattle.server_core.specs.journaled_tables.Holds.{EventRefused, ExpiredAlone, JournaledHolds, StepAnswers}
+use Rattle.server_core.specs.declared.journaled_tables.state.ServerState.{ServerState}
 use Rattle.spec_crypto.specs.declared.sessions.material.Keys.{Keys}
 use Rattle.spec_crypto.specs.declared.sessions.material.Signer.{Signer}
 use Rattle.spec_crypto.specs.tokens.Tokens.{Users}

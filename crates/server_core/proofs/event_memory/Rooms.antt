@@ -3,12 +3,12 @@ use Rattle.std.proofs.Common.{◌≡◌, ◌≤◌, ℕ, ◌+◌, ◌==◌, ◌|
 use Rattle.std.proofs.Common.{refl, sym, ap, subst, ◌∙◌}
 use Rattle.std.proofs.lemmas.Bool.Decides.{nat_tests}
 use Rattle.journal.specs.disk_journal.Journal.{Allows, JournalState, OnlyRoom}
-use Rattle.server_records.specs.record_bodies.Body.{fits_by}
+use Rattle.journal.specs.record_bodies.Body.{fits_by}
 use Rattle.server_checks.specs.declared.tables.Tables.{Tables}
-use Rattle.server_recovery.specs.journaled_tables.Rooms.{HasRoomToWrite}
-use Rattle.server_recovery.specs.declared.journaled_tables.state.ServerState.{ServerState}
+use Rattle.server_core.specs.journaled_tables.Rooms.{HasRoomToWrite}
+use Rattle.server_core.specs.declared.journaled_tables.state.ServerState.{ServerState}
 use Rattle.server_plan.specs.reserving.Readies.{TablesKeep}
-use Rattle.server_records.specs.body_writing.Bodies.{HasBodyRoom}
+use Rattle.server_core.specs.body_writing.Bodies.{HasBodyRoom}
 
 -- ---- a body that fits is small
 

@@ -3,15 +3,15 @@ use Rattle.std.proofs.Common.{◌≡◌, inl, ℕ, true, List, ◌++◌, Result,
 use Rattle.spec_exchange.specs.Records.{fits}
 use Rattle.spec_exchange.specs.State as model
 use Rattle.spec_exchange.specs.Step.{Ruling, carried_out, expire, ruling, step, with_deadlines, written_down}
-use Rattle.server_recovery.proofs.standing_law.Answered.{Comes}
-use Rattle.server_recovery.proofs.standing_law.Behind.{held_still}
-use Rattle.server_recovery.proofs.standing_law.Laws.{Bodies, Steps}
+use Rattle.server_core.proofs.standing_law.Answered.{Comes}
+use Rattle.server_core.proofs.standing_law.Behind.{held_still}
+use Rattle.server_core.proofs.standing_law.Laws.{Bodies, Steps}
 use Rattle.journal.specs.disk_journal.Journal.{OnlyRoom}
 use Rattle.server_checks.specs.event_heard.Heard.{event_of, heard_event}
 use Rattle.server_checks.specs.declared.event_heard.asked.Asked.{Asked}
 use Rattle.server_checks.specs.declared.event_heard.event.ServerEvent.{ServerEvent}
 use Rattle.server_core.specs.declared.behind_expiry.behind.Both.{Both}
-use Rattle.server_records.specs.record_bodies.Body.{IsBodyOf}
+use Rattle.journal.specs.record_bodies.Body.{IsBodyOf}
 use Rattle.server_checks.specs.declared.tables.Config.{Config}
 use Rattle.server_effects.specs.declared.answering.Answer.{Answer}
 use Rattle.server_core.proofs.event_step.Committed.{Committing, event_carried}
@@ -21,10 +21,10 @@ use Rattle.server_core.specs.event_step.Apart.{ServerApart}
 use Rattle.server_core.specs.event_step.Behind.{MayExpire}
 use Rattle.server_checks.specs.declared.setups.error.EventError.{EventError}
 use Rattle.server_effects.specs.declared.expiry.expiry.Expired.{Expired}
-use Rattle.server_recovery.specs.journaled_tables.Counted.{front_of}
-use Rattle.server_recovery.specs.journaled_tables.Heard.{IsJournaledHeard}
-use Rattle.server_recovery.specs.journaled_tables.Holds.{EventAnswers}
-use Rattle.server_recovery.specs.declared.journaled_tables.state.ServerState.{ServerState}
+use Rattle.server_core.specs.journaled_tables.Counted.{front_of}
+use Rattle.server_core.specs.journaled_tables.Heard.{IsJournaledHeard}
+use Rattle.server_core.specs.journaled_tables.Holds.{EventAnswers}
+use Rattle.server_core.specs.declared.journaled_tables.state.ServerState.{ServerState}
 use Rattle.server_core.proofs.expiry_alone.Shown.{no_deadline}
 use Rattle.server_effects.specs.prepared_event.Prepared.{IsPrepared, prepared_ruling}
 use Rattle.server_plan.specs.rulings.Rulings.{AbleToRule}

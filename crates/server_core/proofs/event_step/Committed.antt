@@ -4,29 +4,29 @@ use Rattle.std.proofs.Common.{OnOk, None, refl, sym, ap, subst, ◌∙◌}
 use Rattle.spec_exchange.specs.Records.{fits}
 use Rattle.spec_exchange.specs.State as model
 use Rattle.spec_exchange.specs.Step.{Ruling, carried_out, event_answer, ruling, ruling_without_room, step, with_deadlines, written_down}
-use Rattle.server_recovery.proofs.standing_law.Answered.{Comes, answered, faulted}
-use Rattle.server_recovery.proofs.standing_law.Laws.{Bodies, Steps}
+use Rattle.server_core.proofs.standing_law.Answered.{Comes, answered, faulted}
+use Rattle.server_core.proofs.standing_law.Laws.{Bodies, Steps}
 use Rattle.journal.specs.disk_journal.Journal.{JournalState, OnlyRoom, JournalSettled}
 use Rattle.server_checks.specs.event_heard.Heard.{event_of, heard_event}
 use Rattle.server_checks.specs.declared.event_heard.asked.Asked.{Asked}
 use Rattle.server_checks.specs.declared.event_heard.event.ServerEvent.{ServerEvent}
-use Rattle.server_records.specs.record_bodies.Body.{IsBodyOf, added_by, bodies_of}
+use Rattle.journal.specs.record_bodies.Body.{IsBodyOf, added_by, bodies_of}
 use Rattle.server_checks.specs.Shown.{TablesShown}
 use Rattle.server_checks.specs.declared.tables.Config.{Config}
 use Rattle.server_core.specs.commit_event.Commits.{BesideCommitted, Commits}
 use Rattle.server_effects.specs.declared.answering.Answer.{Answer}
 use Rattle.server_checks.specs.setups.Setups.{progress_of}
 use Rattle.server_checks.specs.declared.setups.error.EventError.{EventError}
-use Rattle.server_recovery.specs.journaled_tables.Beside.{logons_behind}
-use Rattle.server_recovery.specs.journaled_tables.Counted.{counting}
-use Rattle.server_recovery.specs.journaled_tables.Heard.{IsJournaledHeard}
-use Rattle.server_recovery.specs.journaled_tables.Holds.{EventAnswers, JournaledHeld}
-use Rattle.server_recovery.specs.journaled_tables.Rulings.{MayRule}
-use Rattle.server_recovery.specs.declared.journaled_tables.state.ServerState.{ServerState}
+use Rattle.server_core.specs.journaled_tables.Beside.{logons_behind}
+use Rattle.server_core.specs.journaled_tables.Counted.{counting}
+use Rattle.server_core.specs.journaled_tables.Heard.{IsJournaledHeard}
+use Rattle.server_core.specs.journaled_tables.Holds.{EventAnswers, JournaledHeld}
+use Rattle.server_core.specs.journaled_tables.Rulings.{MayRule}
+use Rattle.server_core.specs.declared.journaled_tables.state.ServerState.{ServerState}
 use Rattle.law_server.specs.tables.Fits.{Fits}
 use Rattle.server_effects.specs.prepared_event.Prepared.{IsPrepared, prepared_ruling}
 use Rattle.server_effects.specs.declared.prepared_event.prepared.Prepared.{Prepared}
-use Rattle.server_recovery.specs.recording.Writes.{WritesBut}
+use Rattle.server_core.specs.recording.Writes.{WritesBut}
 use Rattle.server_plan.specs.rulings.Rulings.{AbleToRule}
 use Rattle.server_plan.specs.logon_steps.Steps.{PreparedStep}
 use Rattle.server_checks.specs.session_table.Logons.{LogonsShown}

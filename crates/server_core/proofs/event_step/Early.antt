@@ -13,11 +13,11 @@ use Rattle.server_checks.specs.declared.event_heard.event.ServerEvent.TheVariant
 use Rattle.server_core.specs.event_step.Early.{HasMemory, is_refused_early}
 use Rattle.server_checks.specs.declared.setups.error.EventError.{EventError}
 use Rattle.server_checks.specs.declared.setups.error.EventError.TheVariants.{Memory, DiskFault, Stopped}
-use Rattle.server_recovery.specs.declared.journaled_tables.state.ServerState.{ServerState}
+use Rattle.server_core.specs.declared.journaled_tables.state.ServerState.{ServerState}
 use Rattle.server_plan.specs.Plans.{is_early}
 use Rattle.server_plan.specs.preparing.Preparing.{wants_memory_by}
 use Rattle.server_plan.specs.reserving.Readies.{wants_memory}
-use Rattle.server_recovery.specs.recording.Writes.{WritesBut}
+use Rattle.server_core.specs.recording.Writes.{WritesBut}
 use Rattle.spec_crypto.specs.tokens.Tokens.{Users}
 use Rattle.spec_world.specs.Ends.{Logons}
 

@@ -1,14 +1,14 @@
 -- Where memory runs out, and nothing was written, the server holds the state as before.
 use Rattle.std.proofs.Common.{◌≡◌, inl, ℕ, List, Some, None, sym, ◌∙◌}
 use Rattle.spec_exchange.specs.State as model
-use Rattle.server_recovery.proofs.standing_law.Behind.{held_still, holds_shown}
+use Rattle.server_core.proofs.standing_law.Behind.{held_still, holds_shown}
 use Rattle.journal.specs.disk_journal.Journal.{OnlyRoom}
 use Rattle.server_checks.specs.declared.setups.error.EventError.{EventError}
 use Rattle.server_checks.specs.declared.setups.error.EventError.TheVariants.{Memory, DiskFault, Stopped}
-use Rattle.server_recovery.specs.journaled_tables.Holds.{EventRefused, JournaledHeld}
-use Rattle.server_recovery.specs.journaled_tables.Shown.{ServerShown}
-use Rattle.server_recovery.specs.declared.journaled_tables.state.ServerState.{ServerState}
-use Rattle.server_records.specs.body_writing.Bodies.{IsLack}
+use Rattle.server_core.specs.journaled_tables.Holds.{EventRefused, JournaledHeld}
+use Rattle.server_core.specs.journaled_tables.Shown.{ServerShown}
+use Rattle.server_core.specs.declared.journaled_tables.state.ServerState.{ServerState}
+use Rattle.server_core.specs.body_writing.Bodies.{IsLack}
 use Rattle.spec_world.specs.Ends.{Logons}
 
 pub lacked : {D : Type 0} (told : Type 0) (seen : D → List ℕ) (may_leave : D → List ℕ → Type 0) (faults : D → ℕ) (old new : ServerState D)

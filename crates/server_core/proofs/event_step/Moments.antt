@@ -5,9 +5,9 @@ use Rattle.spec_exchange.specs.Step.{step}
 use Rattle.spec_wire.specs.journal.Grammar.{StandsFor}
 use Rattle.spec_wire.specs.journal.Moments.{LeavesOnly}
 use Rattle.journal.specs.disk_journal.Journal.{JournalState, OnlyRoom, JournalSettled}
-use Rattle.server_records.specs.record_bodies.Body.{IsBodyOf, bodies_of}
-use Rattle.server_recovery.specs.journaled_tables.Holds.{EventLeavesBodies}
-use Rattle.server_records.specs.body_writing.Bodies.{LeavesOf}
+use Rattle.journal.specs.record_bodies.Body.{IsBodyOf, bodies_of}
+use Rattle.server_core.specs.journaled_tables.Holds.{EventLeavesBodies}
+use Rattle.server_core.specs.body_writing.Bodies.{LeavesOf}
 use Rattle.spec_world.specs.Lacking.{Expires, alone_records}
 
 -- what may be left of less may be left of more

@@ -6,19 +6,19 @@ use Rattle.spec_exchange.specs.State as model
 use Rattle.spec_exchange.specs.Step.{Ruling, carried_out, connection_of, due, expire, expire_records, max_expired_guids, ruling}
 use Rattle.spec_exchange.specs.Step.{step, with_deadlines, written_down}
 use Rattle.spec_exchange.specs.Table.{has}
-use Rattle.server_recovery.proofs.standing_law.Lone.{Due}
+use Rattle.server_core.proofs.standing_law.Lone.{Due}
 use Rattle.store_opens.specs.open_table.Shown.{HasOpensRoom, HasRoomIn, HasOpensSessionRoom}
 use Rattle.store_opens.specs.declared.open_table.table.Opens.{Opens}
 use Rattle.server_checks.specs.event_heard.Heard.{event_of, heard_event}
 use Rattle.server_checks.specs.declared.event_heard.asked.Asked.{Asked}
 use Rattle.server_checks.specs.declared.event_heard.event.ServerEvent.{ServerEvent}
 use Rattle.server_checks.specs.declared.event_heard.event.ServerEvent.TheVariants as events
-use Rattle.server_records.specs.record_bodies.Body.{IsBodyOf}
+use Rattle.journal.specs.record_bodies.Body.{IsBodyOf}
 use Rattle.server_core.specs.event_step.Behind.{HasFront, MayExpire, both_from}
 use Rattle.server_checks.specs.setups.Setups.{in_the_making}
 use Rattle.server_effects.specs.expiry.Expired.{IsExpired}
 use Rattle.server_effects.specs.declared.expiry.expiry.Expired.{Expired}
-use Rattle.server_recovery.specs.journaled_tables.Counted.{front_of}
+use Rattle.server_core.specs.journaled_tables.Counted.{front_of}
 use Rattle.std.specs.Prelude.{nat_le}
 use Rattle.spec_crypto.specs.tokens.Tokens.{Users}
 use Rattle.spec_world.specs.Ends.{Logons}

@@ -6,7 +6,7 @@ use Rattle.spec_exchange.specs.State as model
 use Rattle.spec_exchange.specs.Step.{step}
 use Rattle.store_files.specs.file_tree.Shown.{ShowsFiles}
 use Rattle.store_files.specs.declared.file_tree.tree.Tree.{Tree}
-use Rattle.server_recovery.proofs.standing_law.Behind.{held, held_still, holds_shown}
+use Rattle.server_core.proofs.standing_law.Behind.{held, held_still, holds_shown}
 use Rattle.spec_wire.specs.journal.Grammar.{StandsFor}
 use Rattle.spec_wire.specs.journal.Moments.{LeavesOnly}
 use Rattle.store_opens.specs.open_table.Shown.{ShowsOpens}
@@ -15,7 +15,7 @@ use Rattle.journal.specs.disk_journal.Journal.{JournalState, OnlyRoom, JournalSe
 use Rattle.server_checks.specs.event_heard.Heard.{heard_event}
 use Rattle.server_checks.specs.declared.event_heard.asked.Asked.{Asked}
 use Rattle.server_checks.specs.declared.event_heard.event.ServerEvent.{ServerEvent}
-use Rattle.server_records.specs.record_bodies.Body.{fits_by}
+use Rattle.journal.specs.record_bodies.Body.{fits_by}
 use Rattle.server_checks.specs.Shown.{TablesShown}
 use Rattle.server_checks.specs.declared.tables.Config.{Config}
 use Rattle.server_checks.specs.declared.tables.Tables.{Tables}
@@ -26,11 +26,11 @@ use Rattle.server_core.specs.declared.event_step.expiring.Behind.TheVariants.{An
 use Rattle.server_checks.specs.setups.Setups.{progress_of}
 use Rattle.server_checks.specs.declared.setups.error.EventError.{EventError}
 use Rattle.server_checks.specs.declared.setups.error.EventError.TheVariants.{Memory, DiskFault, Stopped}
-use Rattle.server_recovery.specs.journaled_tables.Beside.{logons_behind}
-use Rattle.server_recovery.specs.journaled_tables.Holds.{EventAnswers, EventLeavesBodies, EventRefused, JournaledHeld}
-use Rattle.server_recovery.specs.journaled_tables.Holds.{JournaledHolds, JournaledStands}
-use Rattle.server_recovery.specs.declared.journaled_tables.state.ServerState.{ServerState}
-use Rattle.server_records.specs.body_writing.Bodies.{IsLack}
+use Rattle.server_core.specs.journaled_tables.Beside.{logons_behind}
+use Rattle.server_core.specs.journaled_tables.Holds.{EventAnswers, EventLeavesBodies, EventRefused, JournaledHeld}
+use Rattle.server_core.specs.journaled_tables.Holds.{JournaledHolds, JournaledStands}
+use Rattle.server_core.specs.declared.journaled_tables.state.ServerState.{ServerState}
+use Rattle.server_core.specs.body_writing.Bodies.{IsLack}
 use Rattle.base_outside.specs.streams.Faults.{Rose}
 use Rattle.spec_crypto.specs.tokens.Tokens.{Users}
 use Rattle.spec_world.specs.Ends.{Logons}

@@ -13,9 +13,9 @@ use Rattle.server_checks.specs.declared.event_heard.event.ServerEvent.{ServerEve
 use Rattle.server_checks.specs.declared.event_heard.event.ServerEvent.TheVariants.{Accept, End, Message, Setup, Stop}
 use Rattle.server_core.specs.event_step.Behind.{ExpiryAsks}
 use Rattle.server_checks.specs.setups.Setups.{in_the_making, setup_message}
-use Rattle.server_recovery.specs.journaled_tables.Heard.{IsJournaledHeard}
-use Rattle.server_recovery.specs.journaled_tables.Holds.{JournaledHolds}
-use Rattle.server_recovery.specs.declared.journaled_tables.state.ServerState.{ServerState}
+use Rattle.server_core.specs.journaled_tables.Heard.{IsJournaledHeard}
+use Rattle.server_core.specs.journaled_tables.Holds.{JournaledHolds}
+use Rattle.server_core.specs.declared.journaled_tables.state.ServerState.{ServerState}
 use Rattle.server_checks.specs.declared.setups.setup.SetupHeard.{SetupHeard}
 use Rattle.spec_crypto.specs.tokens.Tokens.{Users}
 use Rattle.spec_world.specs.Ends.{Logons}

@@ -27,11 +27,11 @@ use Rattle.server_core.specs.event_step.Apart.{ServerApart}
 use Rattle.server_core.specs.event_step.Behind.{ExpiryAsks, TakenOut, Without}
 use Rattle.server_effects.specs.expiry.Expired.{IsExpired}
 use Rattle.server_effects.specs.declared.expiry.expiry.Expired.{Expired}
-use Rattle.server_recovery.specs.journaled_tables.Counted.{front_of}
-use Rattle.server_recovery.specs.declared.journaled_tables.state.ServerState.{ServerState}
+use Rattle.server_core.specs.journaled_tables.Counted.{front_of}
+use Rattle.server_core.specs.declared.journaled_tables.state.ServerState.{ServerState}
 use Rattle.law_server.specs.tables.Fits.{Fits}
 use Rattle.server_plan.specs.logon_steps.Steps.{PreparedStep}
-use Rattle.server_recovery.proofs.standing_law.Behind.{held, held_still}
+use Rattle.server_core.proofs.standing_law.Behind.{held, held_still}
 use Rattle.server_checks.specs.session_table.Shown.{ShowsSessions}
 use Rattle.spec_crypto.specs.tokens.Tokens.{Users}
 use Rattle.spec_world.specs.Ends.{Logons}

@@ -9,7 +9,7 @@ use Rattle.store_opens.specs.open_table.Shown.{ShowsOpens}
 use Rattle.store_opens.specs.declared.open_table.table.Opens.{Opens}
 use Rattle.server_checks.specs.Shown.{TablesShown}
 use Rattle.server_checks.specs.declared.tables.Tables.{Tables}
-use Rattle.server_recovery.specs.journaled_tables.Counted.{counting}
+use Rattle.server_core.specs.journaled_tables.Counted.{counting}
 
 put_here : (f : ℕ → Option ℕ) (k : ℕ) (v : Option ℕ) → put f k v k ≡ v
 put_here f k v = grind arith

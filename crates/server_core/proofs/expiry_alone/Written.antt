@@ -10,11 +10,11 @@ use Rattle.server_checks.specs.Shown.{TablesShown}
 use Rattle.server_checks.specs.declared.tables.Tables.{Tables}
 use Rattle.server_checks.specs.declared.setups.error.EventError.{EventError}
 use Rattle.server_checks.specs.declared.setups.error.EventError.TheVariants.{DiskFault, Memory, Stopped}
-use Rattle.server_recovery.specs.journaled_tables.Alone.{AloneShown, written_as}
-use Rattle.server_recovery.specs.journaled_tables.Counted.{counting}
-use Rattle.server_recovery.specs.declared.journaled_tables.state.ServerState.{ServerState}
-use Rattle.server_recovery.specs.recording.Writes.{WritesBut}
-use Rattle.server_records.specs.body_writing.Bodies.{LeavesOf}
+use Rattle.server_core.specs.journaled_tables.Alone.{AloneShown, written_as}
+use Rattle.server_core.specs.journaled_tables.Counted.{counting}
+use Rattle.server_core.specs.declared.journaled_tables.state.ServerState.{ServerState}
+use Rattle.server_core.specs.recording.Writes.{WritesBut}
+use Rattle.server_core.specs.body_writing.Bodies.{LeavesOf}
 
 -- ---- the disk failed
 

@@ -33,8 +33,8 @@ use Rattle.server_effects.specs.Carried.{IsEffectBare, KeepsChallenge}
 use Rattle.server_effects.specs.declared.answering.Answer.{Answer}
 use Rattle.server_checks.specs.setups.Setups.{in_the_making, keys_behind, setup_message}
 use Rattle.server_checks.specs.declared.setups.setup.SetupHeard.{SetupHeard}
-use Rattle.server_recovery.specs.journaled_tables.Beside.{BesideCarried}
-use Rattle.server_recovery.specs.journaled_tables.Heard.{IsJournaledHeard}
+use Rattle.server_core.specs.journaled_tables.Beside.{BesideCarried}
+use Rattle.server_core.specs.journaled_tables.Heard.{IsJournaledHeard}
 use Rattle.server_effects.specs.prepared_event.Prepared.{IsPrepared, prepared_ruling}
 use Rattle.server_effects.specs.declared.prepared_event.prepared.Prepared.{Prepared}
 use Rattle.server_effects.specs.declared.prepared_event.prepared.Prepared.TheVariants as prepared

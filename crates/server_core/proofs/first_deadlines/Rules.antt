@@ -16,7 +16,7 @@ use Rattle.server_checks.specs.event_heard.Heard.{heard_event}
 use Rattle.server_checks.specs.declared.event_heard.event.ServerEvent.{ServerEvent}
 use Rattle.server_checks.specs.declared.event_heard.event.ServerEvent.TheVariants as events
 use Rattle.server_checks.specs.setups.Setups.{in_the_making, progress_of}
-use Rattle.server_recovery.specs.journaled_tables.Rulings.{MayRule}
+use Rattle.server_core.specs.journaled_tables.Rulings.{MayRule}
 use Rattle.server_core.proofs.first_deadlines.Beside.{EndsOn}
 use Rattle.spec_crypto.specs.tokens.Tokens.{Users}
 use Rattle.spec_world.specs.Ends.{Logons}

@@ -3,13 +3,13 @@ use Rattle.std.specs.Prelude.{◌≡◌, ℕ, ◌+◌, List, Result, Ok, Err}
 use Rattle.wire_commands.specs.values.Meaning.{reply_of}
 use Rattle.spec_exchange.specs.State as model
 use Rattle.server_checks.specs.declared.event_heard.event.ServerEvent.{ServerEvent}
-use Rattle.server_records.specs.record_bodies.Body.{added_by}
+use Rattle.journal.specs.record_bodies.Body.{added_by}
 use Rattle.server_checks.specs.Shown.{TablesShown}
 use Rattle.server_effects.specs.declared.answering.Answer.{Answer}
 use Rattle.server_checks.specs.declared.setups.error.EventError.{EventError}
-use Rattle.server_recovery.specs.journaled_tables.Counted.{counting}
-use Rattle.server_recovery.specs.journaled_tables.Beside.{BesideCarried, logons_behind}
-use Rattle.server_recovery.specs.declared.journaled_tables.state.ServerState.{ServerState}
+use Rattle.server_core.specs.journaled_tables.Counted.{counting}
+use Rattle.server_core.specs.journaled_tables.Beside.{BesideCarried, logons_behind}
+use Rattle.server_core.specs.declared.journaled_tables.state.ServerState.{ServerState}
 use Rattle.server_checks.specs.session_table.Logons.{LogonsShown}
 use Rattle.spec_crypto.specs.tokens.Tokens.{Users}
 use Rattle.spec_world.specs.Ends.{Logons}

@@ -8,10 +8,10 @@ use Rattle.server_checks.specs.declared.event_heard.event.ServerEvent.{ServerEve
 use Rattle.server_core.specs.behind_expiry.Behind.{BothReady}
 use Rattle.server_core.specs.declared.behind_expiry.behind.Both.{Both}
 use Rattle.server_effects.specs.declared.expiry.expiry.Expired.{Expired}
-use Rattle.server_recovery.specs.journaled_tables.Counted.{front_of}
-use Rattle.server_recovery.specs.journaled_tables.Heard.{IsJournaledHeard}
-use Rattle.server_recovery.specs.journaled_tables.Holds.{JournaledHeld}
-use Rattle.server_recovery.specs.declared.journaled_tables.state.ServerState.{ServerState}
+use Rattle.server_core.specs.journaled_tables.Counted.{front_of}
+use Rattle.server_core.specs.journaled_tables.Heard.{IsJournaledHeard}
+use Rattle.server_core.specs.journaled_tables.Holds.{JournaledHeld}
+use Rattle.server_core.specs.declared.journaled_tables.state.ServerState.{ServerState}
 use Rattle.law_server.specs.tables.Fits.{Fits}
 use Rattle.server_plan.specs.logon_steps.Steps.{PreparedStep}
 use Rattle.server_checks.specs.session_table.Logons.{LogonsShown}

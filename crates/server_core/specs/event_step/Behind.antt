@@ -7,7 +7,7 @@ use Rattle.journal.specs.disk_journal.Journal.{OnlyRoom}
 use Rattle.server_checks.specs.event_heard.Heard.{event_of, heard_event}
 use Rattle.server_checks.specs.declared.event_heard.asked.Asked.{Asked}
 use Rattle.server_checks.specs.declared.event_heard.event.ServerEvent.{ServerEvent}
-use Rattle.server_records.specs.record_bodies.Body.{IsBodyOf}
+use Rattle.journal.specs.record_bodies.Body.{IsBodyOf}
 use Rattle.server_checks.specs.Shown.{TablesShown}
 use Rattle.server_core.specs.declared.event_step.expiring.Behind.{Behind}
 use Rattle.server_core.specs.declared.event_step.expiring.Behind.TheVariants.{Answered, NoneExpires}
@@ -15,11 +15,11 @@ use Rattle.server_checks.specs.setups.Setups.{progress_of}
 use Rattle.server_checks.specs.declared.setups.error.EventError.{EventError}
 use Rattle.server_effects.specs.expiry.Expired.{IsExpired}
 use Rattle.server_effects.specs.declared.expiry.expiry.Expired.{Expired}
-use Rattle.server_recovery.specs.journaled_tables.Beside.{logons_behind}
-use Rattle.server_recovery.specs.journaled_tables.Counted.{front_of}
-use Rattle.server_recovery.specs.journaled_tables.Heard.{IsJournaledHeard}
-use Rattle.server_recovery.specs.journaled_tables.Holds.{EventRefused, JournaledHeld, JournaledHolds, StepAnswers}
-use Rattle.server_recovery.specs.declared.journaled_tables.state.ServerState.{ServerState}
+use Rattle.server_core.specs.journaled_tables.Beside.{logons_behind}
+use Rattle.server_core.specs.journaled_tables.Counted.{front_of}
+use Rattle.server_core.specs.journaled_tables.Heard.{IsJournaledHeard}
+use Rattle.server_core.specs.journaled_tables.Holds.{EventRefused, JournaledHeld, JournaledHolds, StepAnswers}
+use Rattle.server_core.specs.declared.journaled_tables.state.ServerState.{ServerState}
 use Rattle.server_checks.specs.session_table.Logons.{LogonsShown}
 use Rattle.spec_crypto.specs.tokens.Tokens.{Users}
 use Rattle.spec_world.specs.Ends.{Logons}

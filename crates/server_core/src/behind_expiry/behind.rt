@@ -6,17 +6,17 @@ ghost use Rattle.spec_exchange.specs.Step.{carried_out};
 ghost use Rattle.journal.specs.disk_journal.Journal.{OnlyRoom};
 ghost use Rattle.server_checks.specs.event_heard.Heard.{AskedAgrees, event_of};
 ghost use Rattle.server_core.specs.behind_expiry.Behind.{BothReady, IsPlannedBehind};
-ghost use Rattle.server_records.specs.record_bodies.Body.{IsBodyOf, fits_by};
+ghost use Rattle.journal.specs.record_bodies.Body.{IsBodyOf, fits_by};
 ghost use Rattle.server_checks.specs.Shown.{TablesShown};
-ghost use Rattle.server_recovery.specs.journaled_tables.Counted.{front_of};
-ghost use Rattle.server_recovery.specs.journaled_tables.Rooms.{HasRoomToWrite};
+ghost use Rattle.server_core.specs.journaled_tables.Counted.{front_of};
+ghost use Rattle.server_core.specs.journaled_tables.Rooms.{HasRoomToWrite};
 ghost use Rattle.law_server.specs.tables.Fits.{Fits};
 ghost use Rattle.server_plan.specs.Plans.{OwingOf};
 ghost use Rattle.server_effects.specs.prepared_event.Prepared.{RoomToCarry};
 ghost use Rattle.server_plan.specs.reserving.Readies.{TablesKeep};
 ghost use Rattle.server_plan.specs.rulings.Rulings.{ruling_of};
 ghost use Rattle.server_plan.specs.logon_steps.Steps.{PreparedStep};
-ghost use Rattle.server_records.specs.body_writing.Bodies.{IsLack};
+ghost use Rattle.server_core.specs.body_writing.Bodies.{IsLack};
 ghost use Rattle.server_checks.specs.session_table.Logons.{LogonsShown};
 ghost use Rattle.spec_world.specs.Ends.{Logons};
 
@@ -24,10 +24,11 @@ use crate::event_memory::{
     Plan, Prepared, Ruling, ServerState, at_connection, body_of, fits, make_room, plan_law, rule,
     ruling_law,
 };
+use crate::joined_bodies::joined_law;
 use base_outside::Disk;
+use journal::{body_law, spelled};
 use server_checks::{Asked, EventError, Tables};
 use server_effects::expire_records;
-use server_records::{body_law, joined_law, spelled};
 use std::alloc::AllocError;
 use wire_bytes::Bytes;
 

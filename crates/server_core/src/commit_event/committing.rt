@@ -7,29 +7,29 @@ ghost use Rattle.spec_wire.specs.journal.Moments.{LeavesOnly};
 ghost use Rattle.journal.specs.disk_journal.Journal.{JournalSettled};
 ghost use Rattle.server_checks.specs.event_heard.Heard.{event_of, heard_event};
 ghost use Rattle.server_checks.specs.declared.event_heard.event.ServerEvent.{ServerEvent};
-ghost use Rattle.server_records.specs.record_bodies.Body.{bodies_of};
+ghost use Rattle.journal.specs.record_bodies.Body.{bodies_of};
 ghost use Rattle.server_core.specs.commit_event.Commits.{BesideCommitted, Commits};
 ghost use Rattle.server_checks.specs.setups.Setups.{progress_of};
-ghost use Rattle.server_recovery.specs.journaled_tables.Heard.{IsJournaledHeard};
-ghost use Rattle.server_recovery.specs.journaled_tables.Rooms.{HasRoomToWrite};
-ghost use Rattle.server_recovery.specs.journaled_tables.Rulings.{MayRule};
+ghost use Rattle.server_core.specs.journaled_tables.Heard.{IsJournaledHeard};
+ghost use Rattle.server_core.specs.journaled_tables.Rooms.{HasRoomToWrite};
+ghost use Rattle.server_core.specs.journaled_tables.Rulings.{MayRule};
 ghost use Rattle.law_server.specs.tables.Fits.{Fits};
 ghost use Rattle.server_effects.specs.prepared_event.Prepared.{IsPrepared, RoomToCarry, prepared_ruling};
-ghost use Rattle.server_recovery.specs.recording.Writes.{WritesBut};
+ghost use Rattle.server_core.specs.recording.Writes.{WritesBut};
 ghost use Rattle.server_plan.specs.rulings.Rulings.{AbleToRule};
 ghost use Rattle.server_plan.specs.logon_steps.Steps.{PreparedStep};
-ghost use Rattle.server_records.specs.body_writing.Bodies.{LeavesOf};
+ghost use Rattle.server_core.specs.body_writing.Bodies.{LeavesOf};
 ghost use Rattle.server_checks.specs.session_table.Logons.{LogonsShown};
 ghost use Rattle.spec_crypto.specs.tokens.Tokens.{Users};
 ghost use Rattle.spec_world.specs.Ends.{Logons};
 
+use crate::body_writing::used_behind;
 use crate::first_deadlines::{Prepared, ServerState, carry_dated};
+use crate::recording::write;
 use base_outside::Disk;
 use law_records::carried_law;
 use server_checks::{Asked, EventError};
 use server_effects::Answer;
-use server_records::used_behind;
-use server_recovery::write;
 use wire_bytes::Bytes;
 
 /// Writes the body, and carries out what it stands for, at `now` (100 ns since 1601). Where the disk fails the tables follow all the

@@ -4,9 +4,9 @@ ghost use Rattle.std.specs.Prelude.{IfOk, IsOk, List, MatchResult, OnOk, length}
 ghost use Rattle.spec_exchange.specs.State as model;
 ghost use Rattle.journal.specs.disk_journal.Journal.{OnlyRoom};
 ghost use Rattle.server_checks.specs.event_heard.Heard.{AskedAgrees, event_of};
-ghost use Rattle.server_records.specs.record_bodies.Body.{fits_by};
+ghost use Rattle.journal.specs.record_bodies.Body.{fits_by};
 ghost use Rattle.server_checks.specs.Shown.{TablesShown};
-ghost use Rattle.server_recovery.specs.journaled_tables.Rooms.{HasRoomToWrite};
+ghost use Rattle.server_core.specs.journaled_tables.Rooms.{HasRoomToWrite};
 ghost use Rattle.law_server.specs.tables.Fits.{Fits};
 ghost use Rattle.server_plan.specs.Plans.{OwingOf};
 ghost use Rattle.server_effects.specs.prepared_event.Prepared.{IsPrepared, RoomToCarry, prepared_ruling};
@@ -14,15 +14,15 @@ ghost use Rattle.server_plan.specs.preparing.Preparing.{wants_memory_by};
 ghost use Rattle.server_plan.specs.reserving.Readies.{TablesKeep};
 ghost use Rattle.server_plan.specs.rulings.Rulings.{AbleToRule, ruling_of};
 ghost use Rattle.server_plan.specs.logon_steps.Steps.{PreparedStep};
-ghost use Rattle.server_records.specs.body_writing.Bodies.{IsLack};
+ghost use Rattle.server_core.specs.body_writing.Bodies.{IsLack};
 ghost use Rattle.server_checks.specs.session_table.Logons.{LogonsShown};
 ghost use Rattle.spec_world.specs.Ends.{Logons};
 
+use crate::body_writing::reserve_body;
+use crate::journaled_tables::ServerState;
 use base_outside::Disk;
 use server_checks::{Asked, EventError};
 use server_plan::{Prepared, Ruling, prepare};
-use server_records::reserve_body;
-use server_recovery::ServerState;
 use wire_bytes::Bytes;
 
 /// Takes the memory that a ruling and its body want. Where there is none the state is as before.

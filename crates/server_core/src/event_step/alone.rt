@@ -5,11 +5,11 @@ ghost use Rattle.spec_exchange.specs.Step.{event_answer, ruling, step, with_dead
 ghost use Rattle.spec_wire.specs.journal.Moments.{LeavesOnly};
 ghost use Rattle.server_checks.specs.event_heard.Heard.{event_of, heard_event};
 ghost use Rattle.server_checks.specs.declared.event_heard.event.ServerEvent.{ServerEvent};
-ghost use Rattle.server_records.specs.record_bodies.Body.{fits_by};
+ghost use Rattle.journal.specs.record_bodies.Body.{fits_by};
 ghost use Rattle.server_checks.specs.Shown.{TablesShown};
 ghost use Rattle.server_core.specs.event_step.Behind.{ExpiryAsks};
 ghost use Rattle.server_core.specs.event_step.Early.{HasMemory, is_refused_early};
-ghost use Rattle.server_recovery.specs.journaled_tables.Holds.{EventAnswers, EventLeavesBodies, JournaledGoesOn};
+ghost use Rattle.server_core.specs.journaled_tables.Holds.{EventAnswers, EventLeavesBodies, JournaledGoesOn};
 ghost use Rattle.law_server.specs.tables.Fits.{Fits};
 ghost use Rattle.server_plan.specs.Plans.{PlanFor};
 ghost use Rattle.server_plan.specs.preparing.Preparing.{wants_memory_by};
@@ -20,12 +20,12 @@ ghost use Rattle.spec_world.specs.Ends.{Logons};
 use crate::behind_expiry::{Plan, ServerState, plan_event, plan_law};
 use crate::commit_event::commit;
 use crate::event_memory::make_room;
+use crate::next_body::behind_law;
 use base_outside::Disk;
+use journal::body_law;
 use law_records::{carried_law, expiring_law, keeps_law, stands_law};
 use server_checks::{Asked, EventError};
 use server_effects::Answer;
-use server_records::body_law;
-use server_recovery::behind_law;
 
 // An event in front of which no open expires.
 pub(crate) fn event_alone<D: Disk>(

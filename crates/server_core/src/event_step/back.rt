@@ -8,10 +8,10 @@ ghost use Rattle.server_checks.specs.event_heard.Heard.{event_of, heard_event};
 ghost use Rattle.server_checks.specs.declared.event_heard.event.ServerEvent.{ServerEvent};
 ghost use Rattle.server_core.specs.event_step.Apart.{ServerApart};
 ghost use Rattle.server_core.specs.event_step.Behind.{BehindEnds, HasFront, MayExpire, StaysWhereNone, Without, both_from};
-ghost use Rattle.server_recovery.specs.journaled_tables.Holds.{EventLeavesBodies, JournaledGoesOn};
-ghost use Rattle.server_recovery.specs.journaled_tables.Rooms.{HasRoomToWrite};
+ghost use Rattle.server_core.specs.journaled_tables.Holds.{EventLeavesBodies, JournaledGoesOn};
+ghost use Rattle.server_core.specs.journaled_tables.Rooms.{HasRoomToWrite};
 ghost use Rattle.server_effects.specs.prepared_event.Prepared.{RoomToCarry};
-ghost use Rattle.server_records.specs.body_writing.Bodies.{IsLack};
+ghost use Rattle.server_core.specs.body_writing.Bodies.{IsLack};
 ghost use Rattle.spec_crypto.specs.tokens.Tokens.{Users};
 ghost use Rattle.spec_world.specs.Ends.{Logons};
 
@@ -19,12 +19,12 @@ use crate::behind_expiry::{Both, ServerState};
 use crate::event_step::both::carry_both;
 use crate::event_step::expiring::Behind;
 use crate::expiry_alone::take_back;
+use crate::next_body::behind_law;
 use base_outside::Disk;
+use journal::body_law;
 use law_records::{dated_law, expiring_law, keeps_law, stands_law};
 use server_checks::{Asked, EventError};
 use server_effects::Expired;
-use server_records::body_law;
-use server_recovery::behind_law;
 use wire_bytes::Bytes;
 
 // The event, with its body behind the expiry's, as an end of both.

@@ -6,20 +6,20 @@ ghost use Rattle.server_checks.specs.event_heard.Heard.{heard_event};
 ghost use Rattle.server_checks.specs.declared.event_heard.event.ServerEvent.{ServerEvent};
 ghost use Rattle.server_core.specs.event_step.Apart.{ServerApart};
 ghost use Rattle.server_core.specs.event_step.Behind.{MayExpire};
-ghost use Rattle.server_recovery.specs.journaled_tables.Holds.{EventAnswers, EventLeavesBodies, JournaledGoesOn};
-ghost use Rattle.server_recovery.specs.journaled_tables.Rooms.{HasRoomToWrite};
+ghost use Rattle.server_core.specs.journaled_tables.Holds.{EventAnswers, EventLeavesBodies, JournaledGoesOn};
+ghost use Rattle.server_core.specs.journaled_tables.Rooms.{HasRoomToWrite};
 ghost use Rattle.server_effects.specs.prepared_event.Prepared.{RoomToCarry};
 ghost use Rattle.spec_crypto.specs.tokens.Tokens.{Users};
 ghost use Rattle.spec_world.specs.Ends.{Logons};
 
 use crate::behind_expiry::{Both, ServerState, ruling_law};
 use crate::commit_event::{commit, dated_effects_law};
+use crate::next_body::behind_law;
 use base_outside::Disk;
+use journal::body_law;
 use law_records::{carried_law, expiring_law, keeps_law, stands_law};
 use server_checks::{Asked, EventError};
 use server_effects::{Answer, Expired, give_up};
-use server_records::body_law;
-use server_recovery::behind_law;
 
 // The open stays out, and the event follows, with one body for both.
 pub(crate) fn carry_both<D: Disk>(

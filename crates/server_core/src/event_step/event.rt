@@ -9,7 +9,7 @@ ghost use Rattle.server_checks.specs.declared.event_heard.event.ServerEvent.{Ser
 ghost use Rattle.server_checks.specs.Shown.{TablesShown};
 ghost use Rattle.server_core.specs.event_step.Behind.{ExpiryAsks, MayExpire};
 ghost use Rattle.server_core.specs.event_step.Early.{HasMemory, is_refused_early};
-ghost use Rattle.server_recovery.specs.journaled_tables.Holds.{EventAnswers, EventLeavesBodies, JournaledGoesOn, JournaledHolds};
+ghost use Rattle.server_core.specs.journaled_tables.Holds.{EventAnswers, EventLeavesBodies, JournaledGoesOn, JournaledHolds};
 ghost use Rattle.law_server.specs.tables.Fits.{Fits};
 ghost use Rattle.spec_crypto.specs.tokens.Tokens.{Users};
 ghost use Rattle.spec_world.specs.Ends.{Logons};

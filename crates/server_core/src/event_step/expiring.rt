@@ -6,18 +6,19 @@ ghost use Rattle.store_opens.specs.open_table.Shown.{HasOpensRoom};
 ghost use Rattle.server_checks.specs.event_heard.Heard.{heard_event};
 ghost use Rattle.server_checks.specs.declared.event_heard.event.ServerEvent.{ServerEvent};
 ghost use Rattle.server_core.specs.event_step.Behind.{ExpiryAsks, BehindEnds, HasFront, IsExpiryFront, MayExpire, StaysWhereNone, Without};
-ghost use Rattle.server_recovery.specs.journaled_tables.Holds.{EventLeavesBodies, JournaledGoesOn};
-ghost use Rattle.server_recovery.specs.journaled_tables.Rooms.{HasRoomToWrite};
+ghost use Rattle.server_core.specs.journaled_tables.Holds.{EventLeavesBodies, JournaledGoesOn};
+ghost use Rattle.server_core.specs.journaled_tables.Rooms.{HasRoomToWrite};
 ghost use Rattle.spec_crypto.specs.tokens.Tokens.{Users};
 ghost use Rattle.spec_world.specs.Ends.{Logons};
 
 use crate::behind_expiry::{ServerState, fits, front_body, ready_behind};
+use crate::body_writing::reserve_body;
 use crate::event_step::back::{carry_behind, lack_behind, none_behind};
 use base_outside::Disk;
+use journal::body_law;
 use law_records::{expiring_law, keeps_law};
 use server_checks::{Asked, EventError};
 use server_effects::{Answer, Expired, take_expired};
-use server_records::{body_law, reserve_body};
 use wire_bytes::Bytes;
 
 // What became of an event behind the expiry of an open.

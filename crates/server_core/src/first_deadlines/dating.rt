@@ -7,9 +7,9 @@ ghost use Rattle.server_checks.specs.declared.event_heard.asked.LogonPart.{Logon
 ghost use Rattle.server_checks.specs.declared.event_heard.event.ServerEvent.{ServerEvent};
 ghost use Rattle.server_effects.specs.Carried.{Carried};
 ghost use Rattle.server_checks.specs.setups.Setups.{progress_of};
-ghost use Rattle.server_recovery.specs.journaled_tables.Beside.{BesideCarried};
-ghost use Rattle.server_recovery.specs.journaled_tables.Heard.{IsJournaledHeard};
-ghost use Rattle.server_recovery.specs.journaled_tables.Rulings.{MayRule};
+ghost use Rattle.server_core.specs.journaled_tables.Beside.{BesideCarried};
+ghost use Rattle.server_core.specs.journaled_tables.Heard.{IsJournaledHeard};
+ghost use Rattle.server_core.specs.journaled_tables.Rulings.{MayRule};
 ghost use Rattle.law_server.specs.tables.Fits.{Fits};
 ghost use Rattle.server_effects.specs.prepared_event.Prepared.{IsPrepared, RoomToCarry, prepared_ruling};
 ghost use Rattle.server_plan.specs.rulings.Rulings.{AbleToRule};

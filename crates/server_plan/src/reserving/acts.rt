@@ -10,9 +10,9 @@ ghost use Rattle.spec_exchange.specs.Verdict as verdicts;
 ghost use Rattle.server_checks.specs.Shown.{TablesShown};
 ghost use Rattle.server_checks.specs.verdicts.Views.{bytes_in, change_of, path_in};
 
+use crate::owed_records::bytes_of;
 use crate::reserving::request::path_of;
 use server_checks::{Change, Tables};
-use server_effects::bytes_of;
 use std::alloc::AllocError;
 use wire_commands::{Basic, Message};
 

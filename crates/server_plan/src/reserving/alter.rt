@@ -13,10 +13,11 @@ ghost use Rattle.server_effects.specs.Able.{AbleToChange};
 ghost use Rattle.server_plan.specs.reserving.Readies.{HasNoStep, IsChangeReady, IsReadyFor, VerdictReadies, TablesKeep};
 ghost use Rattle.server_checks.specs.verdicts.Views.{bytes_in, change_of, path_in};
 
+use crate::owed_records::bytes_of;
 use crate::reserving::acts::change_acts;
 use crate::reserving::request::path_of;
 use server_checks::{Change, Tables};
-use server_effects::{ChangeReady, Ready, bytes_of};
+use server_effects::{ChangeReady, Ready};
 use std::alloc::AllocError;
 use wire_commands::{Body, Message};
 

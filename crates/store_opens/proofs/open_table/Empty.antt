@@ -3,7 +3,6 @@ use Rattle.std.proofs.Common.{◌≡◌, ℕ, nat_eq, Bool, List, [], None, refl
 use Rattle.std.specs.Map.{lookup}
 use Rattle.std.specs.List.{list_any}
 use Rattle.std.specs.HashMap.{HashMap, get}
-use Rattle.std.specs.HashSet as set
 use Rattle.spec_exchange.specs.Fold.{nothing_yet}
 use Rattle.store_opens.specs.declared.open_table.table.Opens.{Opens}
 use Rattle.store_opens.specs.open_table.Shown.{pair_eq, ShowsOpens}

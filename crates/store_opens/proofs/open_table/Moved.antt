@@ -1,7 +1,7 @@
 -- The table behind an open that is attached or comes back, a session's end and the first deadlines.
 use Rattle.store_opens.proofs.open_table.RowLemmas.{tree_attached, tree_detached}
 use Rattle.std.proofs.Common.{◌≡◌, ℕ, ◌==◌, nat_eq, Bool, true, false, not, ◌&&◌, if◌then◌else◌}
-use Rattle.std.proofs.Common.{◌⊎◌, inl, inr, List, Option, Some, None, is_some, refl, sym, ap}
+use Rattle.std.proofs.Common.{◌⊎◌, inl, inr, Option, Some, None, is_some, refl, sym, ap}
 use Rattle.std.proofs.Common.{subst, ◌∙◌, arith, eqb-true}
 use Rattle.std.specs.HashMap.{get, hash_map_len}
 use Rattle.std.specs.HashSet as set

@@ -1,6 +1,6 @@
 //! What the opens of one file hold of it: their count, what they share and deny, and the ranges that they lock.
 ghost use Rattle.std.specs.Prelude.{◌≡◌, ◌+◌, ◌<◌, ◌≤◌, ◌^◌, ◌==◌, ℕ, List, ◌∷◌, [], length, true, false, None, Some};
-ghost use Rattle.std.specs.Prelude.{is_some, if◌then◌else◌, nat_eq, nat_lt};
+ghost use Rattle.std.specs.Prelude.{is_some, if◌then◌else◌, nat_eq};
 ghost use Rattle.std.specs.HashMap.{get, spare};
 ghost use Rattle.spec_exchange.specs.State as model;
 ghost use Rattle.spec_exchange.specs.Ranges.{without_owner};

@@ -4,7 +4,7 @@ ghost use Rattle.std.specs.HashMap.{get, spare};
 ghost use Rattle.std.specs.BTreeSet.{contains};
 ghost use Rattle.std.specs.Ordering.{nat_cmp};
 ghost use Rattle.spec_exchange.specs.Table.{put};
-ghost use Rattle.store_opens.specs.open_index.Keep.{SessionIs, ResultShown, HasKeepPlace};
+ghost use Rattle.store_opens.specs.open_index.Keep.{SessionIs};
 
 use std::alloc::{AllocError, Global};
 use std::collections::{BTreeSet, HashMap};

@@ -1,6 +1,6 @@
 //! Small steps on the rows of the sessions.
-ghost use Rattle.std.specs.Prelude.{◌≡◌, ◌+◌, ◌<◌, ◌==◌, ℕ, Bool, Option, true, false, None, Some, OnOk, is_some};
-ghost use Rattle.std.specs.Prelude.{IsSome, if◌then◌else◌, nat_eq};
+ghost use Rattle.std.specs.Prelude.{◌≡◌, ◌<◌, ◌==◌, ℕ, Bool, Option, true, false, None, Some, OnOk, is_some};
+ghost use Rattle.std.specs.Prelude.{if◌then◌else◌, nat_eq};
 ghost use Rattle.std.specs.HashMap.{get, spare};
 ghost use Rattle.spec_exchange.specs.Table.{put};
 ghost use Rattle.store_opens.specs.open_index.Keep.{SessionShown, SessionsGrow, SessionsCount, ClosesGuid, RefusesGuid};

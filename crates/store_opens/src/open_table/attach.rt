@@ -1,5 +1,5 @@
 //! Room in the rows of sessions, and opens that are attached.
-ghost use Rattle.std.specs.Prelude.{◌≡◌, ◌+◌, ◌<◌, ◌==◌, ℕ, true, false, not, ◌&&◌, if◌then◌else◌, nat_eq, None, Some};
+ghost use Rattle.std.specs.Prelude.{◌≡◌, ◌<◌, ◌==◌, ℕ, true, false, not, ◌&&◌, if◌then◌else◌, nat_eq, None, Some};
 ghost use Rattle.std.specs.Prelude.{OnOk, MatchResult, is_some};
 ghost use Rattle.spec_exchange.specs.State.{Server};
 ghost use Rattle.spec_exchange.specs.Table.{is_at};

@@ -2,7 +2,6 @@
 ghost use Rattle.std.specs.Prelude.{◌≡◌, ◌≤◌, ◌==◌, ℕ, true, false, Option, Some, is_some, map, IfSome, MatchResult, if◌then◌else◌, nat_eq};
 ghost use Rattle.std.specs.HashMap.{get, hash_map_len};
 ghost use Rattle.spec_exchange.specs.State.{Server, Kept};
-ghost use Rattle.spec_exchange.specs.CheckOpen.{is_stale};
 ghost use Rattle.spec_exchange.specs.Effects.{keep_slot, set_ranges};
 ghost use Rattle.store_opens.specs.channel_sequence.Offered.{offered};
 ghost use Rattle.spec_exchange.specs.Table.{is_filled, put};

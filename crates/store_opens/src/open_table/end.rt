@@ -1,5 +1,5 @@
 //! A session's end, as its opens see it.
-ghost use Rattle.std.specs.Prelude.{◌≡◌, ◌==◌, ◌⊎◌, ℕ, true, false, ◌++◌, ◌∷◌, [], None, Some, IfOk, OnOk, if◌then◌else◌, nat_eq};
+ghost use Rattle.std.specs.Prelude.{◌≡◌, ◌==◌, ◌⊎◌, ℕ, false, ◌++◌, ◌∷◌, [], None, Some, IfOk, OnOk, if◌then◌else◌, nat_eq};
 ghost use Rattle.spec_exchange.specs.State.{Server};
 ghost use Rattle.spec_exchange.specs.Effects.{plain_of, plain_in, leaves};
 ghost use Rattle.law_server.specs.tables.Fits.{Fits};
@@ -7,7 +7,6 @@ ghost use Rattle.store_opens.specs.open_table.Shown.{ShowsOpens};
 ghost use Rattle.store_opens.specs.open_table.Changes.{detached, first_above, HasNoPlain};
 ghost use Rattle.store_opens.specs.open_table.Rows.{detached_row};
 ghost use Rattle.store_opens.specs.open_table.Due.{IndexGrows, deadline_at};
-ghost use Rattle.store_opens.specs.open_index.Index.{indexes};
 ghost use Rattle.std.specs.HashMap.{get, hash_map_len};
 ghost use Rattle.spec_exchange.specs.Table.{has};
 ghost use Rattle.std.specs.BTreeSet.{IsOrdered};

@@ -1,17 +1,13 @@
 //! Opens that leave.
-ghost use Rattle.std.specs.Prelude.{◌≡◌, ◌+◌, ◌==◌, ◌∷◌, ℕ, List, true, false, None, Some, OnOk, IfSome, IfNone};
-ghost use Rattle.std.specs.Prelude.{MatchResult, if◌then◌else◌, nat_eq};
-ghost use Rattle.spec_exchange.specs.State as model;
+ghost use Rattle.std.specs.Prelude.{◌≡◌, ℕ, true, false, None, Some, OnOk, IfSome, IfNone};
+ghost use Rattle.std.specs.Prelude.{MatchResult, nat_eq};
 ghost use Rattle.spec_exchange.specs.State.{Server};
-ghost use Rattle.std.specs.HashMap.{get, hash_map_len};
-ghost use Rattle.spec_exchange.specs.Opens.{drop_open, with_guid};
-ghost use Rattle.spec_exchange.specs.Ranges.{without_owner};
-ghost use Rattle.store_opens.specs.declared.share_modes.lists.Open.{Open};
-ghost use Rattle.store_opens.specs.open_table.Rows.{open_of};
-ghost use Rattle.store_opens.specs.open_index.Held.{HeldShown, sharing_of};
+ghost use Rattle.std.specs.HashMap.{get};
+ghost use Rattle.spec_exchange.specs.Opens.{drop_open};
+ghost use Rattle.store_opens.specs.open_index.Held.{sharing_of};
 ghost use Rattle.store_opens.specs.open_index.Index.{indexes};
 ghost use Rattle.law_server.specs.tables.Fits.{Fits};
-ghost use Rattle.store_opens.specs.open_table.Shown.{pair_eq, ShowsOpens, HasOpensRoom, HasExpiredRoom};
+ghost use Rattle.store_opens.specs.open_table.Shown.{ShowsOpens, HasOpensRoom, HasExpiredRoom};
 ghost use Rattle.store_opens.specs.open_table.Changes.{open_closed};
 ghost use Rattle.store_opens.specs.open_table.Left.{Left};
 ghost use Rattle.store_opens.specs.open_index.Keep.{ClosesGuid};

@@ -1,6 +1,6 @@
 //! What the table tells. None of it takes memory but what hands out lists.
 ghost use Rattle.spec_exchange.specs.Table.{is_at};
-ghost use Rattle.std.specs.Prelude.{◌&&◌, ◌≡◌, IsSome, ◌<◌, ◌≤◌, ◌==◌, ℕ, true, false, not, is_some, None, Some, map, length};
+ghost use Rattle.std.specs.Prelude.{◌&&◌, ◌≡◌, IsSome, ◌<◌, ◌≤◌, ◌==◌, ℕ, true, false, None, Some, map, length};
 ghost use Rattle.std.specs.Prelude.{nat_le, MatchResult, if◌then◌else◌, option_copied, nat_eq};
 ghost use Rattle.std.specs.HashMap.{get};
 ghost use Rattle.spec_exchange.specs.State.{Server};

@@ -1,16 +1,16 @@
 //! Opens that a create makes, or that the journal tells.
-ghost use Rattle.std.specs.Prelude.{◌≡◌, ◌+◌, ◌<◌, ◌≤◌, ◌==◌, ◌^◌, ◌∷◌, ℕ, List, length, if◌then◌else◌, true, false};
-ghost use Rattle.std.specs.Prelude.{None, Some, OnOk, IfOk, MatchResult, is_some, nat_le, nat_lt, nat_eq, vec_len};
+ghost use Rattle.std.specs.Prelude.{◌≡◌, ◌+◌, ◌<◌, ◌==◌, ◌^◌, ◌∷◌, ℕ, List, length, if◌then◌else◌, true, false};
+ghost use Rattle.std.specs.Prelude.{None, Some, OnOk, IfOk, MatchResult, nat_le, nat_eq, vec_len};
 ghost use Rattle.std.specs.Prelude.{vec_capacity};
 ghost use Rattle.spec_exchange.specs.State.{Server, Range};
 ghost use Rattle.std.specs.HashMap.{get, hash_map_len};
 ghost use Rattle.spec_exchange.specs.Table.{has};
-ghost use Rattle.spec_exchange.specs.Opens.{max_ids, with_guid};
+ghost use Rattle.spec_exchange.specs.Opens.{with_guid};
 ghost use Rattle.spec_exchange.specs.CheckCreate.{max_guids};
 ghost use Rattle.spec_exchange.specs.Effects.{next_open, keep_refusal};
 ghost use Rattle.law_server.specs.tables.Fits.{Fits};
-ghost use Rattle.store_opens.specs.open_table.Shown.{pair_eq, ShowsOpens, HasOpensRoom, HasRoomIn, HasOpensSessionRoom};
-ghost use Rattle.store_opens.specs.open_table.Shown.{HasResultRoom, next_of};
+ghost use Rattle.store_opens.specs.open_table.Shown.{pair_eq, ShowsOpens, HasOpensRoom, HasRoomIn};
+ghost use Rattle.store_opens.specs.open_table.Shown.{next_of};
 ghost use Rattle.store_opens.specs.open_table.Rows.{IsOpenNewRow, IsRestoredRow, open_of};
 ghost use Rattle.store_opens.specs.open_index.Held.{HeldShown, sharing_of};
 ghost use Rattle.store_opens.specs.declared.share_modes.lists.Open.{Open};

@@ -1,4 +1,3 @@
-ghost use Rattle.std.specs.Prelude.{◌≡◌};
 ghost use Rattle.spec_exchange.specs.Fold.{nothing_yet};
 ghost use Rattle.store_opens.specs.open_table.Shown.{ShowsOpens};
 

@@ -51,7 +51,7 @@ impl Model for Ranges {
 }
 
 impl Ranges {
-    ghost use Rattle.std.specs.Prelude.{◌≡◌, [], None, Some, IfErr, OnOk, IfOk, MatchResult, filter, not, ◌==◌};
+    ghost use Rattle.std.specs.Prelude.{◌≡◌, [], None, Some, IfErr, OnOk, MatchResult, filter, not, ◌==◌};
     ghost use Rattle.store_opens.specs.share_modes.Locking.{lock_outcome, unlock_outcome, Stands, RefusedBy, IsConflict};
     ghost use Rattle.store_opens.specs.share_modes.Locking.{read_conflict, write_conflict};
 

@@ -1,6 +1,6 @@
 ghost use Rattle.std.specs.Prelude.{◌≡◌, MatchResult, Some, None, position, if◌then◌else◌};
 ghost use Rattle.spec_exchange.specs.Content.{meets};
-ghost use Rattle.store_opens.specs.share_modes.Locking.{locking_overlaps, first_conflict, locking_wraps, first_wrapping};
+ghost use Rattle.store_opens.specs.share_modes.Locking.{first_conflict, locking_wraps, first_wrapping};
 ghost use Rattle.store_opens.specs.share_modes.Locking.{locking_granted, released, is_equal, without_first};
 ghost use Rattle.store_opens.specs.share_modes.Locking.{Stands, RefusedBy, read_conflict, write_conflict};
 

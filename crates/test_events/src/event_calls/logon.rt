@@ -8,9 +8,10 @@ use server_checks::SetupHeard;
 use spec_crypto::{Chosen, Keys, Signer};
 use spec_wire::Header;
 use std::alloc::{AllocError, Global};
-use wire_bytes::{Bytes, read_header, write_header};
+use wire_bytes::{
+    Bytes, SessionSetupRequest, read_header, write_header, write_session_setup_request,
+};
 use wire_commands::{Request, request_of};
-use wire_messages::{SessionSetupRequest, write_session_setup_request};
 
 const SIGNED: u32 = 8;
 

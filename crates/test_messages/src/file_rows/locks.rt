@@ -2,8 +2,7 @@
 use crate::words::{bytes_of, push_digits};
 use std::alloc::{AllocError, Global};
 use std::fmt::Write;
-use wire_bytes::Bytes;
-use wire_messages::{lock_element_at, push_lock_element};
+use wire_bytes::{Bytes, lock_element_at, push_lock_element};
 
 // Puts the element at an index, and behind others how it is written.
 fn push_element(

@@ -1,7 +1,7 @@
 //! The messages of CREATE to LOCK: what is read, written again.
 use crate::vectors::{refused, told, unwritten};
 use std::alloc::{AllocError, Global};
-use wire_messages::file_messages::*;
+use wire_bytes::file_messages::*;
 
 fn create_request(said: &mut String, alloc: Global, m: &[u8]) -> Result<(), AllocError> {
     both_ways!(said, alloc, m, read_create_request, write_create_request, v => v.name.len() < 0x1_0000 && v.contexts.len() < 0x1_0000_0000)

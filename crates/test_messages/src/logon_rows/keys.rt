@@ -7,7 +7,7 @@ use crypto_ciphers::kdf;
 use crypto_sessions::{Chain, Chosen, Keys, Nonces, Signer, bind, derive, sign, verify};
 use std::alloc::{AllocError, Global};
 use std::fmt::Write;
-use wire_messages::{Numbers, Offer, choose};
+use wire_bytes::{Numbers, Offer, choose};
 
 // The chain takes the message of a word; `none` is no message.
 fn take(chain: &mut Chain, alloc: Global, word: &str) -> Result<(), AllocError> {

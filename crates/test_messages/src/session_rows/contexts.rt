@@ -3,7 +3,7 @@ use crate::vectors::{refused, unwritten};
 use crate::words::{bytes_in, push_bytes, short};
 use std::alloc::{AllocError, Global};
 use std::fmt::Write;
-use wire_messages::{Offer, read_contexts, write_contexts};
+use wire_bytes::{Offer, read_contexts, write_contexts};
 
 /// What an offer holds; behind it the offer as it is written, where SHA-512 is offered.
 fn push_offer(said: &mut String, alloc: Global, offer: &Offer) -> Result<(), AllocError> {

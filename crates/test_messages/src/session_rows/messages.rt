@@ -1,7 +1,7 @@
 //! The messages of the dialog and of trees, and the error response: what is read, written again.
 use crate::vectors::{refused, told, unwritten};
 use std::alloc::{AllocError, Global};
-use wire_messages::session_messages::*;
+use wire_bytes::session_messages::*;
 
 fn negotiate_request(said: &mut String, alloc: Global, m: &[u8]) -> Result<(), AllocError> {
     both_ways!(said, alloc, m, read_negotiate_request, write_negotiate_request, v => v.dialects.len() % 2 == 0 && v.dialects.len() > 0 && v.dialects.len() < 2 * 0x1_0000)

@@ -4,7 +4,7 @@ use client_tables::Table;
 use client_values::{Outcome, Why};
 use std::alloc::AllocError;
 use std::fmt::Write;
-use wire_messages::Refusal;
+use wire_bytes::Refusal;
 
 /// How each operation settled of which nothing was told yet.
 pub fn push_news<P: Plays>(said: &mut String, script: &mut Script<P>) -> Result<(), AllocError> {

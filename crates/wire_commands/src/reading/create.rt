@@ -4,7 +4,7 @@ ghost use Rattle.spec_commands.specs.Clashes.{clash_in};
 ghost use Rattle.spec_commands.specs.CommandOf;
 ghost use Rattle.spec_commands.specs.Text.{text_in};
 ghost use Rattle.wire_commands.specs.values.Meaning;
-ghost use Rattle.wire_messages.specs.file_messages.Views.{message_create_request};
+ghost use Rattle.wire_bytes.specs.file_messages.Views.{message_create_request};
 
 use crate::reading::clashes::clash_in;
 use crate::reading::ids::{file_of, guid_of};
@@ -14,8 +14,7 @@ use crate::values::{Command, CreateRequest, Durable, Reconnect};
 use law_commands::same_reading_law;
 use spec_wire::{CreateContexts, Dh2c, Dh2q};
 use std::alloc::{AllocError, Global};
-use wire_bytes::Text;
-use wire_messages::{read_chain, read_create_request};
+use wire_bytes::{Text, read_chain, read_create_request};
 
 // What the contexts say, where none breaks.
 fn contexts_in(bytes: &[u8]) -> Option<CreateContexts>
@@ -54,7 +53,7 @@ fn reconnect_of(asked: Option<Dh2c>) -> Option<Reconnect>
 }
 
 // The command of a name and of contexts that read.
-fn created<'a>(v: &wire_messages::CreateRequest<'_>, path: Text, c: &CreateContexts) -> Command<'a>
+fn created<'a>(v: &wire_bytes::CreateRequest<'_>, path: Text, c: &CreateContexts) -> Command<'a>
     ensures { Meaning.command_of result ≡ CommandOf.created_of (message_create_request v.now) path c.now }
 {
     Command::Create(CreateRequest {
@@ -74,7 +73,7 @@ fn created<'a>(v: &wire_messages::CreateRequest<'_>, path: Text, c: &CreateConte
 // The command of a name and of contexts that read, where these don't clash.
 fn unclashed<'a>(
     alloc: Global,
-    v: &wire_messages::CreateRequest<'_>,
+    v: &wire_bytes::CreateRequest<'_>,
     path: Text,
     contexts: &CreateContexts,
 ) -> Result<Command<'a>, AllocError>
@@ -93,7 +92,7 @@ fn unclashed<'a>(
 // What asks to attach, whose name isn't judged (3.3.5.9.12).
 fn nameless<'a>(
     alloc: Global,
-    v: &wire_messages::CreateRequest<'_>,
+    v: &wire_bytes::CreateRequest<'_>,
     contexts: &CreateContexts,
 ) -> Result<Command<'a>, AllocError>
     requires { CommandOf.contexts_in v.now.contexts.now ≡ Some contexts.now }
@@ -111,7 +110,7 @@ fn nameless<'a>(
 // Of a name that is no text.
 fn create_without_text<'a>(
     alloc: Global,
-    v: &wire_messages::CreateRequest<'_>,
+    v: &wire_bytes::CreateRequest<'_>,
 ) -> Result<Command<'a>, AllocError>
     ensures { IfOk result (λ c. Meaning.command_of c ≡ CommandOf.create_of (message_create_request v.now) None
         (CommandOf.contexts_in v.now.contexts.now) (clash_in v.now.contexts.now)) }
@@ -127,7 +126,7 @@ fn create_without_text<'a>(
 // Of a name that is text.
 fn create_with_text<'a>(
     alloc: Global,
-    v: &wire_messages::CreateRequest<'_>,
+    v: &wire_bytes::CreateRequest<'_>,
     path: Text,
 ) -> Result<Command<'a>, AllocError>
     ensures { IfOk result (λ c. Meaning.command_of c ≡ CommandOf.create_of (message_create_request v.now) (Some path)
@@ -143,7 +142,7 @@ fn create_with_text<'a>(
 
 fn create_of<'a>(
     alloc: Global,
-    v: &wire_messages::CreateRequest<'_>,
+    v: &wire_bytes::CreateRequest<'_>,
 ) -> Result<Command<'a>, AllocError>
     ensures { IfOk result (λ c. Meaning.command_of c ≡ CommandOf.create_of (message_create_request v.now) (text_in v.now.name.now)
         (CommandOf.contexts_in v.now.contexts.now) (clash_in v.now.contexts.now)) }

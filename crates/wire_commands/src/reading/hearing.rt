@@ -12,15 +12,14 @@ use crate::values::{Address, Body, Command, CreateReply, Info, Reply};
 use spec_exchange::values::Basic;
 use spec_wire::Header;
 use std::alloc::{AllocError, Global};
-use wire_bytes::{Bytes, Text};
+use wire_bytes::{
+    Bytes, Text, read_close_response, read_create_response, read_flush_response,
+    read_lock_response, read_logoff_response, read_read_response, read_session_setup_response,
+    read_tree_connect_response, read_tree_disconnect_response, read_write_response,
+};
 use wire_info::{
     read_file_standard_information, read_query_directory_response, read_query_info_response,
     read_set_info_response,
-};
-use wire_messages::{
-    read_close_response, read_create_response, read_flush_response, read_lock_response,
-    read_logoff_response, read_read_response, read_session_setup_response,
-    read_tree_connect_response, read_tree_disconnect_response, read_write_response,
 };
 
 // Of a file a client looks at its length alone.

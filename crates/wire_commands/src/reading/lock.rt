@@ -2,14 +2,14 @@
 ghost use Rattle.std.specs.Prelude.{◌≡◌, ◌/◌, ◌≤◌, length, drop, IfOk};
 ghost use Rattle.spec_commands.specs.CommandOf;
 ghost use Rattle.wire_commands.specs.values.Meaning;
-ghost use Rattle.wire_messages.specs.file_messages.Views.{lock_request};
+ghost use Rattle.wire_bytes.specs.file_messages.Views.{lock_request};
 
 use crate::reading::ids::file_of;
 use crate::reading::status::unreadable;
 use crate::values::Command;
 use spec_exchange::values::Element;
 use std::alloc::{AllocError, Global};
-use wire_messages::{LockRequest, lock_element_at, read_lock_request};
+use wire_bytes::{LockRequest, lock_element_at, read_lock_request};
 
 // The bytes behind an element.
 fn behind(locks: &[u8]) -> &[u8]

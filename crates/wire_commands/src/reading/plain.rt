@@ -6,11 +6,11 @@ ghost use Rattle.wire_commands.specs.values.Meaning;
 use crate::reading::ids::{file_of, has_bit};
 use crate::reading::status::unreadable;
 use crate::values::Command;
-use wire_info::read_ioctl_request;
-use wire_messages::{
+use wire_bytes::{
     read_close_request, read_flush_request, read_logoff_request, read_read_request,
     read_tree_disconnect_request, read_write_request,
 };
+use wire_info::read_ioctl_request;
 
 #[tactic(auto, unfolding(spec_commands::specs::CommandOf::logoff_in), using(crate::proofs::reading::Unless::reads_or_breaks))]
 pub(crate) fn logoff_in(m: &[u8]) -> Command<'_>

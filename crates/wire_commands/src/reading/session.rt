@@ -11,8 +11,7 @@ use crate::reading::texts::{leaf_of, text_in};
 use crate::values::{Command, SetupForm};
 use spec_wire::Header;
 use std::alloc::{AllocError, Global};
-use wire_bytes::Text;
-use wire_messages::{read_echo_request, read_session_setup_request, read_tree_connect_request};
+use wire_bytes::{Text, read_echo_request, read_session_setup_request, read_tree_connect_request};
 
 // What a SESSION_SETUP tells by itself; of a body that doesn't read nothing.
 #[tactic(auto, unfolding(spec_commands::specs::CommandOf::setup_in, spec_exchange::specs::Commands::has_bit), using(crate::proofs::reading::Unless::setup_where_it_breaks))]

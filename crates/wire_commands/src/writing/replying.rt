@@ -21,18 +21,17 @@ use crate::writing::listing::listing_bytes;
 use crate::writing::volume::{interface_bytes, object_id_bytes, volume_bytes};
 use spec_wire::{Dh2qReply, DiskId, MaximalAccess, ReplyContexts};
 use std::alloc::{AllocError, Global};
-use wire_bytes::Bytes;
+use wire_bytes::{
+    Bytes, CloseResponse, CreateResponse, ErrorResponse, FlushResponse, LockResponse,
+    LogoffResponse, ReadResponse, SessionSetupResponse, TreeConnectResponse, WriteResponse,
+    write_close_response, write_create_response, write_error_response, write_flush_response,
+    write_lock_response, write_logoff_response, write_read_response, write_reply_chain,
+    write_session_setup_response, write_tree_connect_response, write_write_response,
+};
 use wire_info::{
     IoctlResponse, QueryDirectoryResponse, QueryInfoResponse, SetInfoResponse,
     write_ioctl_response, write_query_directory_response, write_query_info_response,
     write_set_info_response,
-};
-use wire_messages::{
-    CloseResponse, CreateResponse, ErrorResponse, FlushResponse, LockResponse, LogoffResponse,
-    ReadResponse, SessionSetupResponse, TreeConnectResponse, WriteResponse, write_close_response,
-    write_create_response, write_error_response, write_flush_response, write_lock_response,
-    write_logoff_response, write_read_response, write_reply_chain, write_session_setup_response,
-    write_tree_connect_response, write_write_response,
 };
 
 const SUCCESS: u32 = 0;

@@ -31,7 +31,12 @@ use crate::writing::infos::bit_if;
 use spec_exchange::values::{Basic, Element};
 use spec_wire::{CreateContexts, Dh2c, Dh2q};
 use std::alloc::{AllocError, Global};
-use wire_bytes::{Bytes, Text, utf16_of};
+use wire_bytes::{
+    Bytes, CloseRequest, FlushRequest, LockElement, LockRequest, ReadRequest, Text,
+    TreeConnectRequest, WriteRequest, push_lock_element, utf16_of, write_chain,
+    write_close_request, write_create_request, write_flush_request, write_lock_request,
+    write_read_request, write_tree_connect_request, write_write_request,
+};
 use wire_info::{
     FileAllocationInformation, FileBasicInformation, FileDispositionInformation,
     FileEndOfFileInformation, FileModeInformation, FilePositionInformation, FileRenameInformation,
@@ -40,12 +45,6 @@ use wire_info::{
     write_file_end_of_file_information, write_file_mode_information,
     write_file_position_information, write_file_rename_information, write_query_directory_request,
     write_query_info_request, write_set_info_request,
-};
-use wire_messages::{
-    CloseRequest, FlushRequest, LockElement, LockRequest, ReadRequest, TreeConnectRequest,
-    WriteRequest, push_lock_element, write_chain, write_close_request, write_create_request,
-    write_flush_request, write_lock_request, write_read_request, write_tree_connect_request,
-    write_write_request,
 };
 
 // The path of a share: `\\smb311\` and its name.
@@ -122,7 +121,7 @@ fn create(alloc: Global, r: &CreateRequest) -> Result<Bytes, WriteError>
         return Err(WriteError::Unwritable);
     }
     let contexts = contexts_of(alloc, r)?;
-    let value = wire_messages::CreateRequest {
+    let value = wire_bytes::CreateRequest {
         requested_oplock_level: 0,
         impersonation_level: 2,
         desired_access: r.access,

@@ -2,13 +2,13 @@
 use Rattle.std.proofs.Common.{◌≡◌, ℕ, ◌≤◌, ◌++◌, [], length, arith, sym, ap, subst, ◌∙◌, List, None, Result, Ok, Err, IfOk}
 use Rattle.spec_exchange.specs.Fold.{recovered_from, recovery_records}
 use Rattle.spec_exchange.specs.State as model
-use Rattle.server_recovery.specs.server_start.Begun.{ServerBegins}
+use Rattle.server_core.specs.server_start.Begun.{ServerBegins}
 use Rattle.server_core.specs.declared.disk_server.book.Book.{Book}
 use Rattle.server_checks.specs.declared.tables.Config.{Config}
 use Rattle.server_core.specs.Shown.{config_of, disk_of, state_of}
 use Rattle.server_core.specs.declared.server.Server.{Server}
-use Rattle.server_recovery.specs.journaled_tables.Holds.{JournaledHolds as HoldsState}
-use Rattle.server_recovery.specs.declared.journaled_tables.state.ServerState.{ServerState}
+use Rattle.server_core.specs.journaled_tables.Holds.{JournaledHolds as HoldsState}
+use Rattle.server_core.specs.declared.journaled_tables.state.ServerState.{ServerState}
 use Rattle.base_outside.specs.declared.streams.mem_disk.MemDisk.{MemDisk}
 use Rattle.spec_crypto.specs.tokens.Tokens.{Users}
 use Rattle.world_ends.specs.memory_server.Held.{WorldHolds, may_leave, world_seen, world_told}

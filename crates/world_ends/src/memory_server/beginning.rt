@@ -2,9 +2,9 @@
 ghost use Rattle.std.specs.Prelude.{◌≡◌, ◌++◌, IfOk, List, []};
 ghost use Rattle.spec_exchange.specs.Fold.{recovered, recovered_from, recovery_records};
 ghost use Rattle.spec_exchange.specs.State as model;
-ghost use Rattle.server_recovery.specs.server_start.Begun.{ServerBegins};
+ghost use Rattle.server_core.specs.server_start.Begun.{ServerBegins};
 ghost use Rattle.server_core.specs.Shown.{config_of, state_of};
-ghost use Rattle.server_recovery.specs.restart_tables.Restart.{configuration_of};
+ghost use Rattle.server_core.specs.restart_tables.Restart.{configuration_of};
 ghost use Rattle.spec_crypto.specs.tokens.Tokens.{Users};
 ghost use Rattle.world_ends.specs.memory_server.Held.{WorldHolds, may_leave, world_seen, world_told};
 ghost use Rattle.spec_world.specs.Ends.{Logons};
@@ -12,8 +12,7 @@ ghost use Rattle.spec_world.specs.Ends.{Logons};
 use crate::memory_server::copying::copy_of;
 use base_outside::MemDisk;
 use server_checks::Config;
-use server_core::{Book, Server};
-use server_recovery::begun_law;
+use server_core::{Book, Server, begun_law};
 use std::alloc::{AllocError, Global};
 use wire_bytes::Bytes;
 

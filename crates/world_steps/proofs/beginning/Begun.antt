@@ -9,7 +9,7 @@ use Rattle.spec_exchange.specs.Network.{no_conn, start}
 use Rattle.spec_exchange.specs.State.{Address}
 use Rattle.server_core.specs.declared.disk_server.book.Book.{Book}
 use Rattle.server_checks.specs.declared.tables.Config.{Config}
-use Rattle.server_recovery.specs.restart_tables.Restart.{configuration_of}
+use Rattle.server_core.specs.restart_tables.Restart.{configuration_of}
 use Rattle.base_outside.specs.declared.streams.mem_disk.MemDisk.{MemDisk}
 use Rattle.spec_wire.specs.messages.Places.{number_of}
 use Rattle.std.specs.Prelude.{take}

@@ -12,7 +12,7 @@ use Rattle.spec_exchange.specs.ClientStep.{IsRefused}
 use Rattle.spec_exchange.specs.Network.{client_off}
 use Rattle.spec_exchange.specs.Table.{put}
 use Rattle.client_ends.specs.declared.ends.dialog.Dialog.{Dialog}
-use Rattle.wire_messages.specs.declared.session_messages.refusal.Refusal.{Refusal as DialogRefusal}
+use Rattle.wire_bytes.specs.declared.session_messages.refusal.Refusal.{Refusal as DialogRefusal}
 use Rattle.spec_world.specs.Settings.{WorldSettings}
 use Rattle.spec_world.specs.World as bytes
 use Rattle.spec_world.specs.World.{client_end_off, dialog_off}

@@ -21,7 +21,7 @@ use Rattle.client_ends.specs.declared.ends.config.Bound.{Bound}
 use Rattle.client_ends.specs.declared.ends.dialog.Dialog.{Dialog}
 use Rattle.client_ends.specs.declared.ends.dialog.Stage.{Stage as DialogStage}
 use Rattle.client_ends.specs.declared.ends.line.Line.{Line}
-use Rattle.wire_messages.specs.declared.session_messages.refusal.Refusal.{Refusal as DialogRefusal}
+use Rattle.wire_bytes.specs.declared.session_messages.refusal.Refusal.{Refusal as DialogRefusal}
 use Rattle.spec_crypto.specs.tokens.Tokens.{first_token}
 use Rattle.spec_world.specs.Dialog.{bound_end, dialog_response, noted_heard, paid_in, setup_token}
 use Rattle.spec_world.specs.Ends.{ClientEnd}

@@ -5,7 +5,7 @@ use Rattle.client_ends.specs.ends.Shown.{settings_of}
 use Rattle.client_ends.specs.declared.ends.config.ClientConfig.{ClientConfig}
 use Rattle.client_ends.specs.dialog_requests.Dialogs.{CanOffer}
 use Rattle.server_checks.specs.declared.tables.Config.{Config}
-use Rattle.server_recovery.specs.restart_tables.Restart.{configuration_of}
+use Rattle.server_core.specs.restart_tables.Restart.{configuration_of}
 use Rattle.spec_world.specs.Settings.{WorldSettings}
 use Rattle.world_ends.specs.declared.sides.Channel.{Channel}
 use Rattle.world_ends.specs.declared.sides.ClientSide.TheVariants.{Closed}

@@ -14,7 +14,7 @@ use Rattle.spec_exchange.specs.ClientStep.{Act, CloseChannel}
 use Rattle.client_ends.specs.ends.Shown.{ShowsDialog}
 use Rattle.client_ends.specs.declared.ends.dialog.Dialog.{Dialog}
 use Rattle.client_ends.specs.declared.ends.line.Line.{Line}
-use Rattle.wire_messages.specs.declared.session_messages.refusal.Refusal.{Refusal}
+use Rattle.wire_bytes.specs.declared.session_messages.refusal.Refusal.{Refusal}
 use Rattle.spec_crypto.specs.declared.sessions.material.Keys.{Keys}
 use Rattle.spec_world.specs.Ends.{ClientEnd}
 use Rattle.world_ends.specs.declared.sides.Channel.{Channel}

@@ -9,7 +9,7 @@ use crate::happen;
 use crate::opening::{Act, Channel, ClientSide, Event, Played, World, WorldError, put_channel};
 use client_ends::Line;
 use std::alloc::Global;
-use wire_messages::Refusal;
+use wire_bytes::Refusal;
 
 /// The connection whose dialog makes a session, behind the end of this one.
 fn made_without(making: Option<u32>, k: u32) -> Option<u32>

@@ -1,7 +1,7 @@
 use Rattle.std.proofs.Common.{Result, Some, subst}
 use Rattle.std.specs.Prelude.{is_some}
 use Rattle.spec_exchange.specs.Client.{SaidFirst}
-use Rattle.wire_messages.specs.declared.session_messages.refusal.Refusal.{Refusal}
+use Rattle.wire_bytes.specs.declared.session_messages.refusal.Refusal.{Refusal}
 use Rattle.spec_world.specs.Dialog.{response_in}
 use Rattle.client_ends.specs.declared.response_faults.setup.Begun.{Begun}
 use Rattle.client_ends.specs.response_faults.Judging.{JudgesInterim}

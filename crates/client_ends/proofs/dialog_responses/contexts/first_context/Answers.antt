@@ -1,8 +1,8 @@
 use Rattle.std.proofs.Common.{◌≡◌, ◌-◌, ◌<◌, ◌≤◌, suc, ℕ, ◌∷◌, true, Some, length, sym, ap, ◌∙◌, arith}
 use Rattle.spec_wire.specs.messages.Contexts.{contexts_in, contexts_end}
 use Rattle.spec_wire.specs.messages.Offer.{all_fit, lists_fit, first_of}
-use Rattle.wire_messages.proofs.negotiate_contexts.Walk.{context, IsNext, next_context, no_context, walks_on, walks_past, fit_each}
-use Rattle.wire_messages.proofs.negotiate_contexts.Walk.{first_here, first_later, first_none}
+use Rattle.wire_bytes.proofs.negotiate_contexts.Walk.{context, IsNext, next_context, no_context, walks_on, walks_past, fit_each}
+use Rattle.wire_bytes.proofs.negotiate_contexts.Walk.{first_here, first_later, first_none}
 use Rattle.client_ends.proofs.dialog_responses.contexts.first_context.Goals as goal
 
 pub returns-in_default : goal.returns-in_default

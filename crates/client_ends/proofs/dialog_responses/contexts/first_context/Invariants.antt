@@ -1,7 +1,7 @@
 use Rattle.std.proofs.Common.{◌≡◌, true}
 use Rattle.spec_wire.specs.messages.Contexts.{contexts_in}
 use Rattle.spec_wire.specs.messages.Offer.{all_fit, first_of}
-use Rattle.wire_messages.proofs.negotiate_contexts.Walk.{Walks}
+use Rattle.wire_bytes.proofs.negotiate_contexts.Walk.{Walks}
 use Rattle.client_ends.proofs.dialog_responses.contexts.first_context.Given as goal
 
 abbrev pub invariant-loop-left : goal.invariant-loop-left

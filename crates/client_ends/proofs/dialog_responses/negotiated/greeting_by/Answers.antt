@@ -1,7 +1,7 @@
 use Rattle.std.proofs.Common.{sym}
 use Rattle.client_values.specs.outcomes.Meaning.{refusal_of}
-use Rattle.wire_messages.specs.session_messages.Views.{negotiate_response}
-use Rattle.wire_messages.specs.negotiate_contexts.Views.{offer}
+use Rattle.wire_bytes.specs.session_messages.Views.{negotiate_response}
+use Rattle.wire_bytes.specs.negotiate_contexts.Views.{offer}
 use Rattle.client_ends.specs.ends.Shown.{settings_of}
 use Rattle.client_ends.proofs.dialog_responses.Greetings.{chosen_else, hint_turns}
 use Rattle.client_ends.proofs.dialog_responses.negotiated.greeting_by.Goals as goal

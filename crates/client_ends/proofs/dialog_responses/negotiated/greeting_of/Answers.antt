@@ -1,7 +1,7 @@
 use Rattle.std.proofs.Common.{Result, subst}
-use Rattle.wire_messages.specs.session_messages.Views.{negotiate_response}
-use Rattle.wire_messages.specs.declared.negotiate_contexts.offer.Offer.{Offer}
-use Rattle.wire_messages.specs.negotiate_contexts.Views.{ReadsOffer}
+use Rattle.wire_bytes.specs.session_messages.Views.{negotiate_response}
+use Rattle.wire_bytes.specs.declared.negotiate_contexts.offer.Offer.{Offer}
+use Rattle.wire_bytes.specs.negotiate_contexts.Views.{ReadsOffer}
 use Rattle.spec_wire.specs.declared.messages.refusal.CtxError.{CtxError}
 use Rattle.client_ends.specs.ends.Shown.{settings_of}
 use Rattle.client_ends.proofs.dialog_responses.Greetings.{unread}

@@ -1,5 +1,5 @@
 use Rattle.spec_wire.specs.messages.Negotiate.{negotiate_response_fault, negotiate_response_in}
-use Rattle.wire_messages.specs.session_messages.Views.{negotiate_response}
+use Rattle.wire_bytes.specs.session_messages.Views.{negotiate_response}
 use Rattle.client_ends.proofs.dialog_responses.Greetings.{no_fault, some_fault}
 use Rattle.client_ends.proofs.dialog_responses.negotiated.response_in.Goals as goal
 

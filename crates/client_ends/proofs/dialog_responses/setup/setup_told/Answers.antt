@@ -1,5 +1,5 @@
 use Rattle.spec_wire.specs.messages.SessionSetup.{session_setup_response_fault, session_setup_response_in}
-use Rattle.wire_messages.specs.session_messages.Views.{session_setup_response}
+use Rattle.wire_bytes.specs.session_messages.Views.{session_setup_response}
 use Rattle.client_ends.proofs.dialog_responses.Greetings.{no_fault, some_fault}
 use Rattle.client_ends.proofs.dialog_responses.Setups.{token_is, flags_are}
 use Rattle.client_ends.proofs.dialog_responses.setup.setup_told.Goals as goal

@@ -1,6 +1,6 @@
 use Rattle.std.proofs.Common.{Result, subst}
 use Rattle.spec_crypto.specs.declared.sessions.choice.Chosen.{Chosen}
-use Rattle.wire_messages.specs.declared.session_messages.refusal.Refusal.{Refusal}
+use Rattle.wire_bytes.specs.declared.session_messages.refusal.Refusal.{Refusal}
 use Rattle.client_ends.specs.ends.Shown.{settings_of}
 use Rattle.client_ends.specs.dialog_responses.Greeting.{Greets}
 use Rattle.client_ends.proofs.response_faults.Greetings.{found, refused}

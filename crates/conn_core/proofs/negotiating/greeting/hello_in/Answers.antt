@@ -1,8 +1,8 @@
 use Rattle.std.proofs.Common.{subst, ap, arith, length, Result}
 use Rattle.spec_wire.specs.declared.messages.refusal.CtxError.{CtxError}
-use Rattle.wire_messages.specs.session_messages.Views.{negotiate_request}
-use Rattle.wire_messages.specs.declared.negotiate_contexts.offer.Offer.{Offer}
-use Rattle.wire_messages.specs.negotiate_contexts.Views.{ReadsOffer}
+use Rattle.wire_bytes.specs.session_messages.Views.{negotiate_request}
+use Rattle.wire_bytes.specs.declared.negotiate_contexts.offer.Offer.{Offer}
+use Rattle.wire_bytes.specs.negotiate_contexts.Views.{ReadsOffer}
 use Rattle.conn_core.proofs.negotiating.Hellos.{unread_contexts}
 use Rattle.conn_core.proofs.negotiating.greeting.hello_in.Goals as goal
 

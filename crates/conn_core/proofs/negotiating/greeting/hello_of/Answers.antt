@@ -1,6 +1,6 @@
 use Rattle.std.proofs.Common.{◌∙◌, sym, refl, ap, arith, length}
-use Rattle.wire_messages.specs.session_messages.Views.{negotiate_request}
-use Rattle.wire_messages.specs.negotiate_contexts.Views.{offer}
+use Rattle.wire_bytes.specs.session_messages.Views.{negotiate_request}
+use Rattle.wire_bytes.specs.negotiate_contexts.Views.{offer}
 use Rattle.conn_core.proofs.negotiating.Hellos.{no_choice, chosen_hello, told_offer, told_choice}
 use Rattle.conn_core.proofs.negotiating.greeting.hello_of.Goals as goal
 

@@ -1,6 +1,6 @@
 use Rattle.std.proofs.Common.{ap, arith, length}
 use Rattle.spec_wire.specs.messages.Negotiate.{negotiate_request_in}
-use Rattle.wire_messages.specs.session_messages.Views.{negotiate_request}
+use Rattle.wire_bytes.specs.session_messages.Views.{negotiate_request}
 use Rattle.conn_core.proofs.negotiating.Hellos.{unreadable}
 use Rattle.conn_core.proofs.negotiating.greeting.hello_to.Goals as goal
 

@@ -1,5 +1,5 @@
 use Rattle.std.proofs.Common.{◌∙◌, ◌≡◌, ◌≤◌, ◌<◌, length, arith, rules}
-use Rattle.wire_messages.specs.negotiate_contexts.Views.{offer}
+use Rattle.wire_bytes.specs.negotiate_contexts.Views.{offer}
 use Rattle.conn_core.proofs.negotiating.Made.{if_ok_by}
 use Rattle.conn_core.proofs.negotiating.Responses.{contexts_short, response_short, response_value, response_is}
 use Rattle.conn_core.proofs.negotiating.greeting.response_body.Goals as goal

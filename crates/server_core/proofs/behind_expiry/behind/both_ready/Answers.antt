@@ -2,7 +2,7 @@ use Rattle.std.proofs.Common.{ℕ, ap, length, subst, sym, ◌∙◌}
 use Rattle.spec_exchange.specs.Step as steps
 use Rattle.server_checks.specs.event_heard.Heard.{event_of}
 use Rattle.server_core.proofs.behind_expiry.behind.both_ready.Goals as goal
-use Rattle.server_records.specs.record_bodies.Body.{fits_by}
+use Rattle.journal.specs.record_bodies.Body.{fits_by}
 use Rattle.server_plan.specs.Plans.{OwingOf}
 use Rattle.server_plan.specs.rulings.Rulings.{AbleToRule}
 

@@ -3,14 +3,14 @@ use Rattle.std.specs.Prelude.{OnOk, Result}
 use Rattle.spec_exchange.specs.Step.{carried_out, with_deadlines}
 use Rattle.journal.specs.disk_journal.Journal.{JournalSettled}
 use Rattle.server_checks.specs.event_heard.Heard.{event_of}
-use Rattle.server_records.specs.record_bodies.Body.{added_by, bodies_of, fits_by}
+use Rattle.journal.specs.record_bodies.Body.{added_by, bodies_of, fits_by}
 use Rattle.server_checks.specs.declared.tables.Tables.{Tables}
 use Rattle.server_core.proofs.commit_event.Shown.{counted_shown, prepared_count, uncounted_shown}
 use Rattle.server_core.proofs.commit_event.Written.{failed}
 use Rattle.server_core.proofs.commit_event.committing.commit.Goals as goal
 use Rattle.server_checks.specs.declared.setups.error.EventError.{EventError}
 use Rattle.server_effects.specs.prepared_event.Prepared.{IsPrepared, RoomToCarry, prepared_ruling}
-use Rattle.server_recovery.specs.recording.Writes.{WritesBut}
+use Rattle.server_core.specs.recording.Writes.{WritesBut}
 use Rattle.server_checks.specs.session_table.Logons.{LogonsShown}
 
 pub used_behind-used-requires : goal.used_behind-used-requires

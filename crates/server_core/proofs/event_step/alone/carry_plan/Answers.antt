@@ -1,19 +1,19 @@
 use Rattle.std.proofs.Common.{List, ℕ, length, refl, sym, ap, subst, ◌∙◌}
 use Rattle.spec_exchange.specs.State as model
 use Rattle.spec_exchange.specs.Step.{Ruling, carried_out, step, with_deadlines}
-use Rattle.server_recovery.proofs.standing_law.Behind.{held, held_still, settled_still}
+use Rattle.server_core.proofs.standing_law.Behind.{held, held_still, settled_still}
 use Rattle.server_checks.specs.event_heard.Heard.{event_of, heard_event}
-use Rattle.server_records.specs.record_bodies.Body.{IsBodyOf}
+use Rattle.journal.specs.record_bodies.Body.{IsBodyOf}
 use Rattle.server_checks.specs.declared.tables.Config.{Config}
 use Rattle.server_core.proofs.event_step.Committed.{alone_comes, event_carried, may_plan}
 use Rattle.server_core.proofs.event_step.Early.{not_on, written_memory}
 use Rattle.server_core.proofs.event_step.Lacking.{lacked}
 use Rattle.server_core.proofs.event_step.Moments.{by_event, leaves_more, nothing_left, same_disk, since_same}
-use Rattle.server_recovery.specs.journaled_tables.Holds.{EventLeavesBodies}
+use Rattle.server_core.specs.journaled_tables.Holds.{EventLeavesBodies}
 use Rattle.server_effects.specs.prepared_event.Prepared.{prepared_ruling}
 use Rattle.server_plan.specs.preparing.Preparing.{wants_memory_by}
 use Rattle.server_plan.specs.rulings.Rulings.{AbleToRule}
-use Rattle.server_records.specs.body_writing.Bodies.{LeavesOf}
+use Rattle.server_core.specs.body_writing.Bodies.{LeavesOf}
 use Rattle.server_core.proofs.event_step.alone.carry_plan.Goals as goal
 
 pub returns-in-Ok : goal.returns-in-Ok

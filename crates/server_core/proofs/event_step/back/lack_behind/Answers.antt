@@ -1,16 +1,16 @@
 use Rattle.std.proofs.Common.{List, refl, sym, subst}
 use Rattle.spec_exchange.specs.State as model
-use Rattle.server_recovery.proofs.standing_law.Lone.{expires, lone}
+use Rattle.server_core.proofs.standing_law.Lone.{expires, lone}
 use Rattle.server_checks.specs.event_heard.Heard.{heard_event}
-use Rattle.server_records.specs.record_bodies.Body.{IsBodyOf}
+use Rattle.journal.specs.record_bodies.Body.{IsBodyOf}
 use Rattle.server_checks.specs.Shown.{TablesShown}
 use Rattle.server_core.proofs.event_step.Lacking.{lacked}
 use Rattle.server_core.proofs.event_step.Moments.{by_expiry, leaves_more, room_back}
 use Rattle.server_core.proofs.event_step.Out.{due_front}
 use Rattle.server_core.proofs.event_step.Refused.{same_room}
 use Rattle.server_core.proofs.event_step.back.lack_behind.Goals as goal
-use Rattle.server_recovery.specs.journaled_tables.Holds.{EventLeavesBodies}
-use Rattle.server_records.specs.body_writing.Bodies.{LeavesOf}
+use Rattle.server_core.specs.journaled_tables.Holds.{EventLeavesBodies}
+use Rattle.server_core.specs.body_writing.Bodies.{LeavesOf}
 use Rattle.server_checks.specs.session_table.Logons.{LogonsShown}
 use Rattle.server_checks.specs.declared.session_table.table.Sessions.{Sessions}
 use Rattle.spec_world.specs.Lacking.{expired_alone}

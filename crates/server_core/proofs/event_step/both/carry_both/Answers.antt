@@ -6,8 +6,8 @@ use Rattle.server_core.proofs.event_step.Beyond.{body_at, carried_apart, undated
 use Rattle.server_core.proofs.event_step.Moments.{by_event, leaves_more}
 use Rattle.server_core.proofs.event_step.Out.{OutLaws, room_yet}
 use Rattle.server_core.proofs.event_step.Refused.{same_room}
-use Rattle.server_recovery.specs.journaled_tables.Holds.{EventLeavesBodies}
-use Rattle.server_records.specs.body_writing.Bodies.{LeavesOf}
+use Rattle.server_core.specs.journaled_tables.Holds.{EventLeavesBodies}
+use Rattle.server_core.specs.body_writing.Bodies.{LeavesOf}
 use Rattle.server_core.proofs.event_step.both.carry_both.Goals as goal
 
 pub commit-requires : goal.commit-requires

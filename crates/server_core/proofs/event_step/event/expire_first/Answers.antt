@@ -1,12 +1,12 @@
 use Rattle.std.proofs.Common.{ap, subst, ◌∙◌}
-use Rattle.server_recovery.proofs.standing_law.Behind.{stands_still}
+use Rattle.server_core.proofs.standing_law.Behind.{stands_still}
 use Rattle.server_checks.specs.event_heard.Heard.{heard_event}
 use Rattle.server_core.proofs.event_step.Moments.{since_same}
 use Rattle.server_core.proofs.event_step.Refused.{answers_from, asks_on, same_disk}
 use Rattle.server_core.proofs.event_step.event.expire_first.Goals as goal
 use Rattle.server_core.specs.event_step.Behind.{BehindAnswers, StaysWhereNone}
 use Rattle.server_core.specs.declared.event_step.expiring.Behind.{Behind}
-use Rattle.server_recovery.specs.journaled_tables.Holds.{EventLeavesBodies}
+use Rattle.server_core.specs.journaled_tables.Holds.{EventLeavesBodies}
 
 pub returns-in-Ok-Answered-clause-step : goal.returns-in-Ok-Answered-clause-step
 returns-in-Ok-Answered-clause-step g c = λ users s L records e a m.

@@ -1,15 +1,15 @@
 use Rattle.std.proofs.Common.{ℕ, ap, length, refl, subst, sym, ◌∙◌}
 use Rattle.spec_exchange.specs.Step.{step}
-use Rattle.server_recovery.proofs.standing_law.Behind.{held, held_still, holds_shown, stands_still}
+use Rattle.server_core.proofs.standing_law.Behind.{held, held_still, holds_shown, stands_still}
 use Rattle.server_checks.specs.event_heard.Heard.{event_of, heard_event}
-use Rattle.server_records.specs.record_bodies.Body.{fits_by}
+use Rattle.journal.specs.record_bodies.Body.{fits_by}
 use Rattle.server_core.proofs.event_step.Moments.{since_same}
 use Rattle.server_core.proofs.event_step.Refused.{asks_room, below_limit, ends_from, lacked, none_from, none_leaves, same_disk, same_room}
 use Rattle.server_core.proofs.event_step.expiring.behind_front.Goals as goal
 use Rattle.server_checks.specs.setups.Setups.{progress_of}
-use Rattle.server_recovery.specs.journaled_tables.Beside.{logons_behind}
-use Rattle.server_recovery.specs.journaled_tables.Holds.{EventLeavesBodies}
-use Rattle.server_records.specs.body_writing.Bodies.{HasBodyRoom}
+use Rattle.server_core.specs.journaled_tables.Beside.{logons_behind}
+use Rattle.server_core.specs.journaled_tables.Holds.{EventLeavesBodies}
+use Rattle.server_core.specs.body_writing.Bodies.{HasBodyRoom}
 
 pub returns-then-not-fits-clause-step : goal.returns-then-not-fits-clause-step
 returns-then-not-fits-clause-step g c = λ users s L records e a m b. (

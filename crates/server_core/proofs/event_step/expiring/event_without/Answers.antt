@@ -1,7 +1,7 @@
 use Rattle.std.proofs.Common.{Option, sym, subst, ◌∙◌}
 use Rattle.std.specs.Prelude.{IfSome}
 use Rattle.spec_exchange.specs.State as model
-use Rattle.server_recovery.proofs.standing_law.Behind.{stands_still}
+use Rattle.server_core.proofs.standing_law.Behind.{stands_still}
 use Rattle.server_checks.specs.event_heard.Heard.{event_of, heard_event}
 use Rattle.server_core.specs.behind_expiry.Behind.{BothReady}
 use Rattle.server_core.specs.declared.behind_expiry.behind.Both.{Both}
@@ -9,9 +9,9 @@ use Rattle.server_core.proofs.event_step.Moments.{same_faults, since_same}
 use Rattle.server_core.proofs.event_step.Refused.{ends_from, lack_still, none_from}
 use Rattle.server_core.proofs.event_step.Without.{apart_still, both_apart}
 use Rattle.server_core.proofs.event_step.expiring.event_without.Goals as goal
-use Rattle.server_recovery.specs.journaled_tables.Counted.{front_of}
-use Rattle.server_recovery.specs.journaled_tables.Holds.{EventLeavesBodies}
-use Rattle.server_recovery.specs.journaled_tables.Rooms.{HasRoomToWrite}
+use Rattle.server_core.specs.journaled_tables.Counted.{front_of}
+use Rattle.server_core.specs.journaled_tables.Holds.{EventLeavesBodies}
+use Rattle.server_core.specs.journaled_tables.Rooms.{HasRoomToWrite}
 use Rattle.law_server.specs.tables.Fits.{Fits}
 use Rattle.server_effects.specs.prepared_event.Prepared.{RoomToCarry}
 use Rattle.server_plan.specs.logon_steps.Steps.{PreparedStep}

@@ -2,14 +2,14 @@ use Rattle.std.proofs.Common.{◌≡◌, ◌+◌, ◌++◌, ℕ, true, ap, subst
 use Rattle.std.specs.Prelude.{OnOk, Result}
 use Rattle.spec_exchange.specs.Step.{expire}
 use Rattle.journal.specs.disk_journal.Journal.{JournalSettled}
-use Rattle.server_records.specs.record_bodies.Body.{added_by, bodies_of, fits_by}
+use Rattle.journal.specs.record_bodies.Body.{added_by, bodies_of, fits_by}
 use Rattle.server_checks.specs.Shown.{TablesShown}
 use Rattle.server_checks.specs.declared.tables.Tables.{Tables}
 use Rattle.server_checks.specs.declared.setups.error.EventError.{EventError}
 use Rattle.server_core.proofs.expiry_alone.Shown.{lone_shown, no_deadline}
 use Rattle.server_core.proofs.expiry_alone.Written.{failed_as, failed_shown, not_memory}
 use Rattle.server_core.proofs.expiry_alone.lone.expire_alone.Goals as goal
-use Rattle.server_recovery.specs.recording.Writes.{WritesBut}
+use Rattle.server_core.specs.recording.Writes.{WritesBut}
 
 pub used_behind-used-requires : goal.used_behind-used-requires
 used_behind-used-requires g c = subst (λ (n : ℕ). fits_by c.args.server.now.tables.journal n ≡ true) (sym c.len.ensures) c.requires.1

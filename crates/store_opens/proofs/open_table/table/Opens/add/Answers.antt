@@ -2,7 +2,6 @@ use Rattle.std.specs.HashMap.{get}
 use Rattle.spec_exchange.specs.Table.{put}
 use Rattle.store_opens.proofs.open_table.RowLemmas.{tree_added}
 use Rattle.std.proofs.Common.{◌≡◌, ◌+◌, ◌==◌, ℕ, nat_eq, refl, sym, ap, subst, ◌∙◌, arith}
-use Rattle.spec_exchange.specs.State as model
 use Rattle.store_opens.specs.declared.open_table.table.Opens.{Opens}
 use Rattle.store_opens.specs.open_table.Shown.{HasRoomIn, next_of}
 use Rattle.store_opens.proofs.open_table.Added.{open_added, placed_new, created_is, next_free, next_is, place_of_room, room_lists}

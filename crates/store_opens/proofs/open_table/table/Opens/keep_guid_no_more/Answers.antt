@@ -2,7 +2,6 @@ use Rattle.std.proofs.Common.{Some, refl, sym, ◌∙◌, arith}
 use Rattle.std.specs.HashSet as set
 use Rattle.store_opens.proofs.open_table.ExpiredLemmas.{shows_expired, taken_out_of}
 use Rattle.store_opens.proofs.open_table.table.Opens.keep_guid_no_more.Goals as goal
-use Rattle.spec_exchange.specs.State as model
 use Rattle.spec_exchange.specs.Step.{add_expired_guid}
 use Rattle.store_opens.specs.open_table.Shown.{pair_eq, ShowsOpens}
 

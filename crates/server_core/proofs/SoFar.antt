@@ -1,0 +1,278 @@
+-- How far the bodies of a journal were folded.
+use Rattle.std.proofs.Common.{◌≡◌, ℕ, zero, suc, ◌+◌, ◌-◌, ◌<◌, List, [], ◌∷◌, ◌++◌, length, take, drop, slice_get, Option, Some, None}
+use Rattle.std.proofs.Common.{refl, sym, ap, subst, ◌∙◌, append_assoc, arith}
+use Rattle.std.proofs.lemmas.List.{append-nil, append_cancel_right, take-append-drop}
+use Rattle.std.specs.Prelude.{Result, Ok, Err, IfErr, MatchResult}
+use Rattle.spec_exchange.specs.Fold.{nothing_yet, fold_from}
+use Rattle.spec_exchange.specs.State as model
+use Rattle.spec_exchange.specs.State.{Server}
+use Rattle.spec_wire.specs.journal.Grammar.{front}
+use Rattle.spec_wire.specs.journal.Moments.{Quiet}
+use Rattle.journal.specs.disk_journal.Gather.{Gathered}
+use Rattle.journal.specs.disk_journal.Journal.{JournalState, JournalSettled, HandsOut, JournalNextAnswers}
+use Rattle.journal.specs.declared.disk_journal.journal.JournalError.{JournalError}
+use Rattle.journal.specs.declared.disk_journal.journal.JournalError.TheVariants.{Memory, DiskFault, NotAJournal, Full, Stopped}
+use Rattle.server_core.proofs.Calls.{quiet_begun, quiet_behind}
+use Rattle.base_outside.specs.streams.Faults.{Rose}
+use Rattle.law_server.specs.tables.Fits.{Fits, all_sound}
+use Rattle.server_core.specs.durable_state.Durable.{DurableShown}
+use Rattle.server_core.specs.declared.durable_state.durable.Durable.{Durable}
+use Rattle.server_core.specs.Reading.{BodiesSpell, FoldedBy, IsReadFrom, HandedOut, FoldRefused, BodyCause, BodyRefused}
+use Rattle.server_core.specs.Reading.{ReadRefused}
+use Rattle.server_core.proofs.Nothing.{nothing_fits}
+use Rattle.server_core.proofs.Bodies.{read_on}
+
+-- these bodies were read of a journal, which was old and is now, and folded from a state that had begun to d
+pub record FoldedSoFar {D : Type 0} (told : Type 0) (seen : D → List ℕ) (may_leave : D → List ℕ → Type 0) (moment : D → ℕ)
+    (left_since : D → ℕ → List ℕ → Type 0) (faults : D → ℕ) (old : JournalState D) (begun : Durable) (now : JournalState D)
+    (d : Durable) : Type 0
+  where
+    pub bodies : List (List ℕ)
+    pub gathered : Gathered told seen may_leave moment left_since faults old now bodies
+    pub read : DurableShown begun nothing_yet → (records : List model.Record) × IsReadFrom d nothing_yet bodies records
+
+-- ---- one body
+
+none_read : (d : Durable) → DurableShown d nothing_yet → (records : List model.Record) × IsReadFrom d nothing_yet [] records
+unfolding fold_from all_sound
+none_read d h = ([], record { spelled = refl; sound = refl; shown = h; fits = nothing_fits })
+
+-- ---- the body that stands behind others
+
+at_drop : (all : List (List ℕ)) (k : ℕ) (body : List ℕ) (more : List (List ℕ)) → drop k all ≡ body ∷ more → slice_get all k ≡ Some body
+at_drop [] zero body more e = cc
+at_drop [] (suc k) body more e = cc
+at_drop (b ∷ all) zero body more e = cc
+at_drop (b ∷ all) (suc k) body more e = at_drop all k body more e
+
+refused_at : (d : Durable) (bodies all : List (List ℕ)) (body : List ℕ) (rs : List model.Record) (at k n : ℕ)
+    → at ≡ length (front (take k all)) → bodies ++ drop k all ≡ all → drop k all ≡ body ∷ drop n all → IsReadFrom d nothing_yet bodies rs
+    → ((u : Server) → Fits u → DurableShown d u → BodyRefused u.version body (NotAJournal at)) → FoldRefused all (NotAJournal at)
+refused_at d bodies all body rs at k n is split next was refused =
+    let same : bodies ≡ take k all = append_cancel_right bodies (take k all) (drop k all) (split ∙ sym (take-append-drop k all)) in (
+      k,
+      body,
+      rs,
+      at_drop all k body (drop n all) next,
+      is,
+      subst (λ (v : List (List ℕ)). BodiesSpell v rs) same was.spelled,
+      was.sound,
+      refused (fold_from nothing_yet rs) was.fits was.shown,
+    )
+
+none_not : (n : ℕ) → None ≡ Some n → ⊥
+none_not n e = cc
+
+some_of : (r : Result (Option (List ℕ)) JournalError) (o p : Option (List ℕ)) → r ≡ Ok o → o ≡ p → r ≡ Ok p
+some_of r o p is same = subst (λ (x : Option (List ℕ)). r ≡ Ok x) same is
+
+-- ---- the whole journal
+
+module _ {D : Type 0} (told : Type 0) (seen : D → List ℕ) (may_leave : D → List ℕ → Type 0) (moment : D → ℕ)
+    (left_since : D → ℕ → List ℕ → Type 0) (faults : D → ℕ) where
+  abbrev SoFar : JournalState D → Durable → JournalState D → Durable → Type 0
+  SoFar old begun now d = FoldedSoFar told seen may_leave moment left_since faults old begun now d
+
+  -- what the next call hands out
+  abbrev Hands : JournalState D → Result (Option (List ℕ)) JournalError → JournalState D → Type 0
+  Hands now r new = told → (bodies : List (List ℕ)) → JournalSettled seen may_leave now bodies → HandsOut seen may_leave now bodies r new
+
+  pub so_far_begun : ((disk : D) (c : List ℕ) → left_since disk (moment disk) c → may_leave disk c)
+      → (old : JournalState D) (begun : Durable)
+      → SoFar old begun old begun
+  so_far_begun only_now old begun = record {
+    bodies = [];
+    gathered = record {
+      same = λ t bs s. s;
+      front = λ t bs s. refl;
+      quiet = quiet_begun told seen may_leave moment left_since only_now old.disk;
+      advances = (refl, refl);
+    };
+    read = λ h. none_read begun h;
+  }
+
+  advanced : (old now new : JournalState D) (t n : ℕ) → now ≡ record old { disk = now.disk; taken = now.taken; next = now.next }
+      → new ≡ record now { disk = new.disk; taken = t; next = n }
+      → new ≡ record old { disk = new.disk; taken = new.taken; next = new.next }
+  advanced old now new t n a b =
+      ap (λ (j : JournalState D). record j { disk = new.disk; taken = new.taken; next = new.next }) b
+      ∙ ap (λ (j : JournalState D). record j { disk = new.disk; taken = new.taken; next = new.next }) a
+
+  pub nearer : (now new : JournalState D) (body : List ℕ) (o : Option (List ℕ)) (r : Result (Option (List ℕ)) JournalError)
+      → r ≡ Ok o → o ≡ Some body → JournalNextAnswers faults now r new → new.used - new.next < now.used - now.next
+  nearer now new body o r is some k =
+      let one : JournalNextAnswers faults now (Ok (Some body)) new =
+      subst (λ (x : Result (Option (List ℕ)) JournalError). JournalNextAnswers faults now x new) (some_of r o (Some body) is some) k in
+      let used : new.used ≡ now.used = ap (λ (j : JournalState D). j.used) one.1 in
+      let next : new.next ≡ now.next + 5 + length body = ap (λ (j : JournalState D). j.next) one.1 in
+      let inside : new.next < new.used = one.2 in
+      omega (arith, used, next, inside)
+
+  pub so_far_more : (old now new : JournalState D) (begun d e : Durable) (body : List ℕ) (o : Option (List ℕ))
+      (r : Result (Option (List ℕ)) JournalError) (q : Result Unit JournalError) (v : Unit {0}) → SoFar old begun now d
+      → r ≡ Ok o → o ≡ Some body → Hands now r new
+      → Quiet told seen may_leave moment left_since now.disk new.disk → JournalNextAnswers faults now r new
+      → q ≡ Ok v
+      → ((u : Server) → Fits u → DurableShown d u → MatchResult q (λ _. FoldedBy e u body) (λ x. BodyRefused u.version body x))
+      → SoFar old begun new e
+  so_far_more old now new begun d e body o r q v was is some hands quiet answers done apply =
+      let one = some_of r o (Some body) is some in
+      let out : Hands now (Ok (Some body)) new = subst (λ (x : Result (Option (List ℕ)) JournalError). Hands now x new) one hands in
+      let k : JournalNextAnswers faults now (Ok (Some body)) new =
+      subst (λ (x : Result (Option (List ℕ)) JournalError). JournalNextAnswers faults now x new) one answers in
+      record {
+        bodies = was.bodies ++ body ∷ [];
+        gathered = record {
+          same = λ t bs s. (out t bs (was.gathered.same t bs s)).1;
+          front = λ t bs s.
+              let handed = out t bs (was.gathered.same t bs s) in
+              append_assoc was.bodies (body ∷ []) (drop new.taken bs)
+              ∙ (ap (λ (v : List (List ℕ)). was.bodies ++ v) (sym handed.0) ∙ was.gathered.front t bs s);
+          quiet = quiet_behind told seen may_leave moment left_since old.disk now.disk new.disk was.gathered.quiet quiet;
+          advances = (
+            advanced old now new (now.taken + 1) (now.next + 5 + length body) was.gathered.advances.0 k.1,
+            k.3 ∙ was.gathered.advances.1,
+          );
+        };
+        read = λ h. let w = was.read h in read_on d e was.bodies w.0 body w.1 (λ u fits shown.
+            subst (λ (x : Result Unit JournalError). MatchResult x (λ _. FoldedBy e u body) (λ y. BodyRefused u.version body y)) done
+            (apply u fits shown));
+      }
+
+  -- ---- all were read
+
+  none_left : (old now new : JournalState D) (begun d : Durable) (o : Option (List ℕ))
+      (r : Result (Option (List ℕ)) JournalError) (was : SoFar old begun now d)
+      → r ≡ Ok o → o ≡ None → old.taken ≡ 0 → Hands now r new → HandedOut told seen may_leave old was.bodies
+  none_left old now new begun d o r was is end none hands = λ t all settled.
+      let out : Hands now (Ok None) new =
+      subst (λ (x : Result (Option (List ℕ)) JournalError). Hands now x new) (some_of r o None is end) hands in
+      let handed = out t all (was.gathered.same t all settled) in
+      sym (append-nil was.bodies)
+      ∙ (ap (λ (v : List (List ℕ)). was.bodies ++ v) (sym handed.0)
+      ∙ (was.gathered.front t all settled ∙ ap (λ (n : ℕ). drop n all) none))
+
+  pub all_read : (old now new : JournalState D) (begun d : Durable) (o : Option (List ℕ))
+      (r : Result (Option (List ℕ)) JournalError) → SoFar old begun now d
+      → r ≡ Ok o → o ≡ None → old.taken ≡ 0 → Hands now r new → (s : Server) → s ≡ nothing_yet → DurableShown begun s
+      → (bodies : List (List ℕ)) × (records : List model.Record) × IsReadFrom d s bodies records
+      × HandedOut told seen may_leave old bodies
+  all_read old now new begun d o r was is end none hands s nothing shown =
+      let w = was.read (subst (λ (u : Server). DurableShown begun u) nothing shown) in (
+        was.bodies,
+        w.0,
+        subst (λ (u : Server). IsReadFrom d u was.bodies w.0) (sym nothing) w.1,
+        none_left old now new begun d o r was is end none hands,
+      )
+
+  pub stays_settled : (old now new : JournalState D) (begun d : Durable) (o : Option (List ℕ))
+      (r : Result (Option (List ℕ)) JournalError) → SoFar old begun now d
+      → r ≡ Ok o → o ≡ None → Hands now r new → told → (bodies : List (List ℕ)) → JournalSettled seen may_leave old bodies
+      → JournalSettled seen may_leave new bodies
+  stays_settled old now new begun d o r was is end hands = λ t bodies settled.
+      let out : Hands now (Ok None) new =
+      subst (λ (x : Result (Option (List ℕ)) JournalError). Hands now x new) (some_of r o None is end) hands in
+      (out t bodies (was.gathered.same t bodies settled)).1
+
+  pub reads_on : (old now new : JournalState D) (begun d : Durable) (o : Option (List ℕ))
+      (r : Result (Option (List ℕ)) JournalError) → SoFar old begun now d
+      → r ≡ Ok o → o ≡ None → JournalNextAnswers faults now r new → (new.stopped ≡ None) × (faults new.disk ≡ faults old.disk)
+      × (new.used ≡ old.used)
+  reads_on old now new begun d o r was is end answers =
+      let one : JournalNextAnswers faults now (Ok None) new =
+      subst (λ (x : Result (Option (List ℕ)) JournalError). JournalNextAnswers faults now x new) (some_of r o None is end) answers in (
+        ap (λ (j : JournalState D). j.stopped) one.2 ∙ one.0,
+        ap (λ (j : JournalState D). faults j.disk) one.2 ∙ was.gathered.advances.1,
+        ap (λ (j : JournalState D). j.used) one.2 ∙ ap (λ (j : JournalState D). j.used) was.gathered.advances.0,
+      )
+
+  pub stays_quiet : (old now new : JournalState D) (begun d : Durable) → SoFar old begun now d
+      → Quiet told seen may_leave moment left_since now.disk new.disk → Quiet told seen may_leave moment left_since old.disk new.disk
+  stays_quiet old now new begun d was quiet =
+      quiet_behind told seen may_leave moment left_since old.disk now.disk new.disk was.gathered.quiet quiet
+
+  -- ---- a call was refused
+
+  by_hands : (now new : JournalState D) (bodies : List (List ℕ)) (x : JournalError) → HandsOut seen may_leave now bodies (Err x) new
+      → FoldRefused bodies x
+  by_hands now new bodies Memory h = tt
+  by_hands now new bodies (DiskFault n) h = tt
+  by_hands now new bodies (NotAJournal at) h = absurd h
+  by_hands now new bodies (Full would limit) h = tt
+  by_hands now new bodies (Stopped n) h = tt
+
+  pub unread : (old now new : JournalState D) (begun d : Durable) (r : Result (Option (List ℕ)) JournalError) (x : JournalError)
+      → SoFar old begun now d → r ≡ Err x → Hands now r new → told → (bodies : List (List ℕ))
+      → JournalSettled seen may_leave old bodies → FoldRefused bodies x
+  unread old now new begun d r x was is hands t bodies settled =
+      by_hands now new bodies x (subst (λ (y : Result (Option (List ℕ)) JournalError). HandsOut seen may_leave now bodies y new) is
+      (hands t bodies (was.gathered.same t bodies settled)))
+
+  by_answers : (old now new : JournalState D) (begun d : Durable) (x : JournalError) → SoFar old begun now d
+      → old.stopped ≡ None → JournalNextAnswers faults now (Err x) new → ReadRefused faults old.disk x new
+  by_answers old now new begun d Memory was on k = tt
+  by_answers old now new begun d (DiskFault n) was on k =
+      (subst (λ (m : ℕ). Rose m n) was.gathered.advances.1 k.0.1, k.0.2)
+  by_answers old now new begun d (NotAJournal at) was on k = tt
+  by_answers old now new begun d (Full would limit) was on k = k
+  by_answers old now new begun d (Stopped n) was on k =
+      let goes_on : now.stopped ≡ None = ap (λ (j : JournalState D). j.stopped) was.gathered.advances.0 ∙ on in
+      let halted : now.stopped ≡ Some n = k.0 in
+      none_not n (sym goes_on ∙ halted)
+
+  pub unread_cause : (old now new : JournalState D) (begun d : Durable) (r : Result (Option (List ℕ)) JournalError)
+      (x : JournalError) → SoFar old begun now d → r ≡ Err x → old.stopped ≡ None → JournalNextAnswers faults now r new
+      → ReadRefused faults old.disk x new
+  unread_cause old now new begun d r x was is on k =
+      by_answers old now new begun d x was on
+      (subst (λ (y : Result (Option (List ℕ)) JournalError). JournalNextAnswers faults now y new) is k)
+
+  -- ---- a body was refused
+
+  by_cause : (old new : JournalState D) (gate : ℕ) (x : JournalError) → BodyCause gate x → ReadRefused faults old.disk x new
+  by_cause old new gate Memory h = tt
+  by_cause old new gate (DiskFault n) h = absurd h
+  by_cause old new gate (NotAJournal at) h = tt
+  by_cause old new gate (Full would limit) h = h
+  by_cause old new gate (Stopped n) h = h
+
+  pub unfolded_cause : (old new : JournalState D) (gate : ℕ) (q : Result Unit JournalError) (x : JournalError) → q ≡ Err x
+      → IfErr q (λ y. BodyCause gate y) → ReadRefused faults old.disk x new
+  unfolded_cause old new gate q x is h =
+      by_cause old new gate x (subst (λ (z : Result Unit JournalError). IfErr z (λ y. BodyCause gate y)) is h)
+
+  broken_at : (old now new : JournalState D) (begun d : Durable) (gate : ℕ) (body : List ℕ) (at : ℕ) → SoFar old begun now d
+      → old.taken ≡ 0 → gate ≡ now.next → Hands now (Ok (Some body)) new → at ≡ gate
+      → ((u : Server) → Fits u → DurableShown d u → BodyRefused u.version body (NotAJournal at)) → told → DurableShown begun nothing_yet
+      → (bodies : List (List ℕ)) → JournalSettled seen may_leave old bodies → FoldRefused bodies (NotAJournal at)
+  broken_at old now new begun d gate body at was none here out place refused t shown bodies settled =
+      let s = was.gathered.same t bodies settled in
+      let handed = out t bodies s in
+      let split : was.bodies ++ drop now.taken bodies ≡ bodies =
+      was.gathered.front t bodies settled ∙ ap (λ (n : ℕ). drop n bodies) none in
+      let w = was.read shown in
+      refused_at d was.bodies bodies body w.0 at now.taken new.taken (place ∙ (here ∙ s.next)) split handed.0 w.1 refused
+
+  by_body : (old now new : JournalState D) (begun d : Durable) (gate : ℕ) (body : List ℕ) (x : JournalError) → SoFar old begun now d
+      → old.taken ≡ 0 → gate ≡ now.next → Hands now (Ok (Some body)) new → BodyCause gate x
+      → ((u : Server) → Fits u → DurableShown d u → BodyRefused u.version body x) → told → DurableShown begun nothing_yet
+      → (bodies : List (List ℕ)) → JournalSettled seen may_leave old bodies → FoldRefused bodies x
+  by_body old now new begun d gate body Memory was none here out cause refused t shown bodies settled = tt
+  by_body old now new begun d gate body (DiskFault n) was none here out cause refused t shown bodies settled = tt
+  by_body old now new begun d gate body (NotAJournal at) was none here out cause refused t shown bodies settled =
+      broken_at old now new begun d gate body at was none here out cause refused t shown bodies settled
+  by_body old now new begun d gate body (Full would limit) was none here out cause refused t shown bodies settled = tt
+  by_body old now new begun d gate body (Stopped n) was none here out cause refused t shown bodies settled = tt
+
+  pub unfolded : (old now new : JournalState D) (begun d e : Durable) (gate : ℕ) (body : List ℕ) (o : Option (List ℕ))
+      (r : Result (Option (List ℕ)) JournalError) (q : Result Unit JournalError) (x : JournalError) → SoFar old begun now d
+      → r ≡ Ok o → o ≡ Some body → old.taken ≡ 0 → gate ≡ now.next → Hands now r new → q ≡ Err x → IfErr q (λ y. BodyCause gate y)
+      → ((u : Server) → Fits u → DurableShown d u → MatchResult q (λ _. FoldedBy e u body) (λ y. BodyRefused u.version body y))
+      → told → (s : Server) → s ≡ nothing_yet → DurableShown begun s → (bodies : List (List ℕ)) → JournalSettled seen may_leave old bodies
+      → FoldRefused bodies x
+  unfolded old now new begun d e gate body o r q x was is some none here hands stopped cause apply t s nothing shown bodies settled =
+      by_body old now new begun d gate body x was none here
+      (subst (λ (y : Result (Option (List ℕ)) JournalError). Hands now y new) (some_of r o (Some body) is some) hands)
+      (subst (λ (z : Result Unit JournalError). IfErr z (λ y. BodyCause gate y)) stopped cause)
+      (λ u fits shown. subst (λ (z : Result Unit JournalError). MatchResult z (λ _. FoldedBy e u body) (λ y. BodyRefused u.version body y))
+      stopped (apply u fits shown)) t (subst (λ (u : Server). DurableShown begun u) nothing shown) bodies settled

@@ -1,0 +1,6 @@
+use Rattle.spec_exchange.specs.Fold.{nothing_yet}
+use Rattle.server_core.proofs.Bodies.{spell_more}
+use Rattle.server_core.proofs.laws.more_law.Goals as goal
+
+pub returns : goal.returns
+returns c = spell_more nothing_yet

@@ -1,0 +1,122 @@
+-- What a restart answers of a disk.
+use Rattle.std.specs.Prelude.{◌≡◌, ◌⊎◌, ℕ, ◌+◌, ◌<◌, ◌≤◌, min, List, [], ◌∷◌, ◌++◌, length, take, slice_get, Some, true, Result, Ok, Err, ⊤}
+use Rattle.std.specs.Prelude.{None}
+use Rattle.wire_commands.specs.values.Meaning.{address_of}
+use Rattle.spec_exchange.specs.Fold.{Configuration, fold, full_room, recovered, recovery_records}
+use Rattle.spec_exchange.specs.Records.{entry_bytes}
+use Rattle.spec_exchange.specs.State as model
+use Rattle.spec_wire.specs.journal.Grammar.{StandsFor, BreaksAt, front}
+use Rattle.journal.specs.disk_journal.Journal.{JournalState, FailedAt, JournalSettled, journal_capped}
+use Rattle.journal.specs.declared.disk_journal.journal.JournalError.{JournalError}
+use Rattle.journal.specs.declared.disk_journal.journal.JournalError.TheVariants as causes
+use Rattle.law_records.specs.recovery.Recovers.{RecordRecovers}
+use Rattle.law_records.specs.recovery.Restarted.{Bare}
+use Rattle.server_checks.specs.Shown.{TablesShown}
+use Rattle.server_checks.specs.declared.tables.Config.{Config}
+use Rattle.server_checks.specs.declared.tables.Tables.{Tables}
+use Rattle.law_server.specs.tables.Fits.{Fits, all_sound}
+use Rattle.server_core.specs.Reading.{BodiesSpell, NoServerWrites}
+use Rattle.server_checks.specs.session_table.Logons.{LogonsShown}
+use Rattle.spec_world.specs.Ends.{no_logons}
+
+-- ---- the state
+
+-- what a configuration tells the model; more than the full room counts as that
+abbrev pub configuration_of : Config → Configuration
+configuration_of z = record {
+  share = z.share;
+  room = min z.room full_room;
+  encrypts = z.encrypts;
+  address = address_of z.address;
+}
+
+-- the state under a configuration, behind a journal of so many bytes
+abbrev pub configured : model.Server → Configuration → ℕ → model.Server
+configured s z journal = record s { share = z.share; room = z.room; encrypts = z.encrypts; address = z.address; journal = journal }
+
+-- no session has begun in this epoch, and there is no connection
+abbrev pub IsServerBegun : model.Server → Type 0
+IsServerBegun s = Bare s × s.session_ids_given ≡ 0
+
+-- the tables show the state that recovery makes of these records, which fits together and for which all records stand
+pub record IsRecovered (z : Config) (t : Tables) (bytes : ℕ) (records : List model.Record) : Type 0 where
+  pub shown : TablesShown t (recovered (configuration_of z) bytes records)
+  pub logons : LogonsShown t.sessions no_logons.keys no_logons.pending
+  pub fits : Fits (recovered (configuration_of z) bytes records)
+  pub version : (recovered (configuration_of z) bytes records).version ≡ 2
+  pub sound : all_sound (records ++ recovery_records records) ≡ true
+  pub for_state : RecordRecovers (records ++ recovery_records records) (recovered (configuration_of z) bytes records)
+
+-- ---- the disk
+
+-- the disk stood for these records, and the journal stands for these and what the recovery adds, in one body
+pub record StandsBehind {D : Type 0} (seen : D → List ℕ) (may_leave : D → List ℕ → Type 0) (disk : D) (journal : JournalState D)
+    (bytes : ℕ) (records : List model.Record) : Type 0 where
+  pub bodies : List (List ℕ)
+  pub body : List ℕ
+  pub stood : StandsFor (seen disk) bodies
+  pub spelled : BodiesSpell bodies records
+  pub sound : all_sound records ≡ true
+  pub bytes_are : bytes ≡ length (front bodies) + 1
+  pub settled : JournalSettled seen may_leave journal (bodies ++ body ∷ [])
+  pub more : BodiesSpell (bodies ++ body ∷ []) (records ++ recovery_records records)
+
+-- ---- the answers
+
+-- behind so many bytes a journal has room for what a recovery adds
+abbrev pub HasEpochRoom : ℕ → List model.Record → Type 0
+HasEpochRoom bytes records = bytes + entry_bytes (recovery_records records) ≤ 1073741824
+
+-- No call of the disk has failed: its count of faults is what it was. So the records that the recovery adds stand on it, and the
+-- journal uses their bytes behind those that it used, within its upper limit. Where the disk tells its bytes, the records are all of its
+-- records.
+abbrev pub ServerRestarts : {D : Type 0} → Type 0 → (D → List ℕ) → (D → List ℕ → Type 0) → (D → ℕ) → Config → D → JournalState D → Tables
+    → Type 0
+ServerRestarts told seen may_leave faults z disk journal t = (journal.stopped ≡ None) × (faults journal.disk ≡ faults disk)
+    × (bytes : ℕ) × (records : List model.Record) × IsRecovered z t bytes records
+    × (bytes + entry_bytes (recovery_records records) ≡ journal.used)
+    × (told → StandsBehind seen may_leave disk journal bytes records) × HasEpochRoom bytes records
+
+-- the body that begins at this gate is the first that no server writes
+abbrev pub IsNoBody : List ℕ → ℕ → Type 0
+IsNoBody bytes gate = (bodies : List (List ℕ)) × (k : ℕ) × (body : List ℕ) × (records : List model.Record)
+    × StandsFor bytes bodies × (slice_get bodies k ≡ Some body) × (gate ≡ length (front (take k bodies)))
+    × BodiesSpell (take k bodies) records × (all_sound records ≡ true) × NoServerWrites (fold records).version body
+
+-- A journal, all of whose bodies a server writes, would pass its upper limit by the records that a recovery adds.
+abbrev pub IsFull : List ℕ → ℕ → ℕ → Type 0
+IsFull bytes would limit = (bodies : List (List ℕ)) × (records : List model.Record) × StandsFor bytes bodies × BodiesSpell bodies records
+    × (all_sound records ≡ true) × (would ≡ journal_capped (length (front bodies) + 1 + entry_bytes (recovery_records records))) × (limit ≡ 1073741824) × (limit < would)
+
+abbrev pub RestartRefused : {D : Type 0} → Type 0 → (D → List ℕ) → (D → ℕ) → D → JournalError → Type 0
+RestartRefused told seen faults disk causes.Memory = ⊤
+RestartRefused told seen faults disk (causes.DiskFault n) = FailedAt faults disk n
+RestartRefused told seen faults disk (causes.NotAJournal at) = told → BreaksAt (seen disk) at ⊎ IsNoBody (seen disk) at
+RestartRefused told seen faults disk (causes.Full would limit) = told → IsFull (seen disk) would limit
+RestartRefused told seen faults disk (causes.Stopped n) = ⊥
+
+abbrev pub RestartAnswers : {D : Type 0} → Type 0 → (D → List ℕ) → (D → List ℕ → Type 0) → (D → ℕ) → Config → D
+    → Result (JournalState D × Tables) JournalError → Type 0
+RestartAnswers told seen may_leave faults z disk (Ok r) = ServerRestarts told seen may_leave faults z disk r.0 r.1
+RestartAnswers told seen may_leave faults z disk (Err x) = RestartRefused told seen faults disk x
+
+-- of a journal that is at hand: the count of faults that is told is that of its disk
+abbrev pub FaultIsTold : {D : Type 0} → (D → ℕ) → JournalState D → JournalError → Type 0
+FaultIsTold faults journal (causes.DiskFault n) = n ≡ faults journal.disk
+FaultIsTold faults journal causes.Memory = ⊤
+FaultIsTold faults journal (causes.NotAJournal at) = ⊤
+FaultIsTold faults journal (causes.Full would limit) = ⊤
+FaultIsTold faults journal (causes.Stopped n) = ⊤
+
+abbrev pub BeginAnswers : {D : Type 0} → Type 0 → (D → List ℕ) → (D → List ℕ → Type 0) → (D → ℕ) → Config → D → JournalState D
+    → Result Tables JournalError → Type 0
+BeginAnswers told seen may_leave faults z disk journal (Ok t) = ServerRestarts told seen may_leave faults z disk journal t
+BeginAnswers told seen may_leave faults z disk journal (Err x) = RestartRefused told seen faults disk x × FaultIsTold faults journal x
+
+-- ---- a crash at any moment
+
+-- it leaves what it could leave before, or bytes that stand for the bodies as they were, or with the one that a recovery adds
+abbrev pub RestartLeaves : (List ℕ → Type 0) → List (List ℕ) → List ℕ → Type 0
+RestartLeaves may_leave bodies bytes = may_leave bytes ⊎ StandsFor bytes bodies
+    ⊎ ((body : List ℕ) × (records : List model.Record) × BodiesSpell bodies records
+    × BodiesSpell (bodies ++ body ∷ []) (records ++ recovery_records records) × StandsFor bytes (bodies ++ body ∷ []))

@@ -1,0 +1,14 @@
+//! What bodies stand for, one behind the other.
+ghost use Rattle.std.specs.Prelude.{ℕ, List, [], ◌∷◌, ◌++◌};
+ghost use Rattle.spec_exchange.specs.Fold.{fold};
+ghost use Rattle.spec_exchange.specs.State as model;
+ghost use Rattle.journal.specs.record_bytes.Grammar.{SpellsRecords};
+ghost use Rattle.journal.specs.record_bytes.Meaning.{records_of};
+ghost use Rattle.journal.specs.declared.record_bytes.value.Record.{Record};
+ghost use Rattle.server_core.specs.Reading.{BodiesSpell};
+
+/// With one more body, which spells records in the version that the records before it have reached, bodies spell these records too.
+pub fn more_law()
+    ensures { (bodies : List (List ℕ)) (rs : List model.Record) (body : List ℕ) (more : List Record) → BodiesSpell bodies rs
+        → SpellsRecords (fold rs).version body more → BodiesSpell (bodies ++ body ∷ []) (rs ++ records_of more) }
+{}

@@ -1,0 +1,38 @@
+//! What a server begins with, told by the one that ran before on the same disk.
+//!
+//! The law is a public function with an empty body but for the laws that it rests on; its contract is the statement.
+
+ghost use Rattle.std.specs.Prelude.{◌≡◌, ◌≤◌, ℕ, List, [], ◌++◌, None, length};
+ghost use Rattle.spec_exchange.specs.Fold.{recovered, recovered_from, recovery_records};
+ghost use Rattle.spec_exchange.specs.State as model;
+ghost use Rattle.server_core.specs.server_start.Begun.{ServerBegins};
+ghost use Rattle.server_checks.specs.declared.tables.Config.{Config};
+ghost use Rattle.server_core.specs.journaled_tables.Holds.{JournaledHolds};
+ghost use Rattle.server_core.specs.declared.journaled_tables.state.ServerState.{ServerState};
+ghost use Rattle.server_core.specs.restart_tables.Restart.{IsFull, RestartRefused, configuration_of};
+ghost use Rattle.journal.specs.declared.disk_journal.journal.JournalError.TheVariants as causes;
+ghost use Rattle.spec_world.specs.Ends.{Logons};
+
+use crate::restarts::restart_law;
+use base_outside::Disk;
+use journal::one_meaning;
+
+/// On disks that tell their bytes. A server that begins on the disk of one that goes on, under the same configuration, holds the state
+/// that the model recovers from that one's state and records, whatever logons are remembered (`again`). One that begins on a disk of
+/// at most 9 bytes holds the state that the model recovers from no records behind an empty journal's 9 bytes (`anew`). None begins on a
+/// disk whose journal has no room for what a recovery adds, nor is such a disk refused as no journal (`full`).
+pub fn begun_law<D: Disk>()
+    ensures again { D.told → (old new : ServerState D) (s : model.Server) (L M : Logons) (records : List model.Record)
+        → JournaledHolds D.told D.seen D.may_leave old s L records → old.stopped ≡ None
+        → ServerBegins D.told D.seen D.may_leave D.faults old.tables.config old.journal.disk new
+        → JournaledHolds D.told D.seen D.may_leave new (recovered_from s records) M (records ++ recovery_records records) }
+    ensures anew { D.told → (disk : D) (config : Config) (new : ServerState D) (L : Logons) → length (D.seen disk) ≤ 9
+        → ServerBegins D.told D.seen D.may_leave D.faults config disk new
+        → JournaledHolds D.told D.seen D.may_leave new (recovered (configuration_of config) 9 []) L (recovery_records []) }
+    ensures full { D.told → (disk : D) (config : Config) (new : ServerState D) (would limit at : ℕ) → IsFull (D.seen disk) would limit
+        → (ServerBegins D.told D.seen D.may_leave D.faults config disk new → ⊥)
+        × (RestartRefused D.told D.seen D.faults disk (causes.NotAJournal at) → ⊥) }
+{
+    one_meaning();
+    restart_law();
+}

@@ -1,4 +1,0 @@
-use Rattle.server_records.proofs.durable_state.durable.Durable.with_version.Goals as goal
-
-pub returns : goal.returns
-returns c = λ s h. c.set_version.ensures s h

@@ -1,3 +1,0 @@
-pub mod record_bodies
-pub mod durable_state
-pub mod body_writing

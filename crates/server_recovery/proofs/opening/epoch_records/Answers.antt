@@ -1,6 +1,0 @@
-use Rattle.server_recovery.proofs.Openings.{opening_is}
-use Rattle.server_recovery.proofs.opening.epoch_records.Goals as goal
-
-pub returns : goal.returns
-returns c = λ s v e. opening_is s c.args.state.now.version c.args.state.now.epoch c.in_ok-records.records c.push.new.self v e
-    c.in_ok-records.ensures c.in_ok-push.ensures.ok

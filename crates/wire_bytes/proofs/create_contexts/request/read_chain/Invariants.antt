@@ -1,0 +1,9 @@
+use Rattle.std.proofs.Common.{length}
+use Rattle.wire_bytes.proofs.create_contexts.Requests.{RequestsFound}
+use Rattle.wire_bytes.proofs.create_contexts.request.read_chain.Given as goal
+
+abbrev pub invariant-loop-head : goal.invariant-loop-head
+invariant-loop-head l = RequestsFound l.initial.bytes l.rest l.found
+
+abbrev pub decreases-loop-head : goal.decreases-loop-head
+decreases-loop-head l = length l.rest

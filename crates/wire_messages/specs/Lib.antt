@@ -1,4 +1,0 @@
-pub mod session_messages
-pub mod negotiate_contexts
-pub mod file_messages
-pub mod create_contexts
