@@ -1,18 +1,15 @@
 -- A text masked where it stands, block by block, and what opening there leaves.
 use Rattle.std.proofs.Common.{◌≡◌, ℕ, ◌+◌, ◌-◌, ◌*◌, ◌≤◌, ◌<◌, min, List, ◌++◌, length, take, drop, length-append}
-use Rattle.std.proofs.Common.{length-drop, refl, sym, ap, ◌∙◌, append_assoc, arith, None}
+use Rattle.std.proofs.Common.{[], get_or, length-drop, refl, sym, ap, ◌∙◌, append_assoc, arith, None}
 use Rattle.std.proofs.lemmas.List.{take_at, drop_all, append-nil, take-append-drop, length-take-le}
 use Rattle.std.proofs.lemmas.Slice.{drop-append-drop}
 use Rattle.spec_crypto.specs.ciphers.Aes.{cipher, block_sum}
 use Rattle.spec_crypto.specs.ciphers.Blocks.{block_at, masked}
 use Rattle.spec_crypto.specs.ciphers.Ccm
+use Rattle.crypto_ciphers.specs.aes_modes.InPlace.{masked_to, run_of}
 use Rattle.crypto_ciphers.proofs.aes_modes.Joined.{back_block}
 use Rattle.law_crypto.proofs.ciphers.Masking.{masked_block}
 use Rattle.law_crypto.proofs.ciphers.Unmasking.{masked_length, masked_twice, front_of, back_of}
-
--- the first n bytes masked, and the others as they were
-abbrev pub masked_to : List (List ℕ) → (ℕ → List ℕ) → List ℕ → ℕ → List ℕ
-masked_to ws f old n = masked ws f old n ++ drop n old
 
 -- a block behind what is masked already is as it was
 block_stays : (ws : List (List ℕ)) (f : ℕ → List ℕ) (old : List ℕ) (i : ℕ) → 16 * i ≤ length old → block_at (masked_to
@@ -26,10 +23,6 @@ block_stays ws f old i fit =
     let a' : block_at (masked_to ws f old (16 * i)) i ≡ block_at rest 0 = rw z at a in
     let b' : block_at (take (16 * i) old ++ rest) i ≡ block_at rest 0 = rw z at b in
     a' ∙ sym b' ∙ ap (λ (m : List ℕ). block_at m i) (take-append-drop (16 * i) old)
-
-pub none_masked : (ws : List (List ℕ)) (f : ℕ → List ℕ) (old : List ℕ) → old ≡ masked_to ws f old (min (16 * 0) (length old))
-unfolding masked
-none_masked ws f old = let z : min (16 * 0) (length old) ≡ 0 = omega arith in rw z refl
 
 -- one turn of the loop over the blocks
 pub one_masked : (ws : List (List ℕ)) (f : ℕ → List ℕ) (old text new key : List ℕ) (i : ℕ) → 16 * i < length old → text
@@ -56,6 +49,55 @@ one_masked ws f old text new key i lt so_far is made =
     let next : min (16 * (i + 1)) (length old) ≡ 16 * i + count = omega arith in
     made ∙ rw (same, front, block, is, back, next, ← middle) (sym (append_assoc (masked ws f old (16 * i)) (take count
     (block_sum (block_at old i) (cipher ws (f i)))) (drop (16 * i + count) old)))
+
+-- four turns of it
+pub run_masked : (ws : List (List ℕ)) (f : ℕ → List ℕ) (old t0 t1 t2 t3 t4 : List ℕ) (keys : List (List ℕ)) (i : ℕ)
+    → 64 * i + 64 ≤ length t0 → t0 ≡ masked_to ws f old (64 * i) → keys ≡ run_of ws f (4 * i)
+    → t1 ≡ take (16 * (4 * i)) t0 ++ (take (min (length t0 - 16 * (4 * i)) 16) (block_sum (block_at t0 (4 * i)) (get_or keys 0 []))
+    ++ drop (16 * (4 * i) + min (length t0 - 16 * (4 * i)) 16) t0)
+    → t2 ≡ take (16 * (4 * i + 1)) t1 ++ (take (min (length t1 - 16 * (4 * i + 1)) 16) (block_sum (block_at t1 (4 * i + 1))
+    (get_or keys 1 [])) ++ drop (16 * (4 * i + 1) + min (length t1 - 16 * (4 * i + 1)) 16) t1)
+    → t3 ≡ take (16 * (4 * i + 2)) t2 ++ (take (min (length t2 - 16 * (4 * i + 2)) 16) (block_sum (block_at t2 (4 * i + 2))
+    (get_or keys 2 [])) ++ drop (16 * (4 * i + 2) + min (length t2 - 16 * (4 * i + 2)) 16) t2)
+    → t4 ≡ take (16 * (4 * i + 3)) t3 ++ (take (min (length t3 - 16 * (4 * i + 3)) 16) (block_sum (block_at t3 (4 * i + 3))
+    (get_or keys 3 [])) ++ drop (16 * (4 * i + 3) + min (length t3 - 16 * (4 * i + 3)) 16) t3)
+    → t4 ≡ masked_to ws f old (64 * (i + 1))
+run_masked ws f old t0 t1 t2 t3 t4 keys i fits so_far is s0 s1 s2 s3 =
+    let front_len : length (masked ws f old (64 * i)) ≡ 64 * i = masked_length ws f old (64 * i) in
+    let behind : length (drop (64 * i) old) ≡ length old - 64 * i = length-drop (64 * i) old in
+    let whole : length (masked_to ws f old (64 * i)) ≡ length (masked ws f old (64 * i)) + length (drop (64 * i) old) =
+    length-append (masked ws f old (64 * i)) (drop (64 * i) old) in
+    let same : length t0 ≡ 64 * i + (length old - 64 * i) = ap length so_far ∙ omega arith in
+    let room : 64 * i + 64 ≤ length old = omega arith in
+    let begun : 64 * i ≡ min (16 * (4 * i)) (length old) = omega arith in
+    let m0 : t0 ≡ masked_to ws f old (min (16 * (4 * i)) (length old)) = so_far ∙ ap (λ (n : ℕ). masked_to ws f old n) begun in
+    let m1 : t1 ≡ masked_to ws f old (min (16 * (4 * i + 1)) (length old)) =
+    one_masked ws f old t0 t1 (get_or keys 0 []) (4 * i) (omega arith) m0 (ap (λ (l : List (List ℕ)). get_or l 0 []) is) s0 in
+    let m2' : t2 ≡ masked_to ws f old (min (16 * (4 * i + 1 + 1)) (length old)) =
+    one_masked ws f old t1 t2 (get_or keys 1 []) (4 * i + 1) (omega arith) m1 (ap (λ (l : List (List ℕ)). get_or l 1 []) is) s1 in
+    let two : 4 * i + 1 + 1 ≡ 4 * i + 2 = omega arith in
+    let m2 : t2 ≡ masked_to ws f old (min (16 * (4 * i + 2)) (length old)) =
+    m2' ∙ ap (λ (n : ℕ). masked_to ws f old (min (16 * n) (length old))) two in
+    let m3' : t3 ≡ masked_to ws f old (min (16 * (4 * i + 2 + 1)) (length old)) =
+    one_masked ws f old t2 t3 (get_or keys 2 []) (4 * i + 2) (omega arith) m2 (ap (λ (l : List (List ℕ)). get_or l 2 []) is) s2 in
+    let three : 4 * i + 2 + 1 ≡ 4 * i + 3 = omega arith in
+    let m3 : t3 ≡ masked_to ws f old (min (16 * (4 * i + 3)) (length old)) =
+    m3' ∙ ap (λ (n : ℕ). masked_to ws f old (min (16 * n) (length old))) three in
+    let m4 : t4 ≡ masked_to ws f old (min (16 * (4 * i + 3 + 1)) (length old)) =
+    one_masked ws f old t3 t4 (get_or keys 3 []) (4 * i + 3) (omega arith) m3 (ap (λ (l : List (List ℕ)). get_or l 3 []) is) s3 in
+    let ended : min (16 * (4 * i + 3 + 1)) (length old) ≡ 64 * (i + 1) = omega arith in
+    m4 ∙ ap (λ (n : ℕ). masked_to ws f old n) ended
+
+pub no_run : (ws : List (List ℕ)) (f : ℕ → List ℕ) (old : List ℕ) → old ≡ masked_to ws f old (64 * 0)
+unfolding masked
+no_run ws f old = refl
+
+-- what the runs leave to the loop over single blocks
+pub runs_done : (ws : List (List ℕ)) (f : ℕ → List ℕ) (old text : List ℕ) (runs : ℕ) → 64 * runs ≤ length old
+    → text ≡ masked_to ws f old (64 * runs) → text ≡ masked_to ws f old (min (16 * (4 * runs)) (length old))
+runs_done ws f old text runs fits so_far =
+    let e : 64 * runs ≡ min (16 * (4 * runs)) (length old) = omega arith in
+    so_far ∙ ap (λ (n : ℕ). masked_to ws f old n) e
 
 pub all_masked : (ws : List (List ℕ)) (f : ℕ → List ℕ) (old text : List ℕ) (n : ℕ) → length old ≤ 16 * n → text ≡
     masked_to ws f old (min (16 * n) (length old)) → text ≡ masked ws f old (length old)

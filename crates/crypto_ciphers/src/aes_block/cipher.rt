@@ -1,15 +1,18 @@
 //! The cipher (FIPS 197, 5.1).
-ghost use Rattle.std.specs.Prelude.{◌≡◌, ◌≤◌, ◌⊎◌, ◌*◌, ◌+◌, ◌-◌, length};
+ghost use Rattle.std.specs.Prelude.{◌≡◌, ◌≤◌, ◌⊎◌, ◌*◌, ◌+◌, ◌-◌, [], ◌∷◌, length};
 ghost use Rattle.spec_crypto.specs.ciphers.Aes.{replaced, mixed_columns, block_sum, round_key, after, cipher, rounds, schedule};
 ghost use Rattle.crypto_ciphers.specs.aes_block.Columns.{state};
 ghost use Rattle.crypto_ciphers.specs.aes_block.Fronts.{IsBlockFront};
+ghost use Rattle.crypto_ciphers.specs.aes_block.Lanes.{AreWideKeys};
 
 use crate::aes_block::columns::{
     Columns, block_of, columns_of, key_of, last_round_of, round_of, sum_of,
 };
 use crate::aes_block::front::{Front, cipher_behind, front_of};
 use crate::aes_block::key::expanded_of;
+use crate::aes_block::wide::{four_of, wide_keys_of};
 use std::marker::Model;
+use std::simd::prelude::*;
 
 /// The state behind one round more.
 #[inline(always)]
@@ -118,5 +121,26 @@ impl Aes {
         ensures { result ≡ cipher self.now block.now }
     {
         cipher_behind(&self.words[..self.count], front, block)
+    }
+    /// The key of each round, for blocks in lanes.
+    pub(crate) fn wide_keys(&self) -> [u8x32; 15]
+        ensures { AreWideKeys self.now result }
+    {
+        wide_keys_of(&self.words[..self.count])
+    }
+
+    /// Four blocks under the key.
+    pub(crate) fn encrypt_four(
+        &self,
+        keys: &[u8x32; 15],
+        a: &[u8; 16],
+        b: &[u8; 16],
+        c: &[u8; 16],
+        d: &[u8; 16],
+    ) -> [[u8; 16]; 4]
+        requires { AreWideKeys self.now keys.now }
+        ensures { result ≡ cipher self.now a.now ∷ cipher self.now b.now ∷ cipher self.now c.now ∷ cipher self.now d.now ∷ [] }
+    {
+        four_of(&self.words[..self.count], keys, a, b, c, d)
     }
 }

@@ -1,6 +1,7 @@
 //! What the modes share: blocks of bytes, the chain over them, masking block by block, and the comparison of tags.
-ghost use Rattle.std.specs.Prelude.{◌≡◌, ◌≤◌, ◌<◌, ◌*◌, ◌+◌, ◌-◌, ◌/◌, ◌++◌, ◌↔◌, IsTrue, length, take, drop, min, slice_index, OnOk};
+ghost use Rattle.std.specs.Prelude.{ℕ, List, ◌≡◌, ◌≤◌, ◌<◌, ◌*◌, ◌+◌, ◌-◌, ◌/◌, ◌++◌, ◌↔◌, IsTrue, length, take, drop, min, slice_index, OnOk};
 ghost use Rattle.crypto_ciphers.specs.aes_block.Fronts.{IsBlockFront};
+ghost use Rattle.crypto_ciphers.specs.aes_modes.InPlace.{masked_to, run_of};
 ghost use Rattle.spec_crypto.specs.ciphers.Aes.{block_sum, cipher};
 ghost use Rattle.spec_crypto.specs.ciphers.Blocks.{block_at, block_count, chained};
 
@@ -168,6 +169,19 @@ pub(crate) fn mask_block(text: &mut [u8], i: usize, key: &[u8; 16])
     } else {
         mask_part(text, i, key)
     }
+}
+
+/// Masks run i of the text, four whole blocks, where it stands, under these four.
+#[inline(always)]
+pub(crate) fn mask_run(text: &mut [u8], i: usize, keys: &[[u8; 16]; 4])
+    requires { 64 * i + 64 ≤ length text.old }
+    ensures { (ws : List (List ℕ)) (f : ℕ → List ℕ) (old : List ℕ) → text.old ≡ masked_to ws f old (64 * i)
+        → keys.now ≡ run_of ws f (4 * i) → text.new ≡ masked_to ws f old (64 * (i + 1)) }
+{
+    mask_block(text, 4 * i, &keys[0]);
+    mask_block(text, 4 * i + 1, &keys[1]);
+    mask_block(text, 4 * i + 2, &keys[2]);
+    mask_block(text, 4 * i + 3, &keys[3]);
 }
 
 /// Whether two tags of one length are the same. It takes the same time whatever they are.

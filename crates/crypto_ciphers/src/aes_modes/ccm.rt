@@ -1,15 +1,15 @@
 //! CCM with a nonce of 7 to 13 bytes and a tag of 4, 6 .. 16 (SP 800-38C, with the formatting of its appendix A).
-ghost use Rattle.std.specs.Prelude.{◌≡◌, ◌<◌, ◌≤◌, ◌-◌, ◌*◌, ◌^◌, ◌↔◌, IsTrue, length, take, nat_le, ◌==◌};
+ghost use Rattle.std.specs.Prelude.{◌≡◌, ◌<◌, ◌≤◌, ◌+◌, ◌-◌, ◌*◌, ◌^◌, ◌↔◌, IsTrue, length, take, nat_le, ◌==◌};
 ghost use Rattle.std.specs.Prelude.{if◌then◌else◌, slice_index, ◌++◌, IfOk};
 ghost use Rattle.crypto_ciphers.specs.aes_modes.Counters.{number_block};
-ghost use Rattle.crypto_ciphers.specs.aes_modes.InPlace.{OpensInPlace};
+ghost use Rattle.crypto_ciphers.specs.aes_modes.InPlace.{OpensInPlace, masked_to};
 ghost use Rattle.spec_crypto.specs.ciphers.Blocks.{big_byte};
 ghost use Rattle.spec_crypto.specs.ciphers.Aes.{block_sum};
 ghost use Rattle.spec_crypto.specs.ciphers.Ccm.{nonce_block, flags, counter_block, mac, ciphertext, tag_of, sealed, IsFit, Opens};
 
 use crate::aes_block::{Aes, block_sum_of};
 use crate::aes_modes::blocks::{
-    block_count_of, block_of, chain_of, enciphered, front_at, is_same, mask_block,
+    block_count_of, block_of, chain_of, enciphered, front_at, is_same, mask_block, mask_run,
 };
 use crate::aes_modes::prefix::added_chain_of;
 use std::alloc::{AllocError, Global};
@@ -123,8 +123,31 @@ fn counted(zero: &[u8; 16], i: u64) -> [u8; 16]
     block_sum_of(zero, &number)
 }
 
-/// Masks a text where it stands, under the counter blocks from 1 on: the front of a counter block serves until the
-/// number's last byte is 0 again.
+/// Masks the first runs of a text, four blocks each, where they stand, under the counter blocks from 1 on, by that of
+/// number 0.
+fn mask_runs(aes: &Aes, nonce: &[u8], zero: &[u8; 16], text: &mut [u8], runs: usize)
+    requires long { 7 ≤ length nonce.now }
+    requires short { length nonce.now ≤ 13 }
+    requires zero { zero.now ≡ counter_block nonce.now 0 }
+    requires fits { length text.old < 256 ^ (15 - length nonce.now) }
+    requires runs { 64 * runs ≤ length text.old }
+    ensures { text.new ≡ masked_to aes.now (λ i. counter_block nonce.now (i + 1)) text.old (64 * runs) }
+{
+    let keys = aes.wide_keys();
+    for i in 0..runs {
+        let four = aes.encrypt_four(
+            &keys,
+            &counted(zero, (4 * i) as u64 + 1),
+            &counted(zero, (4 * i + 1) as u64 + 1),
+            &counted(zero, (4 * i + 2) as u64 + 1),
+            &counted(zero, (4 * i + 3) as u64 + 1),
+        );
+        mask_run(text, i, &four);
+    }
+}
+
+/// Masks a text where it stands, under the counter blocks from 1 on: in runs of four blocks, and the rest by a front of a
+/// counter block, which serves until the number's last byte is 0 again.
 fn mask(aes: &Aes, nonce: &[u8], text: &mut [u8])
     requires long { 7 ≤ length nonce.now }
     requires short { length nonce.now ≤ 13 }
@@ -132,8 +155,10 @@ fn mask(aes: &Aes, nonce: &[u8], text: &mut [u8])
     ensures { text.new ≡ ciphertext aes.now nonce.now text.old }
 {
     let zero = counter_block_of(nonce, 0);
-    let mut front = aes.front_of(&counted(&zero, 0));
-    for i in 0..block_count_of(text) {
+    let runs = text.len() / 64;
+    mask_runs(aes, nonce, &zero, text, runs);
+    let mut front = aes.front_of(&counted(&zero, (4 * runs) as u64));
+    for i in 4 * runs..block_count_of(text) {
         let block = counted(&zero, i as u64 + 1);
         front = front_at(aes, &block, front);
         mask_block(text, i, &aes.encrypt_behind(&front, &block));

@@ -1,10 +1,12 @@
 //! GCM and GMAC with a nonce of 12 bytes and a tag of 16 (SP 800-38D).
-ghost use Rattle.std.specs.Prelude.{◌≡◌, ◌<◌, ◌≤◌, ◌-◌, ◌^◌, ◌++◌, length, IfOk};
-ghost use Rattle.crypto_ciphers.specs.aes_modes.InPlace.{OpensInPlace};
+ghost use Rattle.std.specs.Prelude.{◌≡◌, ◌<◌, ◌≤◌, ◌+◌, ◌*◌, ◌-◌, ◌^◌, ◌++◌, length, IfOk};
+ghost use Rattle.crypto_ciphers.specs.aes_modes.InPlace.{OpensInPlace, masked_to};
 ghost use Rattle.spec_crypto.specs.ciphers.Gcm.{counter_block, hash_key, ciphertext, tag_of, sealed, Opens, gmac};
 
 use crate::aes_block::{Aes, block_sum_of};
-use crate::aes_modes::blocks::{block_count_of, enciphered, front_at, is_same, mask_block};
+use crate::aes_modes::blocks::{
+    block_count_of, enciphered, front_at, is_same, mask_block, mask_run,
+};
 use crate::aes_modes::hash::Table;
 use std::alloc::{AllocError, Global};
 use wire_bytes::Bytes;
@@ -36,14 +38,35 @@ fn counter_block_of(nonce: &[u8; 12], i: u32) -> [u8; 16]
     ]
 }
 
-/// Masks a text where it stands, under the counter blocks from 2 on: the front of a counter block serves until the
-/// number's last byte is 0 again.
+/// Masks the first runs of a text, four blocks each, where they stand, under the counter blocks from 2 on.
+fn mask_runs(aes: &Aes, nonce: &[u8; 12], text: &mut [u8], runs: usize)
+    requires fits { length text.old < 2 ^ 36 - 31 }
+    requires runs { 64 * runs ≤ length text.old }
+    ensures { text.new ≡ masked_to aes.now (λ i. counter_block nonce.now (i + 2)) text.old (64 * runs) }
+{
+    let keys = aes.wide_keys();
+    for i in 0..runs {
+        let four = aes.encrypt_four(
+            &keys,
+            &counter_block_of(nonce, (4 * i + 2) as u32),
+            &counter_block_of(nonce, (4 * i + 1 + 2) as u32),
+            &counter_block_of(nonce, (4 * i + 2 + 2) as u32),
+            &counter_block_of(nonce, (4 * i + 3 + 2) as u32),
+        );
+        mask_run(text, i, &four);
+    }
+}
+
+/// Masks a text where it stands, under the counter blocks from 2 on: in runs of four blocks, and the rest by a front of a
+/// counter block, which serves until the number's last byte is 0 again.
 fn mask(aes: &Aes, nonce: &[u8; 12], text: &mut [u8])
     requires { length text.old < 2 ^ 36 - 31 }
     ensures { text.new ≡ ciphertext aes.now nonce.now text.old }
 {
-    let mut front = aes.front_of(&counter_block_of(nonce, 1));
-    for i in 0..block_count_of(text) {
+    let runs = text.len() / 64;
+    mask_runs(aes, nonce, text, runs);
+    let mut front = aes.front_of(&counter_block_of(nonce, (4 * runs + 1) as u32));
+    for i in 4 * runs..block_count_of(text) {
         let block = counter_block_of(nonce, (i + 2) as u32);
         front = front_at(aes, &block, front);
         mask_block(text, i, &aes.encrypt_behind(&front, &block));

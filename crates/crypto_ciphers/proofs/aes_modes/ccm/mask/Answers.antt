@@ -4,12 +4,13 @@ use Rattle.spec_crypto.specs.ciphers.Ccm.{counter_block}
 use Rattle.crypto_ciphers.specs.aes_modes.Counters.{number_block}
 use Rattle.crypto_ciphers.proofs.aes_modes.Bytewise.{counted_is}
 use Rattle.crypto_ciphers.proofs.aes_modes.Fronts.{front_of_same, ccm_serves}
-use Rattle.crypto_ciphers.proofs.aes_modes.InPlace.{none_masked, one_masked, all_masked}
+use Rattle.crypto_ciphers.proofs.aes_modes.InPlace.{runs_done, one_masked, all_masked}
 use Rattle.crypto_ciphers.proofs.aes_modes.ccm.mask.Goals as goal
 
 pub loop-i-init : goal.loop-i-init
 loop-i-init c = record {
-  done = none_masked c.args.aes.now (λ i. counter_block c.args.nonce.now (i + 1)) c.args.text.now;
+  done = runs_done c.args.aes.now (λ i. counter_block c.args.nonce.now (i + 1)) c.args.text.now c.mask_runs.new.text _ (omega arith)
+      c.mask_runs.ensures;
   front = front_of_same _ _ _ _ c.counted.ensures c.front_of-front.ensures;
 }
 

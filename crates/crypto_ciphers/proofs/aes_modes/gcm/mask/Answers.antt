@@ -2,12 +2,13 @@ use Rattle.std.proofs.Common.{◌+◌, ◌∙◌, List, ℕ, ap, arith}
 use Rattle.spec_crypto.specs.ciphers.Aes.{cipher}
 use Rattle.spec_crypto.specs.ciphers.Gcm.{counter_block}
 use Rattle.crypto_ciphers.proofs.aes_modes.Fronts.{front_of_same, gcm_serves, gcm_next}
-use Rattle.crypto_ciphers.proofs.aes_modes.InPlace.{none_masked, one_masked, all_masked}
+use Rattle.crypto_ciphers.proofs.aes_modes.InPlace.{runs_done, one_masked, all_masked}
 use Rattle.crypto_ciphers.proofs.aes_modes.gcm.mask.Goals as goal
 
 pub loop-i-init : goal.loop-i-init
 loop-i-init c = record {
-  done = none_masked c.args.aes.now (λ i. counter_block c.args.nonce.now (i + 2)) c.args.text.now;
+  done = runs_done c.args.aes.now (λ i. counter_block c.args.nonce.now (i + 2)) c.args.text.now c.mask_runs.new.text _ (omega arith)
+      c.mask_runs.ensures;
   front = front_of_same _ _ _ _ c.counter_block_of.ensures c.front_of-front.ensures;
 }
 

@@ -1,11 +1,11 @@
 use Rattle.std.proofs.Common.{◌≡◌, ◌+◌, ◌*◌, min, length}
 use Rattle.crypto_ciphers.specs.aes_block.Fronts.{IsBlockFront}
 use Rattle.spec_crypto.specs.ciphers.Gcm.{counter_block}
-use Rattle.crypto_ciphers.proofs.aes_modes.InPlace.{masked_to}
+use Rattle.crypto_ciphers.specs.aes_modes.InPlace.{masked_to}
 use Rattle.crypto_ciphers.proofs.aes_modes.gcm.mask.Given as goal
 
 abbrev pub invariant-loop-i : goal.invariant-loop-i
 invariant-loop-i l = record {
-  done : l.text ≡ masked_to l.aes (λ i. counter_block l.nonce (i + 2)) l.initial.text (min (16 * l.i) (length l.initial.text));
+  done : l.text ≡ masked_to l.aes (λ i. counter_block l.nonce (i + 2)) l.fn.text (min (16 * l.i) (length l.fn.text));
   front : IsBlockFront l.aes (counter_block l.nonce (l.i + 1)) l.front;
 }
