@@ -1,3 +1,4 @@
 pub mod Halves
 mod InPlace
 mod Repeats
+pub mod Roles

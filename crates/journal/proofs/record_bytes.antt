@@ -9,3 +9,4 @@ pub mod Flags
 pub mod One
 pub mod Characters
 pub mod Allowed
+pub mod Tables

@@ -6,6 +6,7 @@ mod fixed;
 mod laws;
 mod list;
 mod parts;
+mod putting;
 mod reading;
 mod value;
 mod variable;

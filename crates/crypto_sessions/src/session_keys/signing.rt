@@ -5,7 +5,6 @@ ghost use Rattle.spec_wire.specs.messages.Places.{bytes_at};
 
 use crypto_ciphers::{Aes, cmac_joined, gmac_joined, is_same};
 use spec_crypto::Signer;
-use wire_bytes::{u8_at, u16_at};
 
 const CANCEL: u16 = 12;
 
@@ -25,11 +24,9 @@ fn role_of(message: &[u8]) -> u32
     ensures same { result ≡ role message.now }
     ensures small { result ≤ 3 }
 {
-    let sent = (u8_at(message, 16) % 2) as u32;
-    if u16_at(message, 12) == CANCEL {
-        return sent + 2;
-    }
-    sent
+    let sent = (message[16] % 2) as u32;
+    let command = u16::from_le_bytes([message[12], message[13]]);
+    if command == CANCEL { sent + 2 } else { sent }
 }
 
 /// GMAC's nonce: the message id, and who sends what in four bytes.

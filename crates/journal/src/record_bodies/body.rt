@@ -14,9 +14,6 @@ pub fn spelled(alloc: Global, records: &Records) -> Result<Bytes, AllocError>
     ensures sure { records.now ≡ [] → IsOk result }
 {
     let records = records.as_slice();
-    if records.is_empty() {
-        return Ok(Bytes::new(alloc));
-    }
     if !can_write(records) {
         return Err(AllocError);
     }

@@ -1,120 +1,60 @@
-//! Records written one behind the other, in version 2.
-ghost use Rattle.std.specs.Prelude.{◌≡◌, ◌<◌, ◌*◌, ◌/◌, ◌^◌, [], ◌∷◌, ◌++◌, length, OnOk, IfOk};
-ghost use Rattle.spec_wire.specs.messages.Places.{le};
-ghost use Rattle.spec_wire.specs.messages.Table.{Num, Raw, with_fields};
+//! Records written one behind the other, in version 2. Each is put as the table that the grammar has of it.
+ghost use Rattle.std.specs.Prelude.{◌≡◌, [], ◌∷◌, ◌++◌, OnOk, IfOk, IsOk};
+ghost use Rattle.spec_wire.specs.messages.Table.{Num, with_fields};
 ghost use Rattle.spec_wire.specs.messages.Utf16.{utf16};
-ghost use Rattle.journal.specs.record_bytes.Grammar.{flag, kind, origin_table, text_table, basic_table, opened_table, record_table};
-ghost use Rattle.journal.specs.record_bytes.Grammar.{TextFits, OpenFits, WrittenRecordFits, WrittenRecordsFit};
-ghost use Rattle.journal.specs.record_bytes.Grammar.{records_spelling, record_spelling};
+ghost use Rattle.journal.specs.record_bytes.Grammar.{kind, origin_table, text_table, opened_table, record_table};
+ghost use Rattle.journal.specs.record_bytes.Grammar.{TextFits, OpenFits, WrittenRecordFits, WrittenRecordsFit, records_spelling};
 
+use crate::record_bytes::putting::Put::{Byte, Flag, Guid, Long, Raw, Short, Wide};
+use crate::record_bytes::putting::{Put, put_fields};
 use crate::record_bytes::value::{NewOpen, Record};
-use spec_exchange::values::{Basic, Origin};
+use spec_exchange::values::Origin;
 use std::alloc::{AllocError, Global};
-use wire_bytes::{Bytes, Out, Text, utf16_of};
+use wire_bytes::{Bytes, Text, utf16_of};
 
-fn put_origin(out: &mut Out, origin: &Origin) -> Result<(), AllocError>
-    ensures { OnOk result (out.new ≡ with_fields out.old (origin_table origin.now)) }
-{
-    out.put_u64(origin.session)?;
-    out.put_u32(origin.connection)?;
-    out.put_u64(origin.message)
-}
-
-fn put_basic(out: &mut Out, basic: &Basic) -> Result<(), AllocError>
-    ensures { OnOk result (out.new ≡ with_fields out.old (basic_table basic.now)) }
-{
-    out.put_u64(basic.created)?;
-    out.put_u64(basic.accessed)?;
-    out.put_u64(basic.written)?;
-    out.put_u64(basic.changed)?;
-    out.put_u32(basic.attributes)
-}
-
-fn put_text(alloc: Global, out: &mut Out, text: &Text) -> Result<(), AllocError>
+fn put_text(alloc: Global, out: &mut Vec<u8>, text: &Text) -> Result<(), AllocError>
     requires { TextFits text.now }
-    ensures { OnOk result (out.new ≡ with_fields out.old (text_table (utf16 text.now))) }
+    ensures { OnOk result (out.new.items ≡ with_fields out.old.items (text_table (utf16 text.now))) }
 {
-    let units = utf16_of(alloc, text.as_str())?;
-    out.put_u16(units.len() as u16)?;
-    out.put_slice(units.as_slice())
+    let spelled = utf16_of(alloc, text.as_str())?;
+    let units = spelled.as_slice();
+    put_fields(out, &[Short(units.len() as u16), Raw(units)])
 }
 
-fn put_flag(out: &mut Out, yes: bool) -> Result<(), AllocError>
-    ensures { OnOk result (out.new ≡ out.old ++ le 1 (flag yes)) }
-{
-    if yes { out.put_u8(1) } else { out.put_u8(0) }
-}
-
-fn put_opened(alloc: Global, out: &mut Out, opened: &Option<NewOpen>) -> Result<(), AllocError>
+fn put_opened(alloc: Global, out: &mut Vec<u8>, opened: &Option<NewOpen>) -> Result<(), AllocError>
     requires { OpenFits opened.now }
-    ensures { OnOk result (out.new ≡ with_fields out.old (opened_table 2 opened.now)) }
+    ensures { OnOk result (out.new.items ≡ with_fields out.old.items (opened_table 2 opened.now)) }
 {
     let Some(open) = opened else {
-        return out.put_u8(0);
+        return put_fields(out, &[Byte(0)]);
     };
-    out.put_u8(1)?;
-    out.put_u64(open.id)?;
-    out.put_slice(&open.client)?;
-    out.put_slice(&open.guid)?;
+    put_fields(
+        out,
+        &[Byte(1), Wide(open.id), Guid(open.client), Guid(open.guid)],
+    )?;
     put_text(alloc, out, &open.user)?;
-    out.put_u32(open.access)?;
-    out.put_u32(open.share)?;
-    out.put_u32(open.options)?;
-    out.put_u32(open.timeout)
-}
-
-// A record's kind and its one number.
-fn put_number(out: &mut Out, kind: u8, number: u32) -> Result<(), AllocError>
-    ensures { OnOk result (out.new ≡ with_fields out.old (Num 1 kind ∷ Num 4 number ∷ [])) }
-{
-    out.put_u8(kind)?;
-    out.put_u32(number)
+    put_fields(
+        out,
+        &[
+            Long(open.access),
+            Long(open.share),
+            Long(open.options),
+            Long(open.timeout),
+        ],
+    )
 }
 
 // A record's kind, its origin and the file or the open that it is of.
-fn put_front(out: &mut Out, kind: u8, origin: &Origin, subject: u64) -> Result<(), AllocError>
-    ensures { OnOk result (out.new ≡ with_fields out.old (Num 1 kind ∷ (origin_table origin.now ++ (Num 8 subject ∷ [])))) }
+fn put_front(out: &mut Vec<u8>, kind: u8, origin: &Origin, subject: u64) -> Result<(), AllocError>
+    ensures { OnOk result (out.new.items ≡ with_fields out.old.items (Num 1 kind ∷ (origin_table origin.now ++ (Num 8 subject ∷ [])))) }
 {
-    out.put_u8(kind)?;
-    put_origin(out, origin)?;
-    out.put_u64(subject)
+    put_fields(out, &[Byte(kind), Put::Origin(*origin), Wide(subject)])
 }
 
-// Where bytes were written, when, and which.
-fn put_written(out: &mut Out, at: u64, time: u64, bytes: &Bytes) -> Result<(), AllocError>
-    requires { length bytes.now < 2 ^ 32 }
-    ensures { OnOk result (out.new ≡ with_fields out.old (Num 8 at ∷ Num 8 time ∷ Num 4 (length bytes.now)
-        ∷ Raw (length bytes.now) bytes.now ∷ [])) }
-{
-    out.put_u64(at)?;
-    out.put_u64(time)?;
-    out.put_u32(bytes.len() as u32)?;
-    out.put_slice(bytes.as_slice())
-}
-
-// A lock slot, its answer and the elements.
-fn put_slot(
-    out: &mut Out,
-    index: u8,
-    number: u8,
-    status: u32,
-    elements: &Bytes,
-) -> Result<(), AllocError>
-    requires { length elements.now / 24 < 65536 }
-    ensures { OnOk result (out.new ≡ with_fields out.old (Num 1 index ∷ Num 1 number ∷ Num 4 status ∷ Num 2 (length elements.now / 24)
-        ∷ Raw (24 * (length elements.now / 24)) elements.now ∷ [])) }
-{
-    out.put_u8(index)?;
-    out.put_u8(number)?;
-    out.put_u32(status)?;
-    out.put_u16((elements.len() / 24) as u16)?;
-    out.put_slice(elements.as_slice())
-}
-
-fn put_create(alloc: Global, out: &mut Out, r: &Record) -> Result<(), AllocError>
+fn put_create(alloc: Global, out: &mut Vec<u8>, r: &Record) -> Result<(), AllocError>
     requires kind { kind r.now ≡ 2 }
     requires fits { WrittenRecordFits r.now }
-    ensures { OnOk result (out.new ≡ with_fields out.old (record_table 2 r.now)) }
+    ensures { OnOk result (out.new.items ≡ with_fields out.old.items (record_table 2 r.now)) }
 {
     let Record::Create {
         origin,
@@ -129,21 +69,19 @@ fn put_create(alloc: Global, out: &mut Out, r: &Record) -> Result<(), AllocError
     else {
         unreachable!()
     };
-    out.put_u8(2)?;
-    put_origin(out, origin)?;
-    out.put_u32(*action)?;
-    out.put_u64(*file)?;
+    put_fields(
+        out,
+        &[Byte(2), Put::Origin(*origin), Long(*action), Wide(*file)],
+    )?;
     put_text(alloc, out, path)?;
-    out.put_u32(*attributes)?;
-    put_flag(out, *directory)?;
-    out.put_u64(*time)?;
+    put_fields(out, &[Long(*attributes), Flag(*directory), Wide(*time)])?;
     put_opened(alloc, out, opened)
 }
 
-fn put_write(out: &mut Out, r: &Record) -> Result<(), AllocError>
+fn put_write(out: &mut Vec<u8>, r: &Record) -> Result<(), AllocError>
     requires kind { kind r.now ≡ 3 }
     requires fits { WrittenRecordFits r.now }
-    ensures { OnOk result (out.new ≡ with_fields out.old (record_table 2 r.now)) }
+    ensures { OnOk result (out.new.items ≡ with_fields out.old.items (record_table 2 r.now)) }
 {
     let Record::Write {
         origin,
@@ -155,14 +93,25 @@ fn put_write(out: &mut Out, r: &Record) -> Result<(), AllocError>
     else {
         unreachable!()
     };
-    put_front(out, 3, origin, *file)?;
-    put_written(out, *at, *time, bytes)
+    let bytes = bytes.as_slice();
+    let count = bytes.len() as u32;
+    put_fields(
+        out,
+        &[
+            Byte(3),
+            Put::Origin(*origin),
+            Wide(*file),
+            Wide(*at),
+            Wide(*time),
+            Long(count),
+            Raw(bytes),
+        ],
+    )
 }
 
-fn put_end(out: &mut Out, r: &Record) -> Result<(), AllocError>
-    requires kind { kind r.now ≡ 4 }
-    requires fits { WrittenRecordFits r.now }
-    ensures { OnOk result (out.new ≡ with_fields out.old (record_table 2 r.now)) }
+fn put_end(out: &mut Vec<u8>, r: &Record) -> Result<(), AllocError>
+    requires { kind r.now ≡ 4 }
+    ensures { OnOk result (out.new.items ≡ with_fields out.old.items (record_table 2 r.now)) }
 {
     let Record::SetEnd {
         origin,
@@ -173,15 +122,21 @@ fn put_end(out: &mut Out, r: &Record) -> Result<(), AllocError>
     else {
         unreachable!()
     };
-    put_front(out, 4, origin, *file)?;
-    out.put_u64(*length)?;
-    out.put_u64(*time)
+    put_fields(
+        out,
+        &[
+            Byte(4),
+            Put::Origin(*origin),
+            Wide(*file),
+            Wide(*length),
+            Wide(*time),
+        ],
+    )
 }
 
-fn put_attributes(out: &mut Out, r: &Record) -> Result<(), AllocError>
-    requires kind { kind r.now ≡ 5 }
-    requires fits { WrittenRecordFits r.now }
-    ensures { OnOk result (out.new ≡ with_fields out.old (record_table 2 r.now)) }
+fn put_basic(out: &mut Vec<u8>, r: &Record) -> Result<(), AllocError>
+    requires { kind r.now ≡ 5 }
+    ensures { OnOk result (out.new.items ≡ with_fields out.old.items (record_table 2 r.now)) }
 {
     let Record::SetBasic {
         origin,
@@ -192,30 +147,22 @@ fn put_attributes(out: &mut Out, r: &Record) -> Result<(), AllocError>
         unreachable!()
     };
     put_front(out, 5, origin, *file)?;
-    put_basic(out, basic)
+    put_fields(
+        out,
+        &[
+            Wide(basic.created),
+            Wide(basic.accessed),
+            Wide(basic.written),
+            Wide(basic.changed),
+            Long(basic.attributes),
+        ],
+    )
 }
 
-fn put_mark(out: &mut Out, r: &Record) -> Result<(), AllocError>
-    requires kind { kind r.now ≡ 6 }
-    requires fits { WrittenRecordFits r.now }
-    ensures { OnOk result (out.new ≡ with_fields out.old (record_table 2 r.now)) }
-{
-    let Record::SetDelete {
-        origin,
-        file,
-        marked,
-    } = r
-    else {
-        unreachable!()
-    };
-    put_front(out, 6, origin, *file)?;
-    put_flag(out, *marked)
-}
-
-fn put_rename(alloc: Global, out: &mut Out, r: &Record) -> Result<(), AllocError>
+fn put_rename(alloc: Global, out: &mut Vec<u8>, r: &Record) -> Result<(), AllocError>
     requires kind { kind r.now ≡ 7 }
     requires fits { WrittenRecordFits r.now }
-    ensures { OnOk result (out.new ≡ with_fields out.old (record_table 2 r.now)) }
+    ensures { OnOk result (out.new.items ≡ with_fields out.old.items (record_table 2 r.now)) }
 {
     let Record::Rename {
         origin,
@@ -226,15 +173,17 @@ fn put_rename(alloc: Global, out: &mut Out, r: &Record) -> Result<(), AllocError
     else {
         unreachable!()
     };
-    put_front(out, 7, origin, *file)?;
-    out.put_u64(*replaced)?;
+    put_fields(
+        out,
+        &[Byte(7), Put::Origin(*origin), Wide(*file), Wide(*replaced)],
+    )?;
     put_text(alloc, out, path)
 }
 
-fn put_lock(out: &mut Out, r: &Record) -> Result<(), AllocError>
+fn put_lock(out: &mut Vec<u8>, r: &Record) -> Result<(), AllocError>
     requires kind { kind r.now ≡ 9 }
     requires fits { WrittenRecordFits r.now }
-    ensures { OnOk result (out.new ≡ with_fields out.old (record_table 2 r.now)) }
+    ensures { OnOk result (out.new.items ≡ with_fields out.old.items (record_table 2 r.now)) }
 {
     let Record::Lock {
         origin,
@@ -247,46 +196,58 @@ fn put_lock(out: &mut Out, r: &Record) -> Result<(), AllocError>
     else {
         unreachable!()
     };
+    let elements = elements.as_slice();
+    let count = (elements.len() / 24) as u16;
     put_front(out, 9, origin, *id)?;
-    put_slot(out, *index, *number, *status, elements)
+    put_fields(
+        out,
+        &[
+            Byte(*index),
+            Byte(*number),
+            Long(*status),
+            Short(count),
+            Raw(elements),
+        ],
+    )
 }
 
-fn put_fields(alloc: Global, out: &mut Out, r: &Record) -> Result<(), AllocError>
+fn put_record(alloc: Global, out: &mut Vec<u8>, r: &Record) -> Result<(), AllocError>
     requires { WrittenRecordFits r.now }
-    ensures { OnOk result (out.new ≡ with_fields out.old (record_table 2 r.now)) }
+    ensures { OnOk result (out.new.items ≡ with_fields out.old.items (record_table 2 r.now)) }
 {
     match r {
-        Record::Epoch { number } => put_number(out, 1, *number),
+        Record::Epoch { number } => put_fields(out, &[Byte(1), Long(*number)]),
         Record::Create { .. } => put_create(alloc, out, r),
         Record::Write { .. } => put_write(out, r),
         Record::SetEnd { .. } => put_end(out, r),
-        Record::SetBasic { .. } => put_attributes(out, r),
-        Record::SetDelete { .. } => put_mark(out, r),
+        Record::SetBasic { .. } => put_basic(out, r),
+        Record::SetDelete {
+            origin,
+            file,
+            marked,
+        } => put_fields(
+            out,
+            &[Byte(6), Put::Origin(*origin), Wide(*file), Flag(*marked)],
+        ),
         Record::Rename { .. } => put_rename(alloc, out, r),
         Record::Remove { origin, file } => put_front(out, 8, origin, *file),
         Record::Lock { .. } => put_lock(out, r),
         Record::Shut { origin, id } => put_front(out, 10, origin, *id),
-        Record::Version { number } => put_number(out, 11, *number),
+        Record::Version { number } => put_fields(out, &[Byte(11), Long(*number)]),
         Record::Expire { origin, id } => put_front(out, 12, origin, *id),
     }
 }
 
-#[tactic(auto, using(crate::proofs::record_bytes::Written::put_behind))]
-fn put_record(alloc: Global, out: &mut Out, r: &Record) -> Result<(), AllocError>
-    requires { WrittenRecordFits r.now }
-    ensures { OnOk result (out.new ≡ out.old ++ record_spelling r.now) }
-{
-    put_fields(alloc, out, r)
-}
-
-/// Writes records one behind the other, in version 2. `can_write` tells whether their texts, bytes and elements fit.
+/// Writes records one behind the other, in version 2. `can_write` tells whether their texts, bytes and elements fit. Of no
+/// records it takes no memory.
 pub fn write_records(alloc: Global, records: &[Record]) -> Result<Bytes, AllocError>
     requires { WrittenRecordsFit records.now }
-    ensures { IfOk result (λ b. b ≡ records_spelling records.now) }
+    ensures spelled { IfOk result (λ b. b ≡ records_spelling records.now) }
+    ensures sure { records.now ≡ [] → IsOk result }
 {
-    let mut out = Out::new(alloc);
+    let mut out = Vec::new(alloc);
     for r in records {
         put_record(alloc, &mut out, r)?;
     }
-    Ok(out.finish())
+    Ok(Bytes::from_vec(out))
 }
