@@ -20,8 +20,6 @@ const MOST_REFUSED: u32 = 10;
 /// How a link that was accepted is watched.
 #[derive(Clone, Copy)]
 struct Watched {
-    /// The connection's number, from 1.
-    number: u64,
     ip: u32,
     accepted: Option<Instant>,
     standing: Standing,
@@ -35,6 +33,8 @@ pub struct StdLink<'a, W: Wait + Clock + Eprint> {
     rt: &'a W,
     shared: &'a Shared,
     stream: Arc<TcpStream>,
+    /// The connection's number, from 1; 0 where the link was connected from here.
+    number: u64,
     watched: Option<Watched>,
     ended: bool,
     faults: u64,
@@ -91,7 +91,8 @@ impl<'a, W: Wait + Clock + Eprint> StdLink<'a, W> {
 
     /// A link that was connected from here, which waits without end.
     pub(crate) fn connected(rt: &'a W, shared: &'a Shared, stream: Arc<TcpStream>) -> StdLink<'a, W>
-        ensures { (result.ended ≡ false) × (result.faults ≡ 0) }
+        ensures fresh { (result.ended ≡ false) × (result.faults ≡ 0) }
+        ensures number { result.number ≡ 0 }
     {
         // Requests and replies alternate, so a small piece should not wait for more. A refused option is no fault.
         let _ = stream.set_nodelay(true);
@@ -99,6 +100,7 @@ impl<'a, W: Wait + Clock + Eprint> StdLink<'a, W> {
             rt,
             shared,
             stream,
+            number: 0,
             watched: None,
             ended: false,
             faults: 0,
@@ -113,7 +115,8 @@ impl<'a, W: Wait + Clock + Eprint> StdLink<'a, W> {
         number: u64,
         ip: u32,
     ) -> StdLink<'a, W>
-        ensures { (result.ended ≡ false) × (result.faults ≡ 0) }
+        ensures fresh { (result.ended ≡ false) × (result.faults ≡ 0) }
+        ensures number { result.number ≡ number }
     {
         let _ = stream.set_nodelay(true);
         keep_alive(&stream);
@@ -121,8 +124,8 @@ impl<'a, W: Wait + Clock + Eprint> StdLink<'a, W> {
             rt,
             shared,
             stream,
+            number,
             watched: Some(Watched {
-                number,
                 ip,
                 accepted: Instant::now(rt).ok(),
                 standing: Standing::nothing(),
@@ -154,7 +157,7 @@ impl<'a, W: Wait + Clock + Eprint> StdLink<'a, W> {
     fn goes_on(&self, error: &io::Error) -> bool {
         let is_late = matches!(error.kind(), ErrorKind::WouldBlock | ErrorKind::TimedOut);
         match &self.watched {
-            Some(watched) => is_late && self.shared.has_opens(self.rt, watched.number),
+            Some(_) => is_late && self.shared.has_opens(self.rt, self.number),
             None => false,
         }
     }
@@ -207,7 +210,7 @@ impl<'a, W: Wait + Clock + Eprint> StdLink<'a, W> {
     // Prints what is new, if it can be printed.
     fn tell(&self, watched: &Watched, news: &News) {
         let log = Stamped::new(self.rt, self.shared.watch(self.rt).printed);
-        let number = watched.number;
+        let number = self.number;
         let from = Ipv4Addr::from_bits(watched.ip);
         match news {
             News::Nothing => {}
@@ -252,7 +255,7 @@ impl<'a, W: Wait + Clock + Eprint> StdLink<'a, W> {
         self.tell(watched, news);
         self.tell_room(standing);
         if standing.session.is_some() || watched.standing.session.is_some() {
-            self.shared.stands(self.rt, watched.number, standing);
+            self.shared.stands(self.rt, self.number, standing);
         }
         let mut next = *watched;
         next.standing = *standing;
@@ -272,18 +275,21 @@ impl<'a, W: Wait + Clock + Eprint> Drop for StdLink<'a, W> {
             rt,
             shared,
             stream: _stream,
+            number,
             watched,
             ended: _,
             faults: _,
         } = self;
-        if let Some(watched) = watched {
-            shared.leave(rt, watched.number);
+        if watched.is_some() {
+            shared.leave(rt, number);
         }
     }
 }
 
 impl<'a, W: Wait + Clock + Eprint> Link for StdLink<'a, W> {
     ghost told = { ⊥ };
+
+    ghost number = { λ l. l.number };
 
     ghost given = { λ _. untold };
 

@@ -1,5 +1,6 @@
 // The edge to the standard library's network.
 ghost use Rattle.std.specs.Prelude.{◌≡◌, false, IfSome};
+ghost use Rattle.base_outside.specs.network.Link.{unsent};
 
 use crate::link::StdLink;
 use crate::log_lines::Stamped;
@@ -176,7 +177,8 @@ fn entered<'a, W: Wait + Clock + Eprint>(
     arrived: Arrived,
     number: u64,
 ) -> Option<StdLink<'a, W>>
-    ensures { IfSome result (λ link. (link.ended ≡ false) × (link.faults ≡ 0)) }
+    ensures fresh { IfSome result (λ link. (link.ended ≡ false) × (link.faults ≡ 0)) }
+    ensures number { IfSome result (λ link. link.number ≡ number) }
 {
     let Arrived { stream, ip, port } = arrived;
     let again = Arc::try_clone(&stream).ok()?;
@@ -193,7 +195,8 @@ fn next_link<'a, W: Wait + Clock + Eprint>(
     listener: &Option<TcpListener>,
     number: u64,
 ) -> Option<StdLink<'a, W>>
-    ensures { IfSome result (λ link. (link.ended ≡ false) × (link.faults ≡ 0)) }
+    ensures fresh { IfSome result (λ link. (link.ended ≡ false) × (link.faults ≡ 0)) }
+    ensures number { IfSome result (λ link. link.number ≡ number) }
 {
     let listener = listener.as_ref()?;
     for _ in rt.forever() {
@@ -211,7 +214,8 @@ fn made<'a, W: Wait + Clock + Eprint>(
     shared: &'a Shared,
     answer: io::Result<TcpStream>,
 ) -> Option<StdLink<'a, W>>
-    ensures { IfSome result (λ link. (link.ended ≡ false) × (link.faults ≡ 0)) }
+    ensures fresh { IfSome result (λ link. (link.ended ≡ false) × (link.faults ≡ 0)) }
+    ensures number { IfSome result (λ link. link.number ≡ 0) }
 {
     let stream = answer.ok()?;
     let stream = Arc::new(shared.alloc, stream).ok()?;
@@ -227,6 +231,8 @@ where
     ghost listens_at = { λ n. n.listens_at };
 
     ghost accepted = { λ n. n.accepted };
+
+    ghost sent = { λ _. unsent };
 
     ghost faults = { λ n. n.faults };
 

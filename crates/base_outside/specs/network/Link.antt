@@ -24,3 +24,11 @@ pub record IsLinkUnused (told : Type 0) (given written : List ℕ) : Type 0 wher
 -- What stands for the bytes of a link that doesn't tell them.
 abbrev pub untold : List ℕ
 untold = []
+
+-- the number of a link that no net accepted
+abbrev pub unnumbered : ℕ
+unnumbered = 0
+
+-- what stands for all that peers send, of a net whose links don't tell their bytes
+abbrev pub unsent : List (List ℕ)
+unsent = []

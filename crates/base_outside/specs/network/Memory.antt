@@ -13,8 +13,9 @@ pub record LinkState : Type 0 where
   pub failing : List ℕ
   pub faults : ℕ
 
--- One end of a link between two threads, which doesn't tell its bytes.
+-- One end of a link between two threads, which doesn't tell its bytes: which of the links that its net accepted it is, from 1, or 0.
 pub record EndState : Type 0 where
+  pub number : ℕ
   pub ended : Bool
   pub failing : List ℕ
   pub faults : ℕ
@@ -29,8 +30,8 @@ pub record SideState : Type 0 where
   pub faults : ℕ
 
 -- An end of a link with which nothing was done.
-abbrev pub new_end : List ℕ → EndState
-new_end failing = record { ended = false; failing = failing; faults = 0 }
+abbrev pub new_end : ℕ → List ℕ → EndState
+new_end number failing = record { number = number; ended = false; failing = failing; faults = 0 }
 
 -- A side of a net with which nothing was done.
 abbrev pub new_side : List ℕ → List ℕ → SideState

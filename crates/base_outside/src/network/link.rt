@@ -14,6 +14,9 @@ pub trait Link {
     /// Whether links of this kind tell their bytes.
     ghost told: { Type 0 };
 
+    /// Which of the links that its net accepted it is, from 1. It never changes. A link that no net accepted has the number 0.
+    ghost number: { Self → ℕ };
+
     /// All bytes that reads gave so far, where the link tells them.
     ghost given: { Self → List ℕ };
 
@@ -41,6 +44,7 @@ pub trait Link {
         ensures given { IfOk result (λ count. told → given self.new ≡ given self.old ++ take count into.new) }
         ensures failed { OnErr result (told → (left self.new ≡ left self.old) × (given self.new ≡ given self.old)) }
         ensures written { told → written self.new ≡ written self.old }
+        ensures number { number self.new ≡ number self.old }
         ensures end { ended self.new ≡ ended_after (ended self.old) result into.new }
         ensures cause { CountsFault (faults self.old) (faults self.new) result };
 
@@ -52,6 +56,7 @@ pub trait Link {
         ensures bytes { IfOk result (λ count. told → written self.new ≡ written self.old ++ take count from.now) }
         ensures failed { OnErr result (told → written self.new ≡ written self.old) }
         ensures given { told → (left self.new ≡ left self.old) × (given self.new ≡ given self.old) }
+        ensures number { number self.new ≡ number self.old }
         ensures end { ended self.new ≡ ended self.old }
         ensures cause { CountsFault (faults self.old) (faults self.new) result };
 
@@ -60,6 +65,7 @@ pub trait Link {
     fn note(&mut self, _standing: &Standing, _news: &News)
         ensures bytes { told → (left self.new ≡ left self.old) × (given self.new ≡ given self.old)
             × (written self.new ≡ written self.old) }
+        ensures number { number self.new ≡ number self.old }
         ensures end { ended self.new ≡ ended self.old }
         ensures calm { faults self.new ≡ faults self.old }
     {}

@@ -15,6 +15,7 @@ pub struct MemEnd<'a, W: Wait> {
     rt: &'a W,
     lane: Arc<Lane>,
     end: End,
+    number: u64,
     ended: bool,
     plan: Plan,
     faults: u64,
@@ -25,20 +26,28 @@ impl<'a, W: Wait> Model for MemEnd<'a, W> {
 
     ghost Value = { EndState };
 
-    ghost view = { λ e. record { ended = e.ended; failing = e.plan; faults = e.faults } };
+    ghost view = { λ e. record { number = e.number; ended = e.ended; failing = e.plan; faults = e.faults } };
 }
 
 impl<'a, W: Wait> MemEnd<'a, W> {
     ghost use Rattle.std.specs.Prelude.{◌≡◌};
     ghost use Rattle.base_outside.specs.network.Memory.{new_end};
 
-    pub(crate) fn new(rt: &'a W, lane: Arc<Lane>, end: End, plan: Plan) -> MemEnd<'a, W>
-        ensures { result ≡ new_end plan }
+    /// An end of this number, which is 0 where it wasn't accepted.
+    pub(crate) fn new(
+        rt: &'a W,
+        lane: Arc<Lane>,
+        end: End,
+        number: u64,
+        plan: Plan,
+    ) -> MemEnd<'a, W>
+        ensures { result ≡ new_end number plan }
     {
         MemEnd {
             rt,
             lane,
             end,
+            number,
             ended: false,
             plan,
             faults: 0,
@@ -52,6 +61,7 @@ impl<'a, W: Wait> Drop for MemEnd<'a, W> {
             rt,
             lane,
             end,
+            number: _,
             ended: _,
             plan: _plan,
             faults: _,
@@ -67,6 +77,8 @@ impl<'a, W: Wait> Link for MemEnd<'a, W> {
     ghost use Rattle.base_outside.specs.network.Link.{LinkGives, ended_after, untold};
 
     ghost told = { ⊥ };
+
+    ghost number = { λ e. e.number };
 
     ghost given = { λ _. untold };
 
@@ -88,6 +100,7 @@ impl<'a, W: Wait> Link for MemEnd<'a, W> {
         ensures given { IfOk result (λ count. ⊥ → untold ≡ untold ++ take count into.new) }
         ensures failed { OnErr result (⊥ → (untold ≡ untold) × (untold ≡ untold)) }
         ensures written { ⊥ → untold ≡ untold }
+        ensures number { self.new.number ≡ self.old.number }
         ensures end { self.new.ended ≡ ended_after self.old.ended result into.new }
         ensures cause { CountsFault self.old.faults self.new.faults result }
         ensures which { IsErr result ↔ IsTrue (next_fails self.old.failing) }
@@ -108,6 +121,7 @@ impl<'a, W: Wait> Link for MemEnd<'a, W> {
         ensures bytes { IfOk result (λ count. ⊥ → untold ≡ untold ++ take count from.now) }
         ensures failed { OnErr result (⊥ → untold ≡ untold) }
         ensures given { ⊥ → (untold ≡ untold) × (untold ≡ untold) }
+        ensures number { self.new.number ≡ self.old.number }
         ensures end { self.new.ended ≡ self.old.ended }
         ensures cause { CountsFault self.old.faults self.new.faults result }
         ensures count { IfOk result (λ count. count ≡ length from.now) }

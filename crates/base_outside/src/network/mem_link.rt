@@ -77,9 +77,11 @@ impl Link for MemLink {
     ghost use Rattle.std.specs.Prelude.{◌≡◌, ◌≤◌, ◌<◌, ◌↔◌, ◌++◌, min, length, take, drop, IsTrue, IsErr, IfOk, OnErr};
     ghost use Rattle.base_outside.specs.streams.Faults.{CountsFault};
     ghost use Rattle.base_outside.specs.streams.Memory.{next_fails};
-    ghost use Rattle.base_outside.specs.network.Link.{LinkGives, ended_after};
+    ghost use Rattle.base_outside.specs.network.Link.{LinkGives, ended_after, unnumbered};
 
     ghost told = { ⊤ };
+
+    ghost number = { λ _. unnumbered };
 
     ghost given = { λ l. l.given };
 
@@ -101,6 +103,7 @@ impl Link for MemLink {
         ensures given { IfOk result (λ count. ⊤ → self.new.given ≡ self.old.given ++ take count into.new) }
         ensures failed { OnErr result (⊤ → (self.new.left ≡ self.old.left) × (self.new.given ≡ self.old.given)) }
         ensures written { ⊤ → self.new.written ≡ self.old.written }
+        ensures number { unnumbered ≡ unnumbered }
         ensures end { self.new.ended ≡ ended_after self.old.ended result into.new }
         ensures cause { CountsFault self.old.faults self.new.faults result }
         ensures count { IfOk result (λ count. count ≡ min (length into.old) (length self.old.left)) }
@@ -123,6 +126,7 @@ impl Link for MemLink {
         ensures bytes { IfOk result (λ count. ⊤ → self.new.written ≡ self.old.written ++ take count from.now) }
         ensures failed { OnErr result (⊤ → self.new.written ≡ self.old.written) }
         ensures given { ⊤ → (self.new.left ≡ self.old.left) × (self.new.given ≡ self.old.given) }
+        ensures number { unnumbered ≡ unnumbered }
         ensures end { self.new.ended ≡ self.old.ended }
         ensures cause { CountsFault self.old.faults self.new.faults result }
         ensures count { IfOk result (λ count. count ≡ length from.now) }

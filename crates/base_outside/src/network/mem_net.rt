@@ -237,32 +237,33 @@ fn opened<'a, W: Wait>(
     to: Side,
     link_failing: &Bytes,
 ) -> Option<MemEnd<'a, W>>
-    ensures { IfSome result (λ end. end ≡ new_end link_failing.now) }
+    ensures { IfSome result (λ end. end ≡ new_end 0 link_failing.now) }
 {
     let plan = Plan::new(link_failing.copy().ok()?);
     let lane = Arc::new(alloc, Lane::new(alloc)).ok()?;
     let theirs = Arc::try_clone(&lane).ok()?;
     hall.bring(rt, to, theirs)?;
-    Some(MemEnd::new(rt, lane, End::Connected, plan))
+    Some(MemEnd::new(rt, lane, End::Connected, 0, plan))
 }
 
-/// The end here of the next link that comes.
+/// The end here of the next link that comes, with this number.
 fn fetched<'a, W: Wait>(
     rt: &'a W,
     hall: &Hall,
     at: Side,
     link_failing: &Bytes,
+    number: u64,
 ) -> Option<MemEnd<'a, W>>
-    ensures { IfSome result (λ end. end ≡ new_end link_failing.now) }
+    ensures { IfSome result (λ end. end ≡ new_end number link_failing.now) }
 {
     let plan = Plan::new(link_failing.copy().ok()?);
     let lane = hall.fetch(rt, at)?;
-    Some(MemEnd::new(rt, lane, End::Accepted, plan))
+    Some(MemEnd::new(rt, lane, End::Accepted, number, plan))
 }
 
 impl<'a, W: Wait + Sync> Net for MemNet<'a, W> {
-    ghost use Rattle.std.specs.Prelude.{◌≡◌, ◌↔◌, ◌+◌, ◌-◌, ◌^◌, min, false, drop, Some, IsTrue, IsErr, IfOk, OnOk, OnErr};
-    ghost use Rattle.base_outside.specs.network.Link.{IsLinkUnused, untold};
+    ghost use Rattle.std.specs.Prelude.{◌≡◌, ◌↔◌, ◌+◌, ◌-◌, ◌^◌, min, false, [], ◌∷◌, ◌++◌, drop, Some, IsTrue, IsErr, IfOk, OnOk, OnErr};
+    ghost use Rattle.base_outside.specs.network.Link.{IsLinkUnused, unsent, untold};
     ghost use Rattle.base_outside.specs.streams.Faults.{CountsFault};
     ghost use Rattle.base_outside.specs.streams.Memory.{next_fails};
     ghost use Rattle.base_outside.specs.network.Memory.{new_end};
@@ -273,12 +274,15 @@ impl<'a, W: Wait + Sync> Net for MemNet<'a, W> {
 
     ghost accepted = { λ n. n.accepted };
 
+    ghost sent = { λ _. unsent };
+
     ghost faults = { λ n. n.faults };
 
     fn listen(&mut self, at: Address) -> Result<(), Failed>
         ensures place { OnOk result (self.new.listens_at ≡ Some at) }
         ensures failed { OnErr result (self.new.listens_at ≡ self.old.listens_at) }
         ensures accepted { self.new.accepted ≡ self.old.accepted }
+        ensures sent { ⊥ → unsent ≡ unsent }
         ensures cause { CountsFault self.old.faults self.new.faults result }
         ensures which { IsErr result ↔ IsTrue (next_fails self.old.failing) }
         ensures plan { self.new.failing ≡ drop 1 self.old.failing }
@@ -293,11 +297,13 @@ impl<'a, W: Wait + Sync> Net for MemNet<'a, W> {
     }
 
     fn accept(&mut self) -> Result<MemEnd<'a, W>, Failed>
-        ensures new { IfOk result (λ end. end ≡ new_end self.old.link_failing) }
+        ensures new { IfOk result (λ end. end ≡ new_end (min (self.old.accepted + 1) (2 ^ 64 - 1)) self.old.link_failing) }
         ensures fresh { IfOk result (λ end. (end.ended ≡ false) × (end.faults ≡ 0)) }
         ensures unused { IfOk result (λ end. IsLinkUnused ⊥ untold untold) }
         ensures accepted { OnOk result (self.new.accepted ≡ min (self.old.accepted + 1) (2 ^ 64 - 1)) }
-        ensures failed { OnErr result (self.new.accepted ≡ self.old.accepted) }
+        ensures number { IfOk result (λ end. end.number ≡ min (self.old.accepted + 1) (2 ^ 64 - 1)) }
+        ensures sent { IfOk result (λ end. ⊥ → unsent ≡ unsent ++ untold ∷ []) }
+        ensures failed { OnErr result ((self.new.accepted ≡ self.old.accepted) × (⊥ → unsent ≡ unsent)) }
         ensures place { self.new.listens_at ≡ self.old.listens_at }
         ensures cause { CountsFault self.old.faults self.new.faults result }
         ensures which { IsTrue (next_fails self.old.failing) → IsErr result }
@@ -305,8 +311,9 @@ impl<'a, W: Wait + Sync> Net for MemNet<'a, W> {
         ensures link_plan { self.new.link_failing ≡ self.old.link_failing }
     {
         if !self.plan.next() {
-            if let Some(end) = fetched(self.rt, &self.hall, self.side, &self.link_failing) {
-                self.accepted = self.accepted.saturating_add(1);
+            let number = self.accepted.saturating_add(1);
+            if let Some(end) = fetched(self.rt, &self.hall, self.side, &self.link_failing, number) {
+                self.accepted = number;
                 return Ok(end);
             }
         }
@@ -315,10 +322,12 @@ impl<'a, W: Wait + Sync> Net for MemNet<'a, W> {
     }
 
     fn connect(&mut self, _to: Address) -> Result<MemEnd<'a, W>, Failed>
-        ensures new { IfOk result (λ end. end ≡ new_end self.old.link_failing) }
+        ensures new { IfOk result (λ end. end ≡ new_end 0 self.old.link_failing) }
         ensures fresh { IfOk result (λ end. (end.ended ≡ false) × (end.faults ≡ 0)) }
         ensures unused { IfOk result (λ end. IsLinkUnused ⊥ untold untold) }
         ensures accepted { self.new.accepted ≡ self.old.accepted }
+        ensures number { IfOk result (λ end. end.number ≡ 0) }
+        ensures sent { ⊥ → unsent ≡ unsent }
         ensures place { self.new.listens_at ≡ self.old.listens_at }
         ensures cause { CountsFault self.old.faults self.new.faults result }
         ensures which { IsTrue (next_fails self.old.failing) → IsErr result }
