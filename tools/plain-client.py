@@ -325,6 +325,10 @@ def drawn(number, chance):
 # ---- scripts that are long, or that come to what seldom is drawn
 
 
+# an open's id whose FileId has the two halves 7 and 10
+WIDE = (3 << 64) + 7
+
+
 def begun(number, persist=True, channels=(0, 1)):
     """A script with an open, on these channels."""
     script = Script(number)
@@ -332,7 +336,7 @@ def begun(number, persist=True, channels=(0, 1)):
         script.ready(channel, 1, 1)
     script.submit(1, "create", size=1, persist=persist)
     script.push(0)
-    script.hear(0, 1, 0, ("action", 2), 7)
+    script.hear(0, 1, 0, ("action", 2), WIDE)
     return script
 
 

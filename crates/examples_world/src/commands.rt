@@ -8,6 +8,7 @@ ghost use Rattle.spec_exchange.specs.State.{Count, Empty, Listing};
 ghost use Rattle.spec_commands.specs.Charges.{payload};
 ghost use Rattle.spec_commands.specs.CommandOf.{command_of};
 ghost use Rattle.spec_commands.specs.BodyOf.{body_of};
+ghost use Rattle.spec_commands.specs.Ids.{file_kept};
 ghost use Rattle.spec_commands.specs.ReplyBody.{reply_body};
 ghost use Rattle.spec_commands.specs.ReplyOf.{reply_of};
 ghost use Rattle.spec_wire.specs.messages.Places.{le};
@@ -20,6 +21,19 @@ pub fn close_example()
         ∷ 0 ∷ 0 ∷ 0 ∷ 0 ∷ 0 ∷ 0 ∷ 0 ∷ []) ≡ Some (Close 5 true) }
     ensures written { body_of (Close 5 true)
         ≡ 24 ∷ 0 ∷ 1 ∷ 0 ∷ 0 ∷ 0 ∷ 0 ∷ 0 ∷ 5 ∷ 0 ∷ 0 ∷ 0 ∷ 0 ∷ 0 ∷ 0 ∷ 0 ∷ 5 ∷ 0 ∷ 0 ∷ 0 ∷ 0 ∷ 0 ∷ 0 ∷ 0 ∷ [] }
+{}
+
+/// The FileId of the halves 1 and 3 is kept as 1 and twice 2^64, that of the halves 3 and 2 as 3 and 2^64 - 1 times 2^64 (2.2.14.1). A
+/// CLOSE gives the first one back as its 16 bytes, and names no open by them here.
+pub fn file_ids_example()
+    ensures above { file_kept (1 ∷ 0 ∷ 0 ∷ 0 ∷ 0 ∷ 0 ∷ 0 ∷ 0 ∷ 3 ∷ 0 ∷ 0 ∷ 0 ∷ 0 ∷ 0 ∷ 0 ∷ 0 ∷ []) ≡ 0x2_0000_0000_0000_0001 }
+    ensures below { file_kept (3 ∷ 0 ∷ 0 ∷ 0 ∷ 0 ∷ 0 ∷ 0 ∷ 0 ∷ 2 ∷ 0 ∷ 0 ∷ 0 ∷ 0 ∷ 0 ∷ 0 ∷ 0 ∷ [])
+        ≡ 0xffff_ffff_ffff_ffff_0000_0000_0000_0003 }
+    ensures same { file_kept (5 ∷ 0 ∷ 0 ∷ 0 ∷ 0 ∷ 0 ∷ 0 ∷ 0 ∷ 5 ∷ 0 ∷ 0 ∷ 0 ∷ 0 ∷ 0 ∷ 0 ∷ 0 ∷ []) ≡ 5 }
+    ensures given_back { body_of (Close 0x2_0000_0000_0000_0001 true)
+        ≡ 24 ∷ 0 ∷ 1 ∷ 0 ∷ 0 ∷ 0 ∷ 0 ∷ 0 ∷ 1 ∷ 0 ∷ 0 ∷ 0 ∷ 0 ∷ 0 ∷ 0 ∷ 0 ∷ 3 ∷ 0 ∷ 0 ∷ 0 ∷ 0 ∷ 0 ∷ 0 ∷ 0 ∷ [] }
+    ensures unknown { command_of told (header_of 6 0) (zeros ++ 24 ∷ 0 ∷ 1 ∷ 0 ∷ 0 ∷ 0 ∷ 0 ∷ 0 ∷ 1 ∷ 0 ∷ 0 ∷ 0 ∷ 0 ∷ 0 ∷ 0 ∷ 0 ∷ 3
+        ∷ 0 ∷ 0 ∷ 0 ∷ 0 ∷ 0 ∷ 0 ∷ 0 ∷ []) ≡ Some (Close 0 true) }
 {}
 
 /// A TREE_CONNECT to `\\s\d` names the share d (2.2.9).

@@ -16,8 +16,8 @@ pub use ciphers::{
     gcm_block, gcm_empty,
 };
 pub use commands::{
-    attributes_example, close_example, create_example, interface_example, listing_example,
-    tree_connect_example, unreadable_example, write_reply_example,
+    attributes_example, close_example, create_example, file_ids_example, interface_example,
+    listing_example, tree_connect_example, unreadable_example, write_reply_example,
 };
 pub use connections::{
     absent_reply_example, accepted_session_example, begun_again_example, binding_client_example,

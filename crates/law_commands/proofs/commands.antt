@@ -1,4 +1,5 @@
 pub mod Fields
+pub mod Halves
 pub mod ReadBack
 pub mod Paid
 pub mod Texts

@@ -4,6 +4,7 @@
 
 mod create;
 mod dialog;
+mod file_ids;
 mod other;
 mod parts;
 mod plain;
@@ -14,6 +15,7 @@ mod setting;
 mod told;
 
 pub use dialog::{dialog_reply_law, dialog_request_law, share_law};
+pub use file_ids::file_ids_law;
 pub use other::other_request_law;
 pub use reading::{same_listing_law, same_reading_law};
 pub use reply::reply_law;

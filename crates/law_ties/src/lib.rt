@@ -19,5 +19,6 @@ pub use frame_counts::{lists_law, refusals_law};
 pub use lone_server::{nothing_befell_law, own_step_law, single_events_law};
 pub use requests::{line_crashes_law, line_sends_law, line_serves_law, opens_law, pushes_law};
 pub use wire_facts::{
-    answered_law, ciphers_law, commands_law, greeting_law, headers_law, setups_law, trees_law,
+    answered_law, ciphers_law, commands_law, file_ids_carried_law, greeting_law, headers_law,
+    setups_law, trees_law,
 };

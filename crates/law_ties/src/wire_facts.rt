@@ -4,9 +4,9 @@
 //! nothing; those on tokens are proved by `law_runs::logons`.
 
 ghost use Rattle.law_ties.specs.wire_facts.Lawful.{AreCiphersLawful, AreHeadersLawful, AreCommandsLawful, AreSetupsLawful};
-ghost use Rattle.law_ties.specs.wire_facts.Lawful.{GreetingFacts, AnswerFacts, TreeFacts};
+ghost use Rattle.law_ties.specs.wire_facts.Lawful.{AreFileIdsCarried, GreetingFacts, AnswerFacts, TreeFacts};
 
-use law_commands::{dialog_request_law, reply_law, request_law, share_law};
+use law_commands::{dialog_request_law, file_ids_law, reply_law, request_law, share_law};
 use law_crypto::{sealed_opens_law, signed_verifies_law};
 use law_wire::{
     header_law, negotiate_request_law, negotiate_response_law, session_setup_request_law,
@@ -38,6 +38,14 @@ pub fn commands_law()
     header_law();
     request_law();
     reply_law();
+}
+
+/// A request of an operation gives back the FileId that its client was told, whichever 16 bytes the server chose: they stand at the
+/// place of its command (MS-SMB2 2.2.15 to 2.2.39), behind any header of 64 bytes.
+pub fn file_ids_carried_law()
+    ensures carried { AreFileIdsCarried }
+{
+    file_ids_law();
 }
 
 /// A SESSION_SETUP that the client sends, signed in a binding, is heard with its token, its session before it and what that

@@ -22,7 +22,7 @@ use Rattle.spec_exchange.specs.Commands.{Command, Setup, Logoff, TreeConnect, Tr
 use Rattle.spec_exchange.specs.Commands.{Read, Write, Lock, ListDirectory, QueryFile, SetInfo, Basic, has_bit}
 use Rattle.spec_exchange.specs.State.{Info, CreateReply, Named, Body, Empty, Created, Content, Count, Interfaces}
 use Rattle.spec_exchange.specs.State.{Listing, FileInfo, SetUp, Connected, Reply}
-use Rattle.spec_commands.specs.Ids.{file_of}
+use Rattle.spec_commands.specs.Ids.{file_kept}
 use Rattle.spec_commands.specs.Text.{text_in}
 use Rattle.spec_commands.specs.Items.{items_in}
 use Rattle.spec_commands.specs.Tables.{directory_class}
@@ -44,7 +44,7 @@ of_length size = record { file = 0; is_directory = false; size = size; is_delete
 
 abbrev pub created_of : CreateResponseValue → CreateReply
 created_of v = record {
-  id = file_of v.file_id;
+  id = file_kept v.file_id;
   action = v.create_action;
   info = of_length v.end_of_file;
   timeout =

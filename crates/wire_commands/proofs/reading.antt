@@ -1,6 +1,6 @@
 pub mod Clashing
 pub mod Elements
-pub mod Guids
+pub mod Halves
 pub mod Heard
 pub mod Leaf
 pub mod Unless

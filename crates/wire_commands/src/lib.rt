@@ -11,9 +11,10 @@ mod writing;
 pub use reading::{heard_as, reply_of, request_of};
 pub use reply_shapes::{no_setup, room_for, shape_of};
 pub use values::{
-    Address, Basic, Body, Command, CreateReply, CreateRequest, Durable, Element, Info, Message,
-    Named, Reconnect, Reply, Request, Setting, SetupForm, SetupRequest, Shows, directory_class,
+    Address, Basic, Body, ClientCommand, ClientCreate, ClientReconnect, Command, CreateReply,
+    CreateRequest, Durable, Element, Info, Message, Named, Reconnect, Reply, Request, Setting,
+    SetupForm, SetupRequest, Shows, directory_class,
 };
 pub use writing::{
-    Unjoined, WriteError, body_of, elements_bytes, join_messages, joined_law, reply_body,
+    Unjoined, WriteError, body_of, elements_bytes, file_id, join_messages, joined_law, reply_body,
 };

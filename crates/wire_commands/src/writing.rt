@@ -10,6 +10,7 @@ mod spelling;
 mod volume;
 
 pub use fault::WriteError;
+pub use ids::file_id;
 pub use joining::{Unjoined, join_messages, joined_law};
 pub use replying::reply_body;
 pub use spelling::{body_of, elements_bytes};

@@ -17,7 +17,7 @@ use crypto_sessions::Nonces;
 use std::alloc::AllocError;
 use std::mem;
 use wire_bytes::{Bytes, Header, Request};
-use wire_commands::{Command, body_of};
+use wire_commands::{ClientCommand, body_of};
 
 const TREE_CONNECT: u16 = 3;
 
@@ -26,7 +26,7 @@ fn tree_body(d: &Dialog) -> Result<Bytes, AllocError>
     ensures { IfOk result (λ b. IsConnecting d.now.config.share b) }
 {
     let share = d.config.share.copy()?;
-    match body_of(d.line.alloc, &Command::TreeConnect { share }) {
+    match body_of(d.line.alloc, &ClientCommand::TreeConnect { share }) {
         Ok(body) => Ok(body),
         Err(_) => Err(AllocError),
     }

@@ -1,12 +1,12 @@
 ghost use Rattle.std.specs.Prelude.{◌≡◌, ◌≤◌};
 ghost use Rattle.spec_commands.specs.BodyOf.{number_of_command};
 ghost use Rattle.spec_commands.specs.Tables.{bit_if};
-ghost use Rattle.wire_commands.specs.values.Meaning.{command_of};
+ghost use Rattle.wire_commands.specs.values.Meaning.{client_command_of};
 ghost use Rattle.client_ends.specs.operation_requests.Requesting.{Requests};
 
 use std::alloc::Global;
 use wire_bytes::{Header, Request};
-use wire_commands::{Command, WriteError, body_of};
+use wire_commands::{ClientCommand, WriteError, body_of};
 
 /// SMB2_FLAGS_REPLAY_OPERATION
 const REPLAY: u32 = 0x2000_0000;
@@ -24,36 +24,36 @@ pub struct Heading {
 }
 
 /// The number of a command that a line sends (MS-SMB2 2.2.1), 0 of another one.
-pub fn number_of(command: &Command<'_>) -> u16
-    ensures { result ≡ number_of_command (command_of command.now) }
+pub fn number_of(command: &ClientCommand<'_>) -> u16
+    ensures { result ≡ number_of_command (client_command_of command.now) }
 {
     // Long by its commands alone: an arm is an equation that the checker computes, and a function costs the same to
     // prove whatever its length.
     match command {
-        Command::TreeConnect { share: _ } => 3,
-        Command::Create(_) => 5,
-        Command::Close { file: _, query: _ } => 6,
-        Command::Flush { file: _ } => 7,
-        Command::Read {
+        ClientCommand::TreeConnect { share: _ } => 3,
+        ClientCommand::Create(_) => 5,
+        ClientCommand::Close { file: _, query: _ } => 6,
+        ClientCommand::Flush { file: _ } => 7,
+        ClientCommand::Read {
             file: _,
             at: _,
             size: _,
             minimum: _,
             channel: _,
         } => 8,
-        Command::Write {
+        ClientCommand::Write {
             file: _,
             at: _,
             bytes: _,
             channel: _,
         } => 9,
-        Command::Lock {
+        ClientCommand::Lock {
             file: _,
             index: _,
             number: _,
             elements: _,
         } => 10,
-        Command::ListDirectory {
+        ClientCommand::ListDirectory {
             file: _,
             class: _,
             restart: _,
@@ -61,16 +61,16 @@ pub fn number_of(command: &Command<'_>) -> u16
             pattern: _,
             room: _,
         } => 14,
-        Command::QueryFile {
+        ClientCommand::QueryFile {
             file: _,
             class: _,
             room: _,
         } => 16,
-        Command::SetInfo {
+        ClientCommand::SetInfo {
             file: _,
             setting: _,
         } => 17,
-        _ => 0,
+        ClientCommand::Nothing => 0,
     }
 }
 
@@ -108,9 +108,9 @@ fn header_of(heading: &Heading, command: u16) -> Header
 pub fn request_of(
     alloc: Global,
     heading: &Heading,
-    command: &Command<'_>,
+    command: &ClientCommand<'_>,
 ) -> Result<Request, WriteError>
-    ensures { Requests heading.now (command_of command.now) result }
+    ensures { Requests heading.now (client_command_of command.now) result }
 {
     match body_of(alloc, command) {
         Ok(body) => {

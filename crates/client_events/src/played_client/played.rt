@@ -5,7 +5,7 @@ ghost use Rattle.spec_exchange.specs.Operations.{Unsettled, reconnect_of as reco
 ghost use Rattle.spec_exchange.specs.Client.{Client as Model, ask_message, create_for, finish, guid_for, is_taken, own_message};
 ghost use Rattle.spec_exchange.specs.ClientStep.{some_unsettled};
 ghost use Rattle.law_client.specs.table.Kept.{TableKept};
-ghost use Rattle.wire_commands.specs.values.Meaning.{command_of};
+ghost use Rattle.wire_commands.specs.values.Meaning.{client_command_of};
 ghost use Rattle.client_values.specs.outcomes.Meaning.{dialog_of, outcome_of, why_of};
 ghost use Rattle.client_steps.specs.whole_client.Shown.{FitsClient, ShowsClient};
 ghost use Rattle.client_events.specs.event_calls.Events.{KeepsShown, ClientEventLacks, ClientEventTells};
@@ -19,7 +19,7 @@ use client_steps::Head;
 use client_values::{Outcome, RefusedDialog, Why};
 use std::alloc::{AllocError, Global};
 use std::marker::Model;
-use wire_commands::Command;
+use wire_commands::ClientCommand;
 
 /// A client, in a state to which it can come.
 #[derive(Drop)]
@@ -202,8 +202,8 @@ impl Played {
         index: usize,
         asking: bool,
         salt: u64,
-    ) -> Result<Command<'_>>
-        ensures { IfOk result (λ q. (c : Model) → ShowsClient self.now c → c.who.salt ≡ salt → command_of q
+    ) -> Result<ClientCommand<'_>>
+        ensures { IfOk result (λ q. (c : Model) → ShowsClient self.now c → c.who.salt ≡ salt → client_command_of q
             ≡ (if asking then reconnecting (c.op (create_for c index)) (guid_for c (create_for c index)) (c.file (create_for c index))
             else requesting (c.op index) (guid_for c index) (c.file (create_for c index)) (c.slot_of index) (c.number_of index))) }
     {

@@ -2,7 +2,7 @@
 ghost use Rattle.std.specs.Prelude.{◌≡◌, ℕ, ◌<◌, nat_lt, length, true, false, if◌then◌else◌, IfOk, OnErr};
 ghost use Rattle.spec_exchange.specs.Operations.{reconnect_of as reconnecting, request_of as requesting};
 ghost use Rattle.spec_exchange.specs.Client.{Client as Model, ask_message, create_for, guid_for, is_taken, own_message};
-ghost use Rattle.wire_commands.specs.values.Meaning.{command_of};
+ghost use Rattle.wire_commands.specs.values.Meaning.{client_command_of};
 ghost use Rattle.client_steps.specs.whole_client.Shown.{FitsClient, ShowsClient};
 ghost use Rattle.client_steps.specs.sent_requests.Sent.{IsHead};
 
@@ -10,7 +10,7 @@ use crate::event_calls::Client;
 use anyhow::{Result, bail};
 use client_steps::{Head, ask_head, ask_request, own_head, own_request};
 use std::alloc::{AllocError, Global};
-use wire_commands::Command;
+use wire_commands::ClientCommand;
 
 fn has_row(client: &Client, index: usize) -> bool
     ensures { result ≡ nat_lt index (length client.now.table.rows.items) }
@@ -49,21 +49,21 @@ fn own<'a>(
     client: &'a Client,
     index: usize,
     salt: u64,
-) -> Result<Command<'a>, AllocError>
+) -> Result<ClientCommand<'a>, AllocError>
     requires fits { FitsClient client.now }
     requires above { 0 < index }
     requires within { index < length client.now.table.rows.items }
-    ensures { IfOk result (λ q. (c : Model) → ShowsClient client.now c → c.who.salt ≡ salt → command_of q
+    ensures { IfOk result (λ q. (c : Model) → ShowsClient client.now c → c.who.salt ≡ salt → client_command_of q
         ≡ requesting (c.op index) (guid_for c index) (c.file (create_for c index)) (c.slot_of index) (c.number_of index)) }
 {
     own_request(alloc, &client.table, &client.opened, index, salt)
 }
 
-fn ask<'a>(client: &'a Client, index: usize, salt: u64) -> Result<Command<'a>, AllocError>
+fn ask<'a>(client: &'a Client, index: usize, salt: u64) -> Result<ClientCommand<'a>, AllocError>
     requires fits { FitsClient client.now }
     requires above { 0 < index }
     requires within { index < length client.now.table.rows.items }
-    ensures { IfOk result (λ q. (c : Model) → ShowsClient client.now c → c.who.salt ≡ salt → command_of q
+    ensures { IfOk result (λ q. (c : Model) → ShowsClient client.now c → c.who.salt ≡ salt → client_command_of q
         ≡ reconnecting (c.op (create_for c index)) (guid_for c (create_for c index)) (c.file (create_for c index))) }
 {
     ask_request(&client.table, &client.opened, index, salt)
@@ -76,11 +76,11 @@ fn either<'a>(
     index: usize,
     asking: bool,
     salt: u64,
-) -> Result<Command<'a>, AllocError>
+) -> Result<ClientCommand<'a>, AllocError>
     requires fits { FitsClient client.now }
     requires above { 0 < index }
     requires within { index < length client.now.table.rows.items }
-    ensures { IfOk result (λ q. (c : Model) → ShowsClient client.now c → c.who.salt ≡ salt → command_of q
+    ensures { IfOk result (λ q. (c : Model) → ShowsClient client.now c → c.who.salt ≡ salt → client_command_of q
         ≡ (if asking then reconnecting (c.op (create_for c index)) (guid_for c (create_for c index)) (c.file (create_for c index))
         else requesting (c.op index) (guid_for c index) (c.file (create_for c index)) (c.slot_of index) (c.number_of index))) }
 {
@@ -96,9 +96,9 @@ pub(crate) fn request_of<'a>(
     index: usize,
     asking: bool,
     salt: u64,
-) -> Result<Command<'a>>
+) -> Result<ClientCommand<'a>>
     requires fits { FitsClient client.now }
-    ensures { IfOk result (λ q. (c : Model) → ShowsClient client.now c → c.who.salt ≡ salt → command_of q
+    ensures { IfOk result (λ q. (c : Model) → ShowsClient client.now c → c.who.salt ≡ salt → client_command_of q
         ≡ (if asking then reconnecting (c.op (create_for c index)) (guid_for c (create_for c index)) (c.file (create_for c index))
         else requesting (c.op index) (guid_for c index) (c.file (create_for c index)) (c.slot_of index) (c.number_of index))) }
 {

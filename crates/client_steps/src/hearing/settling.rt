@@ -33,7 +33,7 @@ fn note(
     index: usize,
     last: u32,
     outcome: &Outcome,
-    file: u64,
+    file: u128,
 )
     requires fits { TableFits table.old }
     requires opens { FitsOpens table.old.rows.items attached.old }
@@ -117,7 +117,7 @@ fn note_reply(
     outcome: &Outcome,
     asking: bool,
     status: u32,
-    file: u64,
+    file: u128,
 )
     requires fits { TableFits table.old }
     requires opens { FitsOpens table.old.rows.items attached.old }
@@ -155,7 +155,7 @@ pub fn settle_heard(
     outcome: Outcome,
     asking: bool,
     status: u32,
-    file: u64,
+    file: u128,
 )
     requires fits { TableFits table.old }
     requires opens { FitsOpens table.old.rows.items attached.old }

@@ -43,7 +43,7 @@ fn shuts_open(table: &Table, index: usize) -> bool
     }
 }
 
-fn name_open(own: &mut Opened, file: u64)
+fn name_open(own: &mut Opened, file: u128)
     ensures file { own.new.file ≡ file }
     ensures shut { own.new.shut ≡ own.old.shut }
     ensures persist { own.new.persist ≡ own.old.persist }
@@ -67,7 +67,7 @@ pub fn note_ok(
     opened: &mut [Opened],
     index: usize,
     last: u32,
-    file: u64,
+    file: u128,
 )
     requires fits { TableFits table.old }
     requires opens { FitsOpens table.old.rows.items attached.old }

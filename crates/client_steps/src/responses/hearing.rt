@@ -36,7 +36,7 @@ pub struct Response {
     /// isn't looked at.
     pub reply: Option<OpReply>,
     /// The FileId that the body names, whatever the status; 0 where it isn't the body of a create.
-    pub file: u64,
+    pub file: u128,
 }
 
 fn is_on(outstanding: Option<u8>, channel: u8) -> bool
@@ -169,7 +169,7 @@ fn carry_out(
     last: u32,
     asking: bool,
     status: u32,
-    file: u64,
+    file: u128,
     hearing: Hearing,
 ) -> bool
     requires fits { TableFits table.old }

@@ -2,7 +2,7 @@
 ghost use Rattle.std.specs.Prelude.{◌≡◌, ◌+◌, ◌*◌, ◌<◌, length, slice_index_or, IfOk};
 ghost use Rattle.spec_exchange.specs.Operations.{reconnect_of as reconnecting, request_of as requesting};
 ghost use Rattle.spec_exchange.specs.Client.{Client, create_for, guid_for};
-ghost use Rattle.wire_commands.specs.values.Meaning.{command_of};
+ghost use Rattle.wire_commands.specs.values.Meaning.{client_command_of};
 ghost use Rattle.client_values.specs.declared.operations.values.OpKind.TheVariants as kinds;
 ghost use Rattle.client_values.specs.operations.Meaning.{op_of};
 ghost use Rattle.client_rows.specs.operation_rows.Rows.{row_at, owner};
@@ -14,7 +14,7 @@ use client_rows::Row;
 use client_tables::{Opened, Table};
 use client_values::{Ids, OpKind, reconnect_of, request_of};
 use std::alloc::{AllocError, Global};
-use wire_commands::Command;
+use wire_commands::ClientCommand;
 
 // By the number, so that each copy of a create has the same CreateGuid and none has to be kept.
 /// A CreateGuid: the number of an operation, and the eight random bytes of a run.
@@ -39,7 +39,7 @@ fn known_at(opened: &[Opened], at: usize) -> Opened
 }
 
 /// The FileId of an operation's open; 0 before its create's success.
-fn file_at(opened: &[Opened], at: usize) -> u64
+fn file_at(opened: &[Opened], at: usize) -> u128
     requires { at < length opened.now }
     ensures { (o : Known) × (IsKnownAt opened.now at o) × (result ≡ o.file) }
 {
@@ -74,9 +74,9 @@ fn request_at<'a>(
     ops: &'a [OpKind],
     place: usize,
     ids: Ids,
-) -> Result<Command<'a>, AllocError>
+) -> Result<ClientCommand<'a>, AllocError>
     requires { place < length ops.now }
-    ensures { IfOk result (λ q. command_of q
+    ensures { IfOk result (λ q. client_command_of q
         ≡ requesting (op_of (slice_index_or ops.now place (kinds.Close 0))) ids.guid ids.file ids.slot ids.number) }
 {
     request_of(alloc, &ops[place], ids)
@@ -86,10 +86,10 @@ fn reconnect_at<'a>(
     ops: &'a [OpKind],
     place: usize,
     guid: u128,
-    file: u64,
-) -> Result<Command<'a>, AllocError>
+    file: u128,
+) -> Result<ClientCommand<'a>, AllocError>
     requires { place < length ops.now }
-    ensures { IfOk result (λ q. command_of q ≡ reconnecting (op_of (slice_index_or ops.now place (kinds.Close 0))) guid file) }
+    ensures { IfOk result (λ q. client_command_of q ≡ reconnecting (op_of (slice_index_or ops.now place (kinds.Close 0))) guid file) }
 {
     reconnect_of(&ops[place], guid, file)
 }
@@ -101,13 +101,13 @@ pub fn own_request<'a>(
     opened: &[Opened],
     index: usize,
     salt: u64,
-) -> Result<Command<'a>, AllocError>
+) -> Result<ClientCommand<'a>, AllocError>
     requires fits { TableFits table.now }
     requires above { 0 < index }
     requires within { index < length table.now.rows.items }
     requires known { (row_at table.now.rows.items index).«open» < length opened.now }
     ensures { IfOk result (λ q. (c : Client) → ShowsTable table.now c → ShowsOpened table.now.rows.items opened.now c → c.who.salt ≡ salt
-        → command_of q ≡ requesting (c.op index) (guid_for c index) (c.file (create_for c index)) (c.slot_of index)
+        → client_command_of q ≡ requesting (c.op index) (guid_for c index) (c.file (create_for c index)) (c.slot_of index)
         (c.number_of index)) }
 {
     let ids = ids_of(table, opened, index, salt);
@@ -140,13 +140,13 @@ pub fn ask_request<'a>(
     opened: &[Opened],
     index: usize,
     salt: u64,
-) -> Result<Command<'a>, AllocError>
+) -> Result<ClientCommand<'a>, AllocError>
     requires fits { TableFits table.now }
     requires above { 0 < index }
     requires within { index < length table.now.rows.items }
     requires known { (row_at table.now.rows.items index).«open» < length opened.now }
     ensures { IfOk result (λ q. (c : Client) → ShowsTable table.now c → ShowsOpened table.now.rows.items opened.now c → c.who.salt ≡ salt
-        → command_of q ≡ reconnecting (c.op (create_for c index)) (guid_for c (create_for c index)) (c.file (create_for c index))) }
+        → client_command_of q ≡ reconnecting (c.op (create_for c index)) (guid_for c (create_for c index)) (c.file (create_for c index))) }
 {
     let create = create_at(table, index);
     let row = row_of(table, index);

@@ -8,5 +8,5 @@ pub struct Opened {
     /// A close of it settled Ok.
     pub shut: bool,
     /// Its FileId, which the success of its create tells; 0 before.
-    pub file: u64,
+    pub file: u128,
 }

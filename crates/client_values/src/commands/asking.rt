@@ -2,21 +2,20 @@
 ghost use Rattle.std.specs.Prelude.{◌≡◌, true, false, ◌∷◌, [], option_map, IfOk};
 ghost use Rattle.spec_exchange.specs.Commands.{Lock as Locking, ListDirectory as Listing, SetInfo as Sets, Rename as Renames};
 ghost use Rattle.spec_exchange.specs.Operations.{request_of, reconnect_of, create_request, options_of, only_written, lock_flags, element};
-ghost use Rattle.wire_commands.specs.values.Meaning.{command_of, create_of as create_in, durable_of as durable_in};
-ghost use Rattle.wire_commands.specs.values.Meaning.{reconnect_of as reconnect_in};
+ghost use Rattle.wire_commands.specs.values.Meaning.{client_command_of, client_create_of, client_reconnect_of, durable_of};
 ghost use Rattle.client_values.specs.operations.Meaning.{op_of};
 
 use crate::operations::OpKind;
 use spec_exchange::values::{Basic, Element};
 use std::alloc::{AllocError, Global};
 use wire_bytes::Text;
-use wire_commands::{Command, CreateRequest, Durable, Reconnect, Setting};
+use wire_commands::{ClientCommand, ClientCreate, ClientReconnect, Durable, Setting};
 
 /// How an operation goes out: its CreateGuid, its open's id, and the lock slot that it took with the number there.
 #[derive(Clone, Copy, Debug, PartialEq, Eq)]
 pub struct Ids {
     pub guid: u128,
-    pub file: u64,
+    pub file: u128,
     pub slot: u8,
     pub number: u8,
 }
@@ -62,14 +61,14 @@ fn create_command(
     disposition: u32,
     directory: bool,
     durable: Option<Durable>,
-    reconnect: Option<Reconnect>,
-) -> Result<CreateRequest, AllocError>
-    ensures { IfOk result (λ c. create_in c
-        ≡ create_request path.now access share disposition directory (option_map durable_in durable)
-        (option_map reconnect_in reconnect)) }
+    reconnect: Option<ClientReconnect>,
+) -> Result<ClientCreate, AllocError>
+    ensures { IfOk result (λ c. client_create_of c
+        ≡ create_request path.now access share disposition directory (option_map durable_of durable)
+        (option_map client_reconnect_of reconnect)) }
 {
     let path = path.copy()?;
-    Ok(CreateRequest {
+    Ok(ClientCreate {
         path,
         access,
         share,
@@ -89,11 +88,11 @@ fn lock_of<'a>(
     at: u64,
     length: u64,
     flags: u32,
-) -> Result<Command<'a>, AllocError>
-    ensures { IfOk result (λ c. command_of c ≡ Locking ids.file ids.slot ids.number (element at length flags)) }
+) -> Result<ClientCommand<'a>, AllocError>
+    ensures { IfOk result (λ c. client_command_of c ≡ Locking ids.file ids.slot ids.number (element at length flags)) }
 {
     let elements = element(alloc, at, length, flags)?;
-    Ok(Command::Lock {
+    Ok(ClientCommand::Lock {
         file: ids.file,
         index: u32::from(ids.slot),
         number: ids.number,
@@ -102,11 +101,11 @@ fn lock_of<'a>(
 }
 
 /// All names of a directory, in one answer.
-fn list_of<'a>(alloc: Global, file: u64) -> Result<Command<'a>, AllocError>
-    ensures { IfOk result (λ c. command_of c ≡ Listing file 12 true false (42 ∷ []) 1048576) }
+fn list_of<'a>(alloc: Global, file: u128) -> Result<ClientCommand<'a>, AllocError>
+    ensures { IfOk result (λ c. client_command_of c ≡ Listing file 12 true false (42 ∷ []) 1048576) }
 {
     let pattern = Text::from_str(alloc, "*")?;
-    Ok(Command::ListDirectory {
+    Ok(ClientCommand::ListDirectory {
         file,
         class: 12,
         restart: true,
@@ -116,11 +115,11 @@ fn list_of<'a>(alloc: Global, file: u64) -> Result<Command<'a>, AllocError>
     })
 }
 
-fn rename_of<'a>(file: u64, path: &Text) -> Result<Command<'a>, AllocError>
-    ensures { IfOk result (λ c. command_of c ≡ Sets file (Renames false path.now)) }
+fn rename_of<'a>(file: u128, path: &Text) -> Result<ClientCommand<'a>, AllocError>
+    ensures { IfOk result (λ c. client_command_of c ≡ Sets file (Renames false path.now)) }
 {
     let path = path.copy()?;
-    Ok(Command::SetInfo {
+    Ok(ClientCommand::SetInfo {
         file,
         setting: Setting::Rename {
             replace: false,
@@ -130,8 +129,12 @@ fn rename_of<'a>(file: u64, path: &Text) -> Result<Command<'a>, AllocError>
 }
 
 /// The request of an operation. What it writes is borrowed; a path, a lock's range and a pattern take memory.
-pub fn request_of<'a>(alloc: Global, kind: &'a OpKind, ids: Ids) -> Result<Command<'a>, AllocError>
-    ensures { IfOk result (λ c. command_of c ≡ request_of (op_of kind.now) ids.guid ids.file ids.slot ids.number) }
+pub fn request_of<'a>(
+    alloc: Global,
+    kind: &'a OpKind,
+    ids: Ids,
+) -> Result<ClientCommand<'a>, AllocError>
+    ensures { IfOk result (λ c. client_command_of c ≡ request_of (op_of kind.now) ids.guid ids.file ids.slot ids.number) }
 {
     // What takes memory (a path, a range, a pattern) is a function of its own, because each `?` costs the proof of
     // what it leaves; the other arms are plain values.
@@ -161,15 +164,15 @@ pub fn request_of<'a>(alloc: Global, kind: &'a OpKind, ids: Ids) -> Result<Comma
                 Some(durable),
                 None,
             )?;
-            Ok(Command::Create(request))
+            Ok(ClientCommand::Create(request))
         }
-        OpKind::Write { at, bytes, .. } => Ok(Command::Write {
+        OpKind::Write { at, bytes, .. } => Ok(ClientCommand::Write {
             file,
             at: *at,
             bytes: bytes.as_slice(),
             channel: 0,
         }),
-        OpKind::Read { at, length, .. } => Ok(Command::Read {
+        OpKind::Read { at, length, .. } => Ok(ClientCommand::Read {
             file,
             at: *at,
             size: *length,
@@ -183,26 +186,26 @@ pub fn request_of<'a>(alloc: Global, kind: &'a OpKind, ids: Ids) -> Result<Comma
             ..
         } => lock_of(alloc, ids, *at, *length, lock_flags(*exclusive)),
         OpKind::Unlock { at, length, .. } => lock_of(alloc, ids, *at, *length, 0x4),
-        OpKind::Flush { .. } => Ok(Command::Flush { file }),
-        OpKind::Stat { .. } => Ok(Command::QueryFile {
+        OpKind::Flush { .. } => Ok(ClientCommand::Flush { file }),
+        OpKind::Stat { .. } => Ok(ClientCommand::QueryFile {
             file,
             class: 5,
             room: 24,
         }),
         OpKind::List { .. } => list_of(alloc, file),
-        OpKind::Close { .. } => Ok(Command::Close { file, query: false }),
-        OpKind::SetEnd { length, .. } => Ok(Command::SetInfo {
+        OpKind::Close { .. } => Ok(ClientCommand::Close { file, query: false }),
+        OpKind::SetEnd { length, .. } => Ok(ClientCommand::SetInfo {
             file,
             setting: Setting::SetEnd { size: *length },
         }),
-        OpKind::SetTime { time, .. } => Ok(Command::SetInfo {
+        OpKind::SetTime { time, .. } => Ok(ClientCommand::SetInfo {
             file,
             setting: Setting::SetBasic {
                 basic: only_written(*time),
             },
         }),
         OpKind::Rename { path, .. } => rename_of(file, path),
-        OpKind::Remove { .. } => Ok(Command::SetInfo {
+        OpKind::Remove { .. } => Ok(ClientCommand::SetInfo {
             file,
             setting: Setting::SetDelete { marked: true },
         }),
@@ -211,8 +214,12 @@ pub fn request_of<'a>(alloc: Global, kind: &'a OpKind, ids: Ids) -> Result<Comma
 
 /// The request to attach the open of a create, in an operation's place (MS-SMB2 3.2.4.4): the create's own path and numbers,
 /// its open's id and its CreateGuid. Of another operation it is one that asks for nothing.
-pub fn reconnect_of<'a>(create: &OpKind, guid: u128, file: u64) -> Result<Command<'a>, AllocError>
-    ensures { IfOk result (λ c. command_of c ≡ reconnect_of (op_of create.now) guid file) }
+pub fn reconnect_of<'a>(
+    create: &OpKind,
+    guid: u128,
+    file: u128,
+) -> Result<ClientCommand<'a>, AllocError>
+    ensures { IfOk result (λ c. client_command_of c ≡ reconnect_of (op_of create.now) guid file) }
 {
     match create {
         OpKind::Create {
@@ -223,7 +230,7 @@ pub fn reconnect_of<'a>(create: &OpKind, guid: u128, file: u64) -> Result<Comman
             directory,
             ..
         } => {
-            let reconnect = Reconnect { file, guid };
+            let reconnect = ClientReconnect { file, guid };
             let request = create_command(
                 path,
                 *access,
@@ -233,8 +240,8 @@ pub fn reconnect_of<'a>(create: &OpKind, guid: u128, file: u64) -> Result<Comman
                 None,
                 Some(reconnect),
             )?;
-            Ok(Command::Create(request))
+            Ok(ClientCommand::Create(request))
         }
-        _ => Ok(Command::Aside { status: 0 }),
+        _ => Ok(ClientCommand::Nothing),
     }
 }

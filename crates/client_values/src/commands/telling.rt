@@ -15,7 +15,7 @@ use wire_bytes::Text;
 use wire_commands::{Body, Named};
 
 /// The open's id that a create's success names, else 0.
-pub fn id_in(body: &Body) -> u64
+pub fn id_in(body: &Body) -> u128
     ensures { result ≡ id_in (body_of body.now) }
 {
     match body {

@@ -79,7 +79,7 @@ use Rattle.spec_commands.specs.CommandOf.{create_in, close_in, flush_in, read_in
 use Rattle.spec_commands.specs.CommandOf.{lock_in, ioctl_in, list_in, query_in, set_in}
 use Rattle.spec_commands.specs.CommandOf.{command_of, message_of}
 use Rattle.spec_commands.specs.CommandOf as spec_commands_commandof
-use Rattle.spec_commands.specs.Ids.{file_of, file_id, object_id, guid_of, guid_id}
+use Rattle.spec_commands.specs.Ids.{file_of, file_id, file_kept, object_id, guid_of, guid_id}
 use Rattle.spec_commands.specs.Infos.{allocation, without_bit, attributes_of, short_bytes, file_bytes}
 use Rattle.spec_commands.specs.Infos.{volume_bytes, listing_bytes, interface_bytes, object_id_bytes}
 use Rattle.spec_commands.specs.ReplyBody.{reply_body}
@@ -142,7 +142,7 @@ unfolding is_own_send is_badly_linked piece is_directory_class is_query_class is
     leaf_from leaf_of after_name begins_below is_below is_plain is_component components_from is_path
     begins_with_backslash body_of has_named has_twice clash_in elements_in setup_in logoff_in tree_connect_in
     tree_disconnect_in create_in close_in flush_in read_in write_in lock_in ioctl_in list_in query_in set_in
-    command_of message_of spec_commands_commandof.contexts_in file_of file_id object_id guid_of guid_id
+    command_of message_of spec_commands_commandof.contexts_in file_of file_id file_kept object_id guid_of guid_id
     allocation without_bit attributes_of short_bytes file_bytes volume_bytes listing_bytes interface_bytes
     object_id_bytes reply_body names_of listing_in file_in body_in reply_of directory_class bit_if units_in
     all_there characters_in text_in said_body gathered texts_of all_texts concatenated each_joined sealed_each

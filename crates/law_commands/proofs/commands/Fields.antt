@@ -1,5 +1,5 @@
 -- Ids and flags read back.
-use Rattle.std.proofs.Common.{◌≡◌, ℕ, ◌^◌, ◌<◌, Bool, true, false, List, [], ◌++◌, length, refl, sym, ap, ◌∙◌, arith, length-append}
+use Rattle.std.proofs.Common.{◌≡◌, ℕ, ◌+◌, ◌/◌, ◌^◌, ◌<◌, Bool, true, false, List, [], ◌++◌, length, refl, sym, ap, ◌∙◌, arith, length-append}
 use Rattle.std.specs.Prelude.{◌==◌, if◌then◌else◌}
 use Rattle.std.proofs.lemmas.Grind.{common_steps}
 use Rattle.std.proofs.lemmas.List.{append-nil}
@@ -20,13 +20,29 @@ number_last w n front at e fits = ap (λ (l : List ℕ). number w (front ++ l) a
 same_halves : (x y o : ℕ) → x ≡ o → y ≡ o → (if x == y then x else 0) ≡ o
 same_halves x y o e f = grind (arith, common_steps)
 
+-- an id below 2^64 is the same in both halves
+no_more : (o : ℕ) → o < 256 ^ 8 → o + o / 0x1_0000_0000_0000_0000 ≡ o
+no_more o fits = omega (arith, fits)
+
+pub own_halves : (o : ℕ) → o < 256 ^ 8 → file_id o ≡ le 8 o ++ le 8 o
+unfolding file_id
+own_halves o fits = ap (λ (n : ℕ). le 8 o ++ le 8 n) (no_more o fits)
+
+again_of : (o : ℕ) → o < 256 ^ 8 → file_of (le 8 o ++ le 8 o) ≡ o
+unfolding file_of
+again_of o fits = same_halves _ _ o (number_behind 8 o [] (le 8 o) 0 refl fits) (number_last 8 o (le 8 o) 8 (sym (length-le 8 o)) fits)
+
 pub file_again : (o : ℕ) → o < 256 ^ 8 → file_of (file_id o) ≡ o
-unfolding file_of file_id
-file_again o fits = same_halves _ _ o (number_behind 8 o [] (le 8 o) 0 refl fits) (number_last 8 o (le 8 o) 8 (sym (length-le 8 o)) fits)
+file_again o fits = ap file_of (own_halves o fits) ∙ again_of o fits
 
 pub length-file_id : (o : ℕ) → length (file_id o) ≡ 16
 unfolding file_id
-length-file_id o = omega (arith, length-append (le 8 o) (le 8 o), length-le 8 o)
+length-file_id o = omega (
+  arith,
+  length-append (le 8 o) (le 8 (o + o / 0x1_0000_0000_0000_0000)),
+  length-le 8 o,
+  length-le 8 (o + o / 0x1_0000_0000_0000_0000),
+)
 
 pub guid_again : (g : ℕ) → g < 256 ^ 16 → guid_of (guid_id g) ≡ g
 unfolding guid_of guid_id

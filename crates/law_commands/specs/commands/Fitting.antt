@@ -15,6 +15,9 @@ pub record IsFittingName (text : List ℕ) : Type 0 where
   pub utf8 : IsUtf8 text
   pub short : length (utf16 text) < 256 ^ 2
 
+abbrev pub IsByte : ℕ → Type 0
+IsByte b = b < 256
+
 -- an element of a LOCK (MS-SMB2 2.2.26.1)
 pub record IsElement (e : Element) : Type 0 where
   pub at : e.at < 256 ^ 8
@@ -73,7 +76,7 @@ IsFittingTimeout None = Unit {0}
 IsFittingTimeout (Some timeout) = timeout < 256 ^ 4
 
 pub record IsCreated (r : CreateReply) : Type 0 where
-  pub id : r.id < 256 ^ 8
+  pub id : r.id < 256 ^ 16
   pub action : r.action < 256 ^ 4
   pub info : IsInfo r.info
   pub timeout : IsFittingTimeout r.timeout

@@ -1,5 +1,5 @@
 -- How many bytes the bodies of successes take, and that their parts fit.
-use Rattle.std.proofs.Common.{◌≡◌, ℕ, ◌+◌, ◌^◌, ◌<◌, ◌≤◌, ◌==◌, min, Bool, true, false, if◌then◌else◌, List, [], ◌∷◌, ◌++◌}
+use Rattle.std.proofs.Common.{◌≡◌, ℕ, ◌+◌, ◌/◌, ◌^◌, ◌<◌, ◌≤◌, ◌==◌, min, Bool, true, false, if◌then◌else◌, List, [], ◌∷◌, ◌++◌}
 use Rattle.std.proofs.Common.{length, length-append, arith, Option, Some, None, option_map}
 use Rattle.spec_wire.specs.messages.Places.{le, gap_to_8}
 use Rattle.spec_wire.specs.messages.Table.{Field, with_fields}
@@ -53,7 +53,12 @@ use Rattle.law_replies.proofs.replies.Told.{BodyIs}
 
 file_long : (o : ℕ) → length (file_id o) ≡ 16
 unfolding file_id
-file_long o = omega (arith, length-append (le 8 o) (le 8 o), length-le 8 o)
+file_long o = omega (
+  arith,
+  length-append (le 8 o) (le 8 (o + o / 0x1_0000_0000_0000_0000)),
+  length-le 8 o,
+  length-le 8 (o + o / 0x1_0000_0000_0000_0000),
+)
 
 gap_few : (n : ℕ) → gap_to_8 n ≤ 7
 gap_few n = omega arith

@@ -49,7 +49,7 @@ rows_at z es v e k x xs h a =
 
 -- ---- by what was asked
 
-low_id : (a e r : ℕ) → r < 4294967295 → a ≤ id_of e max_ids → e ≤ 1 + r → a < 256 ^ 8
+low_id : (a e r : ℕ) → r < 4294967295 → a ≤ id_of e max_ids → e ≤ 1 + r → a < 256 ^ 16
 low_id a e r few l m = omega (arith, few, l, m)
 
 low_action : (a : ℕ) → a ≤ 3 → a < 256 ^ 4

@@ -1,6 +1,6 @@
 -- The requests of an operation that keeps its limits fit a frame.
-use Rattle.std.proofs.Common.{◌≡◌, ℕ, ◌+◌, ◌-◌, ◌<◌, ◌≤◌, ◌^◌, ◌==◌, nat_le, Bool, true, false, ◌&&◌, if◌then◌else◌, List, [], ◌∷◌, ◌++◌}
-use Rattle.std.proofs.Common.{length, length-append, arith, Some, None}
+use Rattle.std.proofs.Common.{◌≡◌, ℕ, ◌+◌, ◌-◌, ◌/◌, ◌<◌, ◌≤◌, ◌^◌, ◌==◌, nat_le, Bool, true, false, ◌&&◌, List, [], ◌∷◌, ◌++◌}
+use Rattle.std.proofs.Common.{if◌then◌else◌, length, length-append, arith, Some, None}
 use Rattle.spec_wire.specs.messages.Places.{le, gap_to_8}
 use Rattle.spec_wire.specs.messages.Table.{with_fields}
 use Rattle.spec_wire.specs.messages.Utf16.{utf16}
@@ -41,7 +41,12 @@ use Rattle.law_runs.specs.untampered.Plain.{RequestsAreShort}
 
 pub file_long : (o : ℕ) → length (file_id o) ≡ 16
 unfolding file_id
-file_long o = omega (arith, length-append (le 8 o) (le 8 o), length-le 8 o)
+file_long o = omega (
+  arith,
+  length-append (le 8 o) (le 8 (o + o / 0x1_0000_0000_0000_0000)),
+  length-le 8 o,
+  length-le 8 (o + o / 0x1_0000_0000_0000_0000),
+)
 
 guid_long : (guid : ℕ) → length (guid_id guid) ≡ 16
 unfolding guid_id

@@ -1,5 +1,5 @@
 -- The facts on bytes that the laws of the exchange over bytes take as one premise.
-use Rattle.std.specs.Prelude.{◌≡◌, ℕ, ◌+◌, ◌<◌, ◌≤◌, ◌^◌, ◌⊎◌, Bool, true, false, List, [], ◌∷◌, length, Option, Some, None}
+use Rattle.std.specs.Prelude.{◌≡◌, ℕ, ◌+◌, ◌<◌, ◌≤◌, ◌^◌, ◌⊎◌, Bool, true, false, List, [], ◌∷◌, ◌++◌, All, length, Option, Some, None, IfSome}
 use Rattle.spec_wire.specs.messages.Places.{bytes_at, number_of}
 use Rattle.spec_wire.specs.messages.Header.{IsWritableHeader}
 use Rattle.spec_wire.specs.declared.messages.header.Header.{Header}
@@ -9,11 +9,12 @@ use Rattle.spec_exchange.specs.Commands.{Command, Setup, TreeConnect, Logon}
 use Rattle.spec_exchange.specs.State.{Message, Reply, Empty, Connected}
 use Rattle.spec_exchange.specs.Operations.{Op, keeps_limits, is_create, request_of, reconnect_of, weight, charge}
 use Rattle.spec_exchange.specs.Client.{SaidSecond, AskedTree}
+use Rattle.spec_commands.specs.Ids.{file_kept}
 use Rattle.spec_commands.specs.CommandOf.{Told, command_of}
 use Rattle.spec_commands.specs.BodyOf.{body_of, number_of_command}
 use Rattle.spec_commands.specs.ReplyBody.{reply_body}
 use Rattle.spec_commands.specs.ReplyOf.{reply_of}
-use Rattle.law_commands.specs.commands.Fitting.{IsFittingAnswer, IsHeardAlike}
+use Rattle.law_commands.specs.commands.Fitting.{IsByte, IsFittingAnswer, IsHeardAlike}
 use Rattle.spec_crypto.specs.declared.sessions.material.Keys.{Keys}
 use Rattle.spec_crypto.specs.declared.sessions.material.Signer.{Signer}
 use Rattle.spec_crypto.specs.sessions.Chain.{hash}
@@ -23,6 +24,7 @@ use Rattle.spec_crypto.specs.tokens.Tokens.{Begun, Pending, first_token, begun_b
 use Rattle.spec_world.specs.Settings.{WorldSettings, chosen_of, logon_of}
 use Rattle.spec_world.specs.Messages.{HeardMessage, messages_in}
 use Rattle.spec_world.specs.Ends.{ClientEnd, nonce_at}
+use Rattle.spec_world.specs.Related.{file_place}
 use Rattle.spec_world.specs.Negotiate.{negotiate_status, negotiated, client_told, negotiate_response_body}
 use Rattle.spec_world.specs.Hearing.{begins_sealed, is_encrypted}
 use Rattle.spec_world.specs.Logon.{token_in, token_shows, exported, pending_by, challenge_of, final_of}
@@ -76,6 +78,13 @@ pub record AreCommandsLawful : Type 0 where
       r.status ≡ success → IsFittingAnswer op r.body →
       IsHeardAlike op (reply_of (request_of op 0 0 0 0) (header_as h m) m).body r.body
   pub refused : (c : Command) (h : Header) (m : List ℕ) → (h.status ≡ success → ⊥) → (reply_of c (header_as h m) m).body ≡ Empty
+
+-- The request of an operation carries the FileId of its open, whichever 16 bytes its client was told, at the place of its command; of the
+-- request to attach its open the context does.
+abbrev pub AreFileIdsCarried : Type 0
+AreFileIdsCarried = (header rest id : List ℕ) (op : Op) (guid slot number : ℕ) → length header ≡ 64 → length id ≡ 16 → All IsByte id
+    → let c = request_of op guid (file_kept id) slot number in
+    IfSome (file_place (number_of_command c)) (λ place. bytes_at 16 (header ++ (body_of c ++ rest)) place ≡ id)
 
 -- ---- a dialog's messages: NEGOTIATE, SESSION_SETUP and TREE_CONNECT, each both ways
 

@@ -1,5 +1,5 @@
 -- What is written in several parts is short.
-use Rattle.std.proofs.Common.{◌≡◌, ℕ, ◌+◌, ◌*◌, ◌<◌, ◌≤◌, Bool, true, false, List, [], ◌∷◌, ◌++◌, length, Option, Some}
+use Rattle.std.proofs.Common.{◌≡◌, ℕ, ◌+◌, ◌*◌, ◌/◌, ◌<◌, ◌≤◌, Bool, true, false, List, [], ◌∷◌, ◌++◌, length, Option, Some}
 use Rattle.std.proofs.Common.{None, ◌∙◌, arith, length-append}
 use Rattle.std.specs.Prelude.{◌^◌, ◌==◌, if◌then◌else◌, flat_map, option_map}
 use Rattle.spec_wire.specs.messages.Places.{le, gap_to_8}
@@ -103,7 +103,12 @@ told_short c =
 
 length_file : (o : ℕ) → length (file_id o) ≡ 16
 unfolding file_id
-length_file o = omega (arith, length-append (le 8 o) (le 8 o), length-le 8 o)
+length_file o = omega (
+  arith,
+  length-append (le 8 o) (le 8 (o + o / 0x1_0000_0000_0000_0000)),
+  length-le 8 o,
+  length-le 8 (o + o / 0x1_0000_0000_0000_0000),
+)
 
 length_guid : (g : ℕ) → length (guid_id g) ≡ 16
 unfolding guid_id

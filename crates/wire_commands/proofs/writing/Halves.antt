@@ -1,8 +1,9 @@
 -- A number of 16 bytes written as its two halves.
-use Rattle.std.proofs.Common.{◌≡◌, ℕ, zero, suc, ◌+◌, ◌*◌, ◌/◌, ◌%◌, ◌^◌, ◌<◌, List, ◌∷◌, ◌++◌, ap, ◌∙◌, arith}
+use Rattle.std.proofs.Common.{◌≡◌, ℕ, zero, suc, ◌+◌, ◌*◌, ◌/◌, ◌%◌, ◌^◌, ◌<◌, List, ◌∷◌, ◌++◌, sym, ap, ◌∙◌, arith}
 use Rattle.std.proofs.Math.Nat.{mul_assoc, mul_comm, pow-suc}
 use Rattle.spec_wire.specs.messages.Places.{le}
-use Rattle.spec_commands.specs.Ids.{guid_id}
+use Rattle.law_commands.proofs.commands.Halves.{le_low}
+use Rattle.spec_commands.specs.Ids.{file_id, guid_id}
 
 -- what stands above w bytes and one more
 above : (w q : ℕ) → 256 ^ suc w * q ≡ 256 * (256 ^ w * q)
@@ -28,3 +29,14 @@ split (suc w) k (suc all) n r q size is small =
 pub guid_halves : (n : ℕ) → le 8 (n % 0x1_0000_0000_0000_0000) ++ le 8 (n / 0x1_0000_0000_0000_0000) ≡ guid_id n
 unfolding guid_id
 guid_halves n = split 8 8 16 n (n % 0x1_0000_0000_0000_0000) (n / 0x1_0000_0000_0000_0000) (omega arith) (omega arith) (omega arith)
+
+pub file_halves : (n : ℕ) → le 8 (n % 0x1_0000_0000_0000_0000)
+    ++ le 8 ((n % 0x1_0000_0000_0000_0000 + n / 0x1_0000_0000_0000_0000) % 0x1_0000_0000_0000_0000) ≡ file_id n
+unfolding file_id
+file_halves n =
+    let p : ℕ = n % 0x1_0000_0000_0000_0000 in
+    let q : ℕ = n / 0x1_0000_0000_0000_0000 in
+    let v : ℕ = (p + q) % 0x1_0000_0000_0000_0000 in
+    let first : le 8 p ≡ le 8 n = sym (le_low 8 n p q (omega arith)) in
+    let second : le 8 v ≡ le 8 (n + q) = sym (le_low 8 (n + q) v (q + (p + q) / 0x1_0000_0000_0000_0000) (omega arith)) in
+    ap (λ (l : List ℕ). l ++ le 8 v) first ∙ ap (λ (l : List ℕ). le 8 n ++ l) second

@@ -14,6 +14,10 @@ use Rattle.wire_commands.specs.declared.values.command.Reconnect.{Reconnect}
 use Rattle.wire_commands.specs.declared.values.command.Setting.{Setting}
 use Rattle.wire_commands.specs.declared.values.command.Setting.TheVariants.{SetBasic, Rename, SetDelete, SetAllocation, SetEnd}
 use Rattle.wire_commands.specs.declared.values.command.Setting.TheVariants.{SetPosition, SetMode}
+use Rattle.wire_commands.specs.declared.values.client.ClientCommand.{ClientCommand}
+use Rattle.wire_commands.specs.declared.values.client.ClientCommand.TheVariants as sent
+use Rattle.wire_commands.specs.declared.values.client.ClientCreate.{ClientCreate}
+use Rattle.wire_commands.specs.declared.values.client.ClientReconnect.{ClientReconnect}
 use Rattle.wire_commands.specs.declared.values.setup.SetupRequest.{SetupRequest}
 use Rattle.wire_commands.specs.declared.values.setup.SetupForm.{SetupForm}
 use Rattle.wire_commands.specs.declared.values.setup.Shows.{Shows}
@@ -99,6 +103,39 @@ command_of (ListDirectory file class restart single pattern room) = asks.ListDir
 command_of (QueryFile file class room) = asks.QueryFile file class room
 command_of (QueryVolume file class room) = asks.QueryVolume file class room
 command_of (SetInfo file setting) = asks.SetInfo file (setting_of setting)
+
+-- the same of what a client sends
+
+abbrev pub client_reconnect_of : ClientReconnect → asks.Reconnect
+client_reconnect_of c = record { file = c.file; guid = c.guid }
+
+abbrev pub client_create_of : ClientCreate → asks.CreateRequest
+client_create_of r =
+    record {
+      path = r.path;
+      access = r.access;
+      share = r.share;
+      attributes = r.attributes;
+      disposition = r.disposition;
+      options = r.options;
+      durable = option_map durable_of r.durable;
+      reconnect = option_map client_reconnect_of r.reconnect;
+      maximal = r.maximal;
+      disk_id = r.disk_id;
+    }
+
+abbrev pub client_command_of : ClientCommand → asks.Command
+client_command_of sent.Nothing = asks.Aside 0
+client_command_of (sent.TreeConnect share) = asks.TreeConnect share
+client_command_of (sent.Create request) = asks.Create (client_create_of request)
+client_command_of (sent.Close file query) = asks.Close file query
+client_command_of (sent.Flush file) = asks.Flush file
+client_command_of (sent.Read file at size minimum channel) = asks.Read file at size minimum channel
+client_command_of (sent.Write file at bytes channel) = asks.Write file at bytes.now channel
+client_command_of (sent.Lock file index number elements) = asks.Lock file index number elements.items
+client_command_of (sent.ListDirectory file class restart single pattern room) = asks.ListDirectory file class restart single pattern room
+client_command_of (sent.QueryFile file class room) = asks.QueryFile file class room
+client_command_of (sent.SetInfo file setting) = asks.SetInfo file (setting_of setting)
 
 -- what the connection makes of the form of a SESSION_SETUP
 abbrev pub setup_told : Told → SetupForm → asks.SetupRequest

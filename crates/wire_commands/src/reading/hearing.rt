@@ -7,15 +7,14 @@ ghost use Rattle.spec_commands.specs.ReplyOf;
 ghost use Rattle.wire_commands.specs.values.Meaning;
 
 use crate::reading::heard_names::listing_in;
-use crate::reading::ids::{file_of, has_bit};
-use crate::values::{Address, Body, Command, CreateReply, Info, Reply};
+use crate::reading::ids::file_kept;
+use crate::values::{Address, Body, ClientCommand, CreateReply, Info, Reply};
 use spec_exchange::values::Basic;
 use spec_wire::Header;
 use std::alloc::{AllocError, Global};
 use wire_bytes::{
     Bytes, Text, read_close_response, read_create_response, read_flush_response,
-    read_lock_response, read_logoff_response, read_read_response, read_session_setup_response,
-    read_tree_connect_response, read_tree_disconnect_response, read_write_response,
+    read_lock_response, read_read_response, read_tree_connect_response, read_write_response,
 };
 use wire_info::{
     read_file_standard_information, read_query_directory_response, read_query_info_response,
@@ -42,19 +41,6 @@ pub(crate) fn of_length(size: u64) -> Info
 }
 
 #[tactic(auto, unfolding(spec_commands::specs::ReplyOf::body_in))]
-fn setup_in(m: &[u8]) -> Option<Body>
-    ensures { (r : asks.SetupRequest) → option_map Meaning.body_of result ≡ ReplyOf.body_in (asks.Setup r) m.now }
-{
-    match read_session_setup_response(m) {
-        Ok(v) => Some(Body::SetUp {
-            sealed: has_bit(v.session_flags as u32, 4),
-            channel: 0,
-        }),
-        Err(_) => None,
-    }
-}
-
-#[tactic(auto, unfolding(spec_commands::specs::ReplyOf::body_in))]
 fn tree_in(m: &[u8]) -> Option<Body>
     ensures { (share : List ℕ) → option_map Meaning.body_of result ≡ ReplyOf.body_in (asks.TreeConnect share) m.now }
 {
@@ -74,7 +60,7 @@ fn created_in(m: &[u8]) -> Option<Body>
 {
     match read_create_response(m) {
         Ok(v) => Some(Body::Created(CreateReply {
-            id: file_of(&v.file_id),
+            id: file_kept(&v.file_id),
             action: v.create_action,
             info: of_length(v.end_of_file),
             timeout: None,
@@ -163,23 +149,19 @@ fn list_in(alloc: Global, class: u8, m: &[u8]) -> Result<Option<Body>, AllocErro
 
 // What a success to a command says.
 #[tactic(auto, unfolding(spec_commands::specs::ReplyOf::body_in))]
-fn body_in(alloc: Global, command: &Command<'_>, m: &[u8]) -> Result<Option<Body>, AllocError>
-    ensures { IfOk result (λ found. option_map Meaning.body_of found ≡ ReplyOf.body_in (Meaning.command_of command.now) m.now) }
+fn body_in(alloc: Global, command: &ClientCommand<'_>, m: &[u8]) -> Result<Option<Body>, AllocError>
+    ensures { IfOk result (λ found. option_map Meaning.body_of found ≡ ReplyOf.body_in (Meaning.client_command_of command.now) m.now) }
 {
-    // Long by its commands alone: an arm names the reader of a response. This client sends none of the commands
-    // without an arm.
+    // Long by its commands alone: an arm names the reader of a response.
     match command {
-        Command::Setup(_) => Ok(setup_in(m)),
-        Command::Logoff => Ok(empty_if(read_logoff_response(m).is_ok())),
-        Command::TreeConnect { share: _ } => Ok(tree_in(m)),
-        Command::TreeDisconnect => Ok(empty_if(read_tree_disconnect_response(m).is_ok())),
-        Command::Create(_) => Ok(created_in(m)),
-        Command::Close { file: _, query: _ } => Ok(empty_if(read_close_response(m).is_ok())),
-        Command::Flush { file: _ } => Ok(empty_if(read_flush_response(m).is_ok())),
-        Command::Read { .. } => content_in(alloc, m),
-        Command::Write { .. } => Ok(count_in(m)),
-        Command::Lock { .. } => Ok(empty_if(read_lock_response(m).is_ok())),
-        Command::ListDirectory {
+        ClientCommand::TreeConnect { share: _ } => Ok(tree_in(m)),
+        ClientCommand::Create(_) => Ok(created_in(m)),
+        ClientCommand::Close { file: _, query: _ } => Ok(empty_if(read_close_response(m).is_ok())),
+        ClientCommand::Flush { file: _ } => Ok(empty_if(read_flush_response(m).is_ok())),
+        ClientCommand::Read { .. } => content_in(alloc, m),
+        ClientCommand::Write { .. } => Ok(count_in(m)),
+        ClientCommand::Lock { .. } => Ok(empty_if(read_lock_response(m).is_ok())),
+        ClientCommand::ListDirectory {
             file: _,
             class,
             restart: _,
@@ -187,13 +169,13 @@ fn body_in(alloc: Global, command: &Command<'_>, m: &[u8]) -> Result<Option<Body
             pattern: _,
             room: _,
         } => list_in(alloc, *class, m),
-        Command::QueryFile {
+        ClientCommand::QueryFile {
             file: _,
             class,
             room: _,
         } => Ok(file_in(alloc, *class, m)),
-        Command::SetInfo { .. } => Ok(empty_if(read_set_info_response(m).is_ok())),
-        _ => Ok(None),
+        ClientCommand::SetInfo { .. } => Ok(empty_if(read_set_info_response(m).is_ok())),
+        ClientCommand::Nothing => Ok(None),
     }
 }
 
@@ -206,9 +188,14 @@ fn other_body() -> Body
     }
 }
 
-fn body_of(alloc: Global, command: &Command<'_>, status: u32, m: &[u8]) -> Result<Body, AllocError>
+fn body_of(
+    alloc: Global,
+    command: &ClientCommand<'_>,
+    status: u32,
+    m: &[u8],
+) -> Result<Body, AllocError>
     ensures { IfOk result (λ b. Meaning.body_of b
-        ≡ (if status == success then ReplyOf.or_other (ReplyOf.body_in (Meaning.command_of command.now) m.now) else says.Empty)) }
+        ≡ (if status == success then ReplyOf.or_other (ReplyOf.body_in (Meaning.client_command_of command.now) m.now) else says.Empty)) }
 {
     if status != 0 {
         return Ok(Body::Empty);
@@ -226,11 +213,11 @@ fn body_of(alloc: Global, command: &Command<'_>, status: u32, m: &[u8]) -> Resul
 #[tactic(auto, unfolding(spec_commands::specs::ReplyOf::reply_of))]
 pub fn reply_of(
     alloc: Global,
-    command: &Command<'_>,
+    command: &ClientCommand<'_>,
     header: &Header,
     m: &[u8],
 ) -> Result<Reply, AllocError>
-    ensures { IfOk result (λ r. Meaning.reply_of r ≡ ReplyOf.reply_of (Meaning.command_of command.now) header.now m.now) }
+    ensures { IfOk result (λ r. Meaning.reply_of r ≡ ReplyOf.reply_of (Meaning.client_command_of command.now) header.now m.now) }
 {
     match body_of(alloc, command, header.status, m) {
         Ok(body) => Ok(Reply {

@@ -76,7 +76,8 @@ pub struct Info {
 /// The success of a CREATE (MS-SMB2 2.2.14).
 #[derive(Clone, Copy, Debug, PartialEq, Eq, Drop)]
 pub struct CreateReply {
-    pub id: u64,
+    /// The open's id as a client keeps it; a server of this project gives ids below 2^64.
+    pub id: u128,
     pub action: u32,
     pub info: Info,
     /// Told where the open is persistent and the request asked, in milliseconds.

@@ -49,10 +49,11 @@ fn session_flags(body: &Body) -> u16
     }
 }
 
-fn setup_body(alloc: Global, token: &[u8], body: &Body) -> Result<Bytes, WriteError>
+fn setup_body(alloc: Global, token: &Bytes, body: &Body) -> Result<Bytes, WriteError>
     ensures { (r : asks.SetupRequest) → BodyWrites (length token.now < 2 ^ 16)
         (ReplyBody.success_body token.now (asks.Setup r) (Meaning.body_of body.now)) result }
 {
+    let token = token.as_slice();
     if token.len() >= 0x1_0000 {
         return Err(WriteError::Unwritable);
     }
@@ -250,7 +251,7 @@ fn output_of_ioctl(alloc: Global, file: u64, code: u32, output: &Bytes) -> Resul
 {
     let value = IoctlResponse {
         ctl_code: code,
-        file_id: file_id(file),
+        file_id: file_id(file as u128),
         flags: 0,
         input: &[],
         output: output.as_slice(),
@@ -363,7 +364,7 @@ fn volume_body(alloc: Global, body: &Body) -> Result<Bytes, WriteError>
 // The body of a success.
 fn success_body(
     alloc: Global,
-    token: &[u8],
+    token: &Bytes,
     command: &Command<'_>,
     body: &Body,
 ) -> Result<Bytes, WriteError>
@@ -412,7 +413,7 @@ fn is_told(command: &Command<'_>, status: u32) -> bool
 #[tactic(auto, unfolding(spec_commands::specs::ReplyBody::reply_body))]
 pub fn reply_body(
     alloc: Global,
-    token: &[u8],
+    token: &Bytes,
     command: &Command<'_>,
     reply: &Reply,
 ) -> Result<Bytes, WriteError>

@@ -24,7 +24,7 @@ ghost use Rattle.wire_commands.specs.values.Meaning;
 ghost use Rattle.spec_commands.specs.Fits.{FitsAsked, FitsSetting};
 ghost use Rattle.wire_commands.specs.writing.Writing.{BodyWrites};
 
-use crate::values::{Command, CreateRequest, Durable, Reconnect, Setting};
+use crate::values::{ClientCommand, ClientCreate, ClientReconnect, Durable, Setting};
 use crate::writing::fault::WriteError;
 use crate::writing::ids::{file_id, guid_id};
 use crate::writing::infos::bit_if;
@@ -85,8 +85,8 @@ fn dh2q_of(asked: Option<Durable>) -> Option<Dh2q>
 }
 
 // Only a persistent open is attached again.
-fn dh2c_of(asked: Option<Reconnect>) -> Option<Dh2c>
-    ensures { result ≡ option_map BodyOf.dh2c_of (option_map Meaning.reconnect_of asked) }
+fn dh2c_of(asked: Option<ClientReconnect>) -> Option<Dh2c>
+    ensures { result ≡ option_map BodyOf.dh2c_of (option_map Meaning.client_reconnect_of asked) }
 {
     match asked {
         Some(c) => Some(Dh2c {
@@ -98,8 +98,8 @@ fn dh2c_of(asked: Option<Reconnect>) -> Option<Dh2c>
     }
 }
 
-fn contexts_of(alloc: Global, r: &CreateRequest) -> Result<Bytes, AllocError>
-    ensures { IfOk result (λ b. b ≡ create_contexts_spelling (BodyOf.contexts_of (Meaning.create_of r.now))) }
+fn contexts_of(alloc: Global, r: &ClientCreate) -> Result<Bytes, AllocError>
+    ensures { IfOk result (λ b. b ≡ create_contexts_spelling (BodyOf.contexts_of (Meaning.client_create_of r.now))) }
 {
     let asked = CreateContexts {
         dh2q: dh2q_of(r.durable),
@@ -112,9 +112,9 @@ fn contexts_of(alloc: Global, r: &CreateRequest) -> Result<Bytes, AllocError>
 
 // No oplock is asked, and ImpersonationLevel is 2.
 #[tactic(auto, using(crate::proofs::writing::Contexts::asked_short))]
-fn create(alloc: Global, r: &CreateRequest) -> Result<Bytes, WriteError>
+fn create(alloc: Global, r: &ClientCreate) -> Result<Bytes, WriteError>
     ensures { BodyWrites (length (utf16 r.now.path) < 2 ^ 16)
-        (create_request_spelling (BodyOf.create_value (Meaning.create_of r.now))) result }
+        (create_request_spelling (BodyOf.create_value (Meaning.client_create_of r.now))) result }
 {
     let name = utf16_of(alloc, r.path.as_str())?;
     if name.len() >= 0x1_0000 {
@@ -135,7 +135,7 @@ fn create(alloc: Global, r: &CreateRequest) -> Result<Bytes, WriteError>
     Ok(write_create_request(alloc, &value)?)
 }
 
-fn close(alloc: Global, file: u64, query: bool) -> Result<Bytes, AllocError>
+fn close(alloc: Global, file: u128, query: bool) -> Result<Bytes, AllocError>
     ensures { IfOk result (λ b. b ≡ close_request_spelling (BodyOf.close_value file query)) }
 {
     let value = CloseRequest {
@@ -145,7 +145,7 @@ fn close(alloc: Global, file: u64, query: bool) -> Result<Bytes, AllocError>
     write_close_request(alloc, &value)
 }
 
-fn flush(alloc: Global, file: u64) -> Result<Bytes, AllocError>
+fn flush(alloc: Global, file: u128) -> Result<Bytes, AllocError>
     ensures { IfOk result (λ b. b ≡ flush_request_spelling (BodyOf.flush_value file)) }
 {
     let value = FlushRequest {
@@ -156,7 +156,7 @@ fn flush(alloc: Global, file: u64) -> Result<Bytes, AllocError>
 
 fn read(
     alloc: Global,
-    file: u64,
+    file: u128,
     at: u64,
     size: u32,
     minimum: u32,
@@ -176,7 +176,13 @@ fn read(
     write_read_request(alloc, &value)
 }
 
-fn write(alloc: Global, file: u64, at: u64, bytes: &[u8], channel: u32) -> Result<Bytes, WriteError>
+fn write(
+    alloc: Global,
+    file: u128,
+    at: u64,
+    bytes: &[u8],
+    channel: u32,
+) -> Result<Bytes, WriteError>
     ensures { BodyWrites (length bytes.now < 2 ^ 32) (write_request_spelling (BodyOf.write_value file at bytes.now channel)) result }
 {
     if bytes.len() >= 0x1_0000_0000 {
@@ -223,7 +229,7 @@ fn sequence_of(index: u32, number: u8) -> Option<u32>
 #[tactic(auto, using(crate::proofs::writing::Contexts::length_elements))]
 fn lock(
     alloc: Global,
-    file: u64,
+    file: u128,
     index: u32,
     number: u8,
     elements: &[Element],
@@ -256,7 +262,7 @@ fn list_flags(restart: bool, single: bool) -> u8
 
 fn list(
     alloc: Global,
-    file: u64,
+    file: u128,
     class: u8,
     restart: bool,
     single: bool,
@@ -281,7 +287,7 @@ fn list(
     Ok(write_query_directory_request(alloc, &value)?)
 }
 
-fn query(alloc: Global, file: u64, class: u8, room: u32) -> Result<Bytes, AllocError>
+fn query(alloc: Global, file: u128, class: u8, room: u32) -> Result<Bytes, AllocError>
     ensures { IfOk result (λ b. b ≡ query_info_request_spelling (BodyOf.query_value file class room)) }
 {
     let value = QueryInfoRequest {
@@ -397,7 +403,7 @@ fn class_of(setting: &Setting) -> u8
     }
 }
 
-fn set(alloc: Global, file: u64, setting: &Setting) -> Result<Bytes, WriteError>
+fn set(alloc: Global, file: u128, setting: &Setting) -> Result<Bytes, WriteError>
     ensures { BodyWrites (FitsAsked (asks.SetInfo file (Meaning.setting_of setting.now)))
         (set_info_request_spelling (BodyOf.set_value file (Meaning.setting_of setting.now))) result }
 {
@@ -415,41 +421,40 @@ fn set(alloc: Global, file: u64, setting: &Setting) -> Result<Bytes, WriteError>
     Ok(write_set_info_request(alloc, &value)?)
 }
 
-/// The body that the client writes for a command, behind a header (MS-SMB2 3.2.4): nothing for a command that it
-/// doesn't send, or whose token its dialog alone has. `Unwritable` comes exactly where a text, the bytes of a WRITE or what
+/// The body that the client writes for a command, behind a header (MS-SMB2 3.2.4): nothing for no command. `Unwritable` comes exactly where a text, the bytes of a WRITE or what
 /// a SET_INFO carries are longer than their field can say, or a LOCK has no element, more than 65,535, an index of 2^28 or
 /// more or a number of 16 or more.
 #[tactic(auto, unfolding(spec_commands::specs::BodyOf::body_of))]
-pub fn body_of(alloc: Global, command: &Command<'_>) -> Result<Bytes, WriteError>
-    ensures { BodyWrites (FitsAsked (Meaning.command_of command.now)) (BodyOf.body_of (Meaning.command_of command.now)) result }
+pub fn body_of(alloc: Global, command: &ClientCommand<'_>) -> Result<Bytes, WriteError>
+    ensures { BodyWrites (FitsAsked (Meaning.client_command_of command.now)) (BodyOf.body_of (Meaning.client_command_of command.now)) result }
 {
     // Long by its commands alone: an arm picks a writer, which is a function of its own because each `?` costs the
     // proof of what it leaves.
     match command {
-        Command::TreeConnect { share } => tree_connect(alloc, share.as_str()),
-        Command::Create(request) => create(alloc, request),
-        Command::Close { file, query } => Ok(close(alloc, *file, *query)?),
-        Command::Flush { file } => Ok(flush(alloc, *file)?),
-        Command::Read {
+        ClientCommand::TreeConnect { share } => tree_connect(alloc, share.as_str()),
+        ClientCommand::Create(request) => create(alloc, request),
+        ClientCommand::Close { file, query } => Ok(close(alloc, *file, *query)?),
+        ClientCommand::Flush { file } => Ok(flush(alloc, *file)?),
+        ClientCommand::Read {
             file,
             at,
             size,
             minimum,
             channel,
         } => Ok(read(alloc, *file, *at, *size, *minimum, *channel)?),
-        Command::Write {
+        ClientCommand::Write {
             file,
             at,
             bytes,
             channel,
         } => write(alloc, *file, *at, bytes, *channel),
-        Command::Lock {
+        ClientCommand::Lock {
             file,
             index,
             number,
             elements,
         } => lock(alloc, *file, *index, *number, elements.as_slice()),
-        Command::ListDirectory {
+        ClientCommand::ListDirectory {
             file,
             class,
             restart,
@@ -465,8 +470,8 @@ pub fn body_of(alloc: Global, command: &Command<'_>) -> Result<Bytes, WriteError
             pattern.as_str(),
             *room,
         ),
-        Command::QueryFile { file, class, room } => Ok(query(alloc, *file, *class, *room)?),
-        Command::SetInfo { file, setting } => set(alloc, *file, setting),
-        _ => Ok(Bytes::new(alloc)),
+        ClientCommand::QueryFile { file, class, room } => Ok(query(alloc, *file, *class, *room)?),
+        ClientCommand::SetInfo { file, setting } => set(alloc, *file, setting),
+        ClientCommand::Nothing => Ok(Bytes::new(alloc)),
     }
 }

@@ -2,7 +2,7 @@ use Rattle.std.proofs.Common.{◌≡◌, ◌+◌, ◌*◌, ◌-◌, ◌<◌, Lis
 use Rattle.std.proofs.lemmas.Result.{IfOk-weaker}
 use Rattle.spec_exchange.specs.Operations.{reconnect_of}
 use Rattle.spec_exchange.specs.Client.{Client, create_for, guid_for}
-use Rattle.wire_commands.specs.values.Meaning.{command_of}
+use Rattle.wire_commands.specs.values.Meaning.{client_command_of}
 use Rattle.client_values.specs.declared.operations.values.OpKind.{OpKind}
 use Rattle.client_values.specs.declared.operations.values.OpKind.TheVariants as kinds
 use Rattle.client_values.specs.operations.Meaning.{op_of}
@@ -31,9 +31,9 @@ returns c =
     let guid_is = c.guid_of-guid in
     let f = c.file_at-file.ensures in
     let is_op = op_of (slice_index_or c.deref.result.now (create - 1) (kinds.Close 0)) in
-    IfOk-weaker c.reconnect_at.result (λ q. command_of q ≡ reconnect_of is_op guid_is.result c.file_at-file.result)
+    IfOk-weaker c.reconnect_at.result (λ q. client_command_of q ≡ reconnect_of is_op guid_is.result c.file_at-file.result)
     (λ q. (d : Client) → ShowsTable t d → ShowsOpened t.rows.items opened d → d.who.salt ≡ c.args.salt
-    → command_of q ≡ reconnect_of (d.op (create_for d x)) (guid_for d (create_for d x)) (d.file (create_for d x)))
+    → client_command_of q ≡ reconnect_of (d.op (create_for d x)) (guid_for d (create_for d x)) (d.file (create_for d x)))
     (λ q is d s k w. (
     let taken = s.rows.places.is_taken x c.requires.above c.requires.within in
     let named : create ≡ create_for d x = own.is ∙ sym (s.rows.places.creates x c.requires.above taken) in

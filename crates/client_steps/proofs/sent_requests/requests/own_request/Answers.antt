@@ -2,7 +2,7 @@ use Rattle.std.proofs.Common.{◌≡◌, ◌+◌, ◌*◌, ◌-◌, ◌<◌, Lis
 use Rattle.std.proofs.lemmas.Result.{IfOk-weaker}
 use Rattle.spec_exchange.specs.Operations.{request_of}
 use Rattle.spec_exchange.specs.Client.{Client, create_for, guid_for}
-use Rattle.wire_commands.specs.values.Meaning.{command_of}
+use Rattle.wire_commands.specs.values.Meaning.{client_command_of}
 use Rattle.client_values.specs.declared.operations.values.OpKind.{OpKind}
 use Rattle.client_values.specs.declared.operations.values.OpKind.TheVariants as kinds
 use Rattle.client_values.specs.operations.Meaning.{op_of}
@@ -24,9 +24,9 @@ returns c =
     let ids = c.ids_of-ids.result in
     let e = c.ids_of-ids.ensures in
     let is_op = op_of (slice_index_or c.deref.result.now (x - 1) (kinds.Close 0)) in
-    IfOk-weaker c.request_at.result (λ q. command_of q ≡ request_of is_op ids.guid ids.file ids.slot ids.number)
+    IfOk-weaker c.request_at.result (λ q. client_command_of q ≡ request_of is_op ids.guid ids.file ids.slot ids.number)
     (λ q. (d : Client) → ShowsTable t d → ShowsOpened t.rows.items c.args.opened.now d → d.who.salt ≡ c.args.salt
-    → command_of q ≡ request_of (d.op x) (guid_for d x) (d.file (create_for d x)) (d.slot_of x) (d.number_of x))
+    → client_command_of q ≡ request_of (d.op x) (guid_for d x) (d.file (create_for d x)) (d.slot_of x) (d.number_of x))
     (λ q is d s k w. (
     let taken = s.rows.places.is_taken x c.requires.above c.requires.within in
     let op : is_op ≡ d.op x =

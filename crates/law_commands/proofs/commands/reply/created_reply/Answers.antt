@@ -1,6 +1,6 @@
 use Rattle.std.proofs.Common.{ℕ, ◌^◌, ◌≤◌, ◌<◌, Bool, true, false, List, ◌++◌, length, Option, Some, None, refl, ap, ◌∙◌, arith}
 use Rattle.std.specs.Prelude.{◌==◌, if◌then◌else◌, option_map}
-use Rattle.spec_wire.specs.messages.Aligned.{told}
+use Rattle.spec_wire.specs.messages.Aligned as aligned
 use Rattle.spec_wire.specs.messages.CreateResponse.{CreateResponseValue, SpellsCreateResponse, create_response_fault}
 use Rattle.spec_wire.specs.messages.CreateResponse.{create_response_in, create_response_spelling}
 use Rattle.spec_wire.specs.messages.CreateContexts.{IsWritableReplyContexts, IsWritableDh2qReply, IsWritableMaximalAccess}
@@ -9,7 +9,8 @@ use Rattle.spec_exchange.specs.State.{Body, Created, CreateReply}
 use Rattle.spec_commands.specs.ReplyBody.{created_value, contexts_told, timeout_told, access_told, disk_id_told}
 use Rattle.spec_commands.specs.ReplyOf.{body_in, created_of, of_length}
 use Rattle.law_commands.specs.commands.Fitting.{IsCreated, IsFittingTimeout}
-use Rattle.law_commands.proofs.commands.Fields.{file_again, length-file_id}
+use Rattle.law_commands.proofs.commands.Fields.{length-file_id}
+use Rattle.law_commands.proofs.commands.Halves.{told}
 use Rattle.law_commands.proofs.commands.ReadBack.{found}
 use Rattle.law_commands.proofs.commands.HeardBack.{heard_as}
 use Rattle.law_commands.proofs.commands.Infos.{allocation_small, attributes_small}
@@ -59,7 +60,7 @@ told_at_most : (empty : Bool) → (if empty then 0 else 152) ≤ 152
 told_at_most true = omega arith
 told_at_most false = omega arith
 
-told_small : (n : ℕ) → told n 152 ≤ 152
+told_small : (n : ℕ) → aligned.told n 152 ≤ 152
 told_small n = told_at_most (n == 0)
 
 pub returns : goal.returns
@@ -120,4 +121,4 @@ returns c = λ header rest token request r len is.
         ),
       ),
     )) in
-    heard_as create_response_fault create_response_in created_in m v row ∙ ap (heard_with r) (file_again r.id is.id)
+    heard_as create_response_fault create_response_in created_in m v row ∙ ap (heard_with r) (told r.id is.id)

@@ -1,14 +1,11 @@
-use Rattle.wire_commands.specs.values.Meaning.{setup_of, create_of}
+use Rattle.wire_commands.specs.values.Meaning.{client_create_of}
 use Rattle.wire_commands.proofs.reading.hearing.body_in.Goals as goal
-
-pub returns-in-Setup : goal.returns-in-Setup
-returns-in-Setup c = rw c.in-Setup.is (c.setup_in.ensures (setup_of c.in-Setup.field-0))
 
 pub returns-in-TreeConnect : goal.returns-in-TreeConnect
 returns-in-TreeConnect c = rw c.in-TreeConnect.is (c.tree_in.ensures c.in-TreeConnect.share)
 
 pub returns-in-Create : goal.returns-in-Create
-returns-in-Create c = rw c.in-Create.is (c.created_in.ensures (create_of c.in-Create.field-0))
+returns-in-Create c = rw c.in-Create.is (c.created_in.ensures (client_create_of c.in-Create.field-0))
 
 pub returns-in-Read : goal.returns-in-Read
 returns-in-Read c = rw c.in-Read.is (c.content_in.ensures c.in-Read.file c.in-Read.at c.in-Read.size c.in-Read.minimum c.in-Read.channel)
