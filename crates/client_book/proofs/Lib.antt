@@ -1,0 +1,5 @@
+mod Asked
+mod Began
+mod Lacking
+mod Read
+mod Turned

@@ -1,0 +1,4 @@
+pub mod Asking
+pub mod Beginning
+pub mod Reading
+pub mod Steps
