@@ -335,7 +335,7 @@ impl Tables {
         ensures { (s : Server) → TablesShown self.now s → exists s file ≡ true
             → result ≡ found_names s (create_of request.now) file }
     {
-        let is_directory = self.tree.is_directory(file);
+        let is_directory = self.is_directory(file);
         if self.is_pending(file) {
             return Some(DELETE_PENDING);
         }

@@ -92,7 +92,7 @@ impl Tables {
             return Ok(turn_down(id, ACCESS_DENIED));
         }
         let file = self.file_of(id);
-        if self.tree.is_directory(file) {
+        if self.is_directory(file) {
             return Ok(turn_down(id, INVALID_DEVICE_REQUEST));
         }
         match self.opens.may_read(id, at, u64::from(size)) {
@@ -163,7 +163,7 @@ impl Tables {
             return Ok(turn_down(id, ACCESS_DENIED));
         }
         let file = self.file_of(id);
-        if self.tree.is_directory(file) {
+        if self.is_directory(file) {
             return Ok(turn_down(id, INVALID_DEVICE_REQUEST));
         }
         // After the access, so that an open without it learns nothing. Before ranges, room and journal, so that a
@@ -271,7 +271,7 @@ impl Tables {
             → is_filled elements.now ≡ true → elements_in c ≡ elements.now → IfOk result (λ v. verdict_of c v
             ≡ new_lock_check s id index number elements.now) }
     {
-        if self.tree.is_directory(self.file_of(id)) {
+        if self.is_directory(self.file_of(id)) {
             return Ok(turn_down_lock(id, index, number, INVALID_DEVICE_REQUEST));
         }
         self.check_ranges(id, index, number, elements)
@@ -403,7 +403,7 @@ impl Tables {
             return Ok(turn_down(id, OBJECT_NAME_NOT_FOUND));
         }
         let file = self.file_of(id);
-        let size = file_info_size(class, self.tree.is_directory(file), self.tree.path(file));
+        let size = file_info_size(class, self.is_directory(file), self.tree.path(file));
         if u128::from(room) < size {
             return Ok(turn_down(id, INFO_LENGTH_MISMATCH));
         }
@@ -439,10 +439,11 @@ impl Tables {
         if room < volume_info_size(class) {
             return turn_down(id, INFO_LENGTH_MISMATCH);
         }
+        let space = self.tree.space();
         let body = Body::VolumeInfo {
             class,
-            room: self.tree.room(),
-            used: self.tree.used(),
+            room: space.room,
+            used: space.used,
         };
         told(id, body)
     }
@@ -466,7 +467,7 @@ impl Tables {
             return Ok(turn_down(id, ACCESS_DENIED));
         }
         let file = self.file_of(id);
-        if !self.tree.is_directory(file) {
+        if !self.is_directory(file) {
             return Ok(turn_down(id, INVALID_PARAMETER));
         }
         self.check_listed(id, file, class, restart, single, pattern, room)

@@ -98,7 +98,7 @@ impl Tables {
             return turn_down(id, ACCESS_DENIED);
         }
         let file = self.file_of(id);
-        if self.tree.is_directory(file) {
+        if self.is_directory(file) {
             return turn_down(id, INVALID_DEVICE_REQUEST);
         }
         if self.is_replayed_at(m, file, size) {
@@ -155,7 +155,7 @@ impl Tables {
         ensures { (s : Server) → TablesShown self.now s → exists s file ≡ true
             → result ≡ (may_set_attributes (is_directory s file) asked.now.attributes && may_set_times asked.now) }
     {
-        may_set_attributes(self.tree.is_directory(file), asked.attributes) && may_set_times(asked)
+        may_set_attributes(self.is_directory(file), asked.attributes) && may_set_times(asked)
     }
 
     // ---- delete pending
@@ -299,7 +299,7 @@ impl Tables {
         ensures { (s : Server) → TablesShown self.now s → exists s file ≡ true
             → result ≡ (is_directory s file || file_has_open s file) }
     {
-        self.tree.is_directory(file) || self.opens.has_open(file)
+        self.is_directory(file) || self.opens.has_open(file)
     }
 
     // An open of a file that stands below the directory.

@@ -79,12 +79,20 @@ impl Tables {
         info_of(&self.tree.info(file))
     }
 
+    /// Whether a file that is there is a directory.
+    #[tactic(auto, unfolding(spec_exchange::specs::Files::info_of))]
+    pub fn is_directory(&self, file: u64) -> bool
+        ensures { (s : Server) → TablesShown self.now s → exists s file ≡ true → result ≡ files.is_directory s file }
+    {
+        self.info(file).is_directory
+    }
+
     /// How many bytes a file that is there has.
     #[tactic(auto, unfolding(spec_exchange::specs::Files::info_of))]
     pub fn length(&self, file: u64) -> u64
         ensures { (s : Server) → TablesShown self.now s → exists s file ≡ true → result ≡ length (s.content file) }
     {
-        self.tree.info(file).length
+        self.info(file).size
     }
 
     /// Times (100 ns since 1601) and attributes of a file that is there.
@@ -92,7 +100,7 @@ impl Tables {
     pub fn basic(&self, file: u64) -> Basic
         ensures { (s : Server) → TablesShown self.now s → exists s file ≡ true → result ≡ s.basic file }
     {
-        self.tree.info(file).basic
+        self.info(file).times
     }
 
     /// Whether a file that is there is delete pending.
@@ -100,7 +108,7 @@ impl Tables {
     pub fn is_pending(&self, file: u64) -> bool
         ensures { (s : Server) → TablesShown self.now s → exists s file ≡ true → result ≡ s.delete_pending file }
     {
-        self.tree.info(file).marked
+        self.info(file).is_delete_pending
     }
 
     /// Whether the access of an open has this bit.

@@ -2,7 +2,4 @@
 
 mod behind;
 
-pub use crate::event_memory::{
-    Plan, ServerState, fits, make_room, plan_event, plan_law, ruling_law,
-};
 pub use behind::{Both, front_body, ready_behind};

@@ -2,5 +2,4 @@
 
 mod committing;
 
-pub use crate::first_deadlines::dated_effects_law;
 pub use committing::commit;

@@ -3,5 +3,4 @@
 mod asked;
 mod book;
 
-pub use crate::Server;
 pub use book::Book;

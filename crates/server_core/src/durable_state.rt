@@ -8,5 +8,4 @@ mod leaves;
 mod locks;
 mod records;
 
-pub use apply::apply_records;
 pub use durable::{Durable, FULL_ROOM};

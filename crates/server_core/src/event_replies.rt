@@ -3,6 +3,5 @@
 mod progress;
 mod told;
 
-pub use conn_core::{Reply, Serve, ServeError};
 pub use progress::Logon;
 pub use told::reply_from;

@@ -6,5 +6,4 @@ mod both;
 mod event;
 mod expiring;
 
-pub use crate::behind_expiry::ServerState;
 pub use event::answer_event;

@@ -2,6 +2,4 @@
 
 mod dating;
 
-pub use crate::journaled_tables::ServerState;
 pub use dating::carry_dated;
-pub use server_effects::{Prepared, dated_effects_law};

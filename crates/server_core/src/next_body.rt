@@ -8,7 +8,7 @@ ghost use Rattle.spec_exchange.specs.State.{Record};
 ghost use Rattle.journal.specs.record_bodies.Body.{IsBodyOf, bodies_of};
 ghost use Rattle.server_core.specs.Reading.{BodiesSpell};
 
-use crate::more_law;
+use crate::laws::more_law;
 use journal::body_law;
 
 /// Where bodies spell records of version 2, these and the body of further records, if it has any, spell them all.

@@ -17,7 +17,8 @@ ghost use Rattle.server_checks.specs.declared.setups.error.EventError.TheVariant
 ghost use Rattle.server_core.specs.restart_tables.Restart.{RestartLeaves, RestartRefused};
 ghost use Rattle.spec_world.specs.Ends.{Logons};
 
-use crate::event_step::{ServerState, answer_event};
+use crate::event_step::answer_event;
+use crate::journaled_tables::ServerState;
 use crate::server_start::recover_state;
 use crate::signing::signer_of;
 use crate::standing::standing_of;

@@ -10,10 +10,11 @@ pub(crate) fn standing_of(tables: &Tables, connection: u32) -> Standing {
         Some(session) => tables.opens.has_attached(session),
         None => false,
     };
+    let space = tables.tree.space();
     Standing {
         session,
         has_opens,
-        used: tables.tree.used(),
-        room: tables.tree.room(),
+        used: space.used,
+        room: space.room,
     }
 }

@@ -8,6 +8,7 @@ ghost use Rattle.spec_exchange.specs.Files.{exists};
 ghost use Rattle.spec_exchange.specs.State.{Server};
 ghost use Rattle.spec_exchange.specs.Verdict as verdicts;
 ghost use Rattle.store_files.specs.file_tree.Shown.{ShowsFiles};
+ghost use Rattle.store_opens.specs.open_table.Shown.{ShowsOpens};
 ghost use Rattle.server_checks.specs.session_table.Logons.{LogonsStay};
 ghost use Rattle.law_server.specs.tables.Fits.{Fits};
 ghost use Rattle.server_checks.specs.verdicts.Views.{bytes_in};
@@ -52,23 +53,24 @@ pub fn alter(
     ensures config { t.new.config ≡ t.old.config }
     ensures logons { LogonsStay t.old.sessions t.new.sessions }
 {
-    let file = t.opens.file_of(id);
-    change_file(t, m, file, change, now);
+    change_file(t, m, id, change, now);
     reach(t, m, id);
     answer_with(t.alloc, m, SUCCESS, body, acts)
 }
 
-fn change_file(t: &mut Tables, m: &Message<'_>, file: u64, change: ChangeReady, now: u64)
-    ensures shows { (s : Server) (c : verdicts.Change) → exists s file ≡ true → AbleToChange s file c → ChangeFor t.old s file change c
+// Bytes and a new path have their file in what is ready.
+fn change_file(t: &mut Tables, m: &Message<'_>, id: u64, change: ChangeReady, now: u64)
+    ensures shows { (s : Server) (c : verdicts.Change) → ShowsOpens t.old.opens s → s.standing id ≡ true
+        → exists s (file_of s id) ≡ true → AbleToChange s (file_of s id) c → ChangeFor t.old s (file_of s id) change c
         → IsChangeOf (command_of m.now.command) c → FilesForChange t.old s change
-        → ShowsFiles t.new.tree (effects.change_file s file now c) }
+        → ShowsFiles t.new.tree (effects.change_file s (file_of s id) now c) }
     ensures kept { t.new ≡ record t.old { tree = t.new.tree } }
 {
     match change {
         ChangeReady::PutBytes { bytes } => t.tree.finish_write(bytes, bytes_of(m), now),
-        ChangeReady::PutEnd { size } => t.tree.end(file, size, now),
-        ChangeReady::PutBasic { basic } => t.tree.set_basic(file, basic),
-        ChangeReady::PutDeletePending { pending } => t.tree.mark(file, pending),
+        ChangeReady::PutEnd { size } => t.tree.end(t.opens.file_of(id), size, now),
+        ChangeReady::PutBasic { basic } => t.tree.set_basic(t.opens.file_of(id), basic),
+        ChangeReady::PutDeletePending { pending } => t.tree.mark(t.opens.file_of(id), pending),
         ChangeReady::PutPath { moved } => t.tree.finish_rename(moved),
         ChangeReady::PutNothing => {}
     }

@@ -96,7 +96,7 @@ pub fn create_reply(t: &Tables, id: u64, told: Asks, action: u32) -> Body
         → body_of result ≡ effects.create_reply s id r action }
 {
     Body::Created(CreateReply {
-        id,
+        id: id as u128,
         action,
         info: t.info(t.file_of(id)),
         timeout: timeout_of(t, id, told.durable),

@@ -15,7 +15,7 @@ use crate::owing::owed_by;
 use crate::rulings::{Ruling, rule, without_records};
 use journal::{body_law, spelled};
 use server_checks::{Asked, Tables};
-use std::alloc::AllocError;
+use std::alloc::{AllocError, Global};
 use wire_bytes::Bytes;
 
 // Entries that begin no epoch end here, and a body has its length in front, in 4 bytes, and the next gate behind.
@@ -77,9 +77,18 @@ fn fitting(t: &Tables, asked: &Asked<'_>, ruling: Ruling, body: Bytes) -> Plan
     if fits(t, body.len()) {
         return Plan { ruling, body };
     }
+    plan_without_records(t.alloc, asked, ruling)
+}
+
+// What stands in the place of a ruling whose records don't fit. It owes none.
+fn plan_without_records(alloc: Global, asked: &Asked<'_>, ruling: Ruling) -> Plan
+    ensures ruling { ruling_of (event_of asked.now) result.ruling
+        ≡ steps.ruling_without_room (ruling_of (event_of asked.now) ruling) }
+    ensures body { result.body ≡ [] }
+{
     Plan {
         ruling: without_records(asked, ruling),
-        body: Bytes::new(t.alloc),
+        body: Bytes::new(alloc),
     }
 }
 

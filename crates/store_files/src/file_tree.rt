@@ -28,4 +28,4 @@ pub use make::NewFile;
 pub use new_name::NewName;
 pub use rename::Move;
 pub use row::Info;
-pub use tree::Tree;
+pub use tree::{Space, Tree};

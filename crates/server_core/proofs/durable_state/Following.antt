@@ -15,7 +15,7 @@ use Rattle.journal.specs.declared.record_bytes.value.Record.{Record}
 use Rattle.law_server.specs.tables.Fits.{Fits, is_sound, all_sound}
 use Rattle.law_server.proofs.tables.Logic.{front_of, back_of}
 use Rattle.law_server.proofs.tables.Folded.{recorded_keeps}
-use Rattle.server_core.specs.durable_state.Durable.{DurableShown, Applied}
+use Rattle.server_core.specs.durable_state.Durable.{DurableShown}
 use Rattle.server_core.specs.declared.durable_state.durable.Durable.{Durable}
 
 -- a state from which the records that are left lead where all of them do
@@ -66,20 +66,3 @@ pub followed_all : (d : Durable) (s u : Server) (all : List Record) (i : ℕ) �
 followed_all d s u all i past is h =
     subst (λ (w : Server). DurableShown d w)
     (sym (is ∙ (ap (λ (xs : List Record). fold_from u (records_of xs)) (drop_none all i past) ∙ fold_end u))) h
-
--- ---- a body
-
-pub applied_by : (d e : Durable) (s : Server) (body : List ℕ) (rs ms : List Record) → s.version ≡ d.version
-    → SpellsRecords d.version body rs → ms ≡ rs
-    → (all_sound (records_of ms) ≡ true → DurableShown e (fold_from s (records_of ms))) → Applied e s body (Ok tt)
-applied_by d e s body rs ms version spells same h = (
-  rs,
-  subst (λ (v : ℕ). SpellsRecords v body rs) (sym version) spells,
-  λ sound. subst (λ (xs : List Record). DurableShown e (fold_from s (records_of xs))) same
-      (h (subst (λ (xs : List Record). all_sound (records_of xs) ≡ true) (sym same) sound)),
-)
-
-pub failed_by : (d : Durable) (s : Server) (body : List ℕ) (error : RecordError) → s.version ≡ d.version → DurableShown d s
-    → ReadsRecords {X = List Record} (λ rs. rs) d.version body (Err error) → Applied d s body (Err error)
-failed_by d s body Memory version h reads = tt
-failed_by d s body (BadRecord at) version h reads = (subst (λ (v : ℕ). BreaksRecords v body at) (sym version) reads, h)

@@ -3,9 +3,9 @@ use Rattle.std.proofs.Common.{◌≡◌, inl, ℕ, true, List, ◌++◌, Result,
 use Rattle.spec_exchange.specs.Records.{fits}
 use Rattle.spec_exchange.specs.State as model
 use Rattle.spec_exchange.specs.Step.{Ruling, carried_out, expire, ruling, step, with_deadlines, written_down}
-use Rattle.server_core.proofs.standing_law.Answered.{Comes}
-use Rattle.server_core.proofs.standing_law.Behind.{held_still}
-use Rattle.server_core.proofs.standing_law.Laws.{Bodies, Steps}
+use Rattle.server_core.proofs.journaled_tables.Answered.{Comes}
+use Rattle.server_core.proofs.journaled_tables.Behind.{held_still}
+use Rattle.server_core.proofs.journaled_tables.Laws.{Bodies, Steps}
 use Rattle.journal.specs.disk_journal.Journal.{OnlyRoom}
 use Rattle.server_checks.specs.event_heard.Heard.{event_of, heard_event}
 use Rattle.server_checks.specs.declared.event_heard.asked.Asked.{Asked}

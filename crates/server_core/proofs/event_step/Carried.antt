@@ -1,7 +1,7 @@
 -- An event behind an open that was taken out: carried out, or the open comes back.
 use Rattle.std.proofs.Common.{◌≡◌, ℕ, List, sym, subst, ◌∙◌}
 use Rattle.spec_exchange.specs.State as model
-use Rattle.server_core.proofs.standing_law.Behind.{held_still, holds_shown}
+use Rattle.server_core.proofs.journaled_tables.Behind.{held_still, holds_shown}
 use Rattle.journal.specs.disk_journal.Journal.{JournalState, OnlyRoom}
 use Rattle.server_checks.specs.Shown.{TablesShown}
 use Rattle.server_core.specs.journaled_tables.Holds.{JournaledHeld, JournaledHolds}

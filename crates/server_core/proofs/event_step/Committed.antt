@@ -4,8 +4,8 @@ use Rattle.std.proofs.Common.{OnOk, None, refl, sym, ap, subst, ◌∙◌}
 use Rattle.spec_exchange.specs.Records.{fits}
 use Rattle.spec_exchange.specs.State as model
 use Rattle.spec_exchange.specs.Step.{Ruling, carried_out, event_answer, ruling, ruling_without_room, step, with_deadlines, written_down}
-use Rattle.server_core.proofs.standing_law.Answered.{Comes, answered, faulted}
-use Rattle.server_core.proofs.standing_law.Laws.{Bodies, Steps}
+use Rattle.server_core.proofs.journaled_tables.Answered.{Comes, answered, faulted}
+use Rattle.server_core.proofs.journaled_tables.Laws.{Bodies, Steps}
 use Rattle.journal.specs.disk_journal.Journal.{JournalState, OnlyRoom, JournalSettled}
 use Rattle.server_checks.specs.event_heard.Heard.{event_of, heard_event}
 use Rattle.server_checks.specs.declared.event_heard.asked.Asked.{Asked}

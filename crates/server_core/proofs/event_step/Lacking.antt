@@ -1,7 +1,7 @@
 -- Where memory runs out, and nothing was written, the server holds the state as before.
 use Rattle.std.proofs.Common.{◌≡◌, inl, ℕ, List, Some, None, sym, ◌∙◌}
 use Rattle.spec_exchange.specs.State as model
-use Rattle.server_core.proofs.standing_law.Behind.{held_still, holds_shown}
+use Rattle.server_core.proofs.journaled_tables.Behind.{held_still, holds_shown}
 use Rattle.journal.specs.disk_journal.Journal.{OnlyRoom}
 use Rattle.server_checks.specs.declared.setups.error.EventError.{EventError}
 use Rattle.server_checks.specs.declared.setups.error.EventError.TheVariants.{Memory, DiskFault, Stopped}

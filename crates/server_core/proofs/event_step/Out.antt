@@ -6,7 +6,7 @@ use Rattle.spec_exchange.specs.State as model
 use Rattle.spec_exchange.specs.Step.{Ruling, carried_out, connection_of, due, expire, expire_records, max_expired_guids, ruling}
 use Rattle.spec_exchange.specs.Step.{step, with_deadlines, written_down}
 use Rattle.spec_exchange.specs.Table.{has}
-use Rattle.server_core.proofs.standing_law.Lone.{Due}
+use Rattle.server_core.proofs.journaled_tables.Lone.{Due}
 use Rattle.store_opens.specs.open_table.Shown.{HasOpensRoom, HasRoomIn, HasOpensSessionRoom}
 use Rattle.store_opens.specs.declared.open_table.table.Opens.{Opens}
 use Rattle.server_checks.specs.event_heard.Heard.{event_of, heard_event}

@@ -6,7 +6,7 @@ use Rattle.spec_exchange.specs.State as model
 use Rattle.spec_exchange.specs.Step.{step}
 use Rattle.store_files.specs.file_tree.Shown.{ShowsFiles}
 use Rattle.store_files.specs.declared.file_tree.tree.Tree.{Tree}
-use Rattle.server_core.proofs.standing_law.Behind.{held, held_still, holds_shown}
+use Rattle.server_core.proofs.journaled_tables.Behind.{held, held_still, holds_shown}
 use Rattle.spec_wire.specs.journal.Grammar.{StandsFor}
 use Rattle.spec_wire.specs.journal.Moments.{LeavesOnly}
 use Rattle.store_opens.specs.open_table.Shown.{ShowsOpens}

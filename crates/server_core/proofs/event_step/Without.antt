@@ -31,7 +31,7 @@ use Rattle.server_core.specs.journaled_tables.Counted.{front_of}
 use Rattle.server_core.specs.declared.journaled_tables.state.ServerState.{ServerState}
 use Rattle.law_server.specs.tables.Fits.{Fits}
 use Rattle.server_plan.specs.logon_steps.Steps.{PreparedStep}
-use Rattle.server_core.proofs.standing_law.Behind.{held, held_still}
+use Rattle.server_core.proofs.journaled_tables.Behind.{held, held_still}
 use Rattle.server_checks.specs.session_table.Shown.{ShowsSessions}
 use Rattle.spec_crypto.specs.tokens.Tokens.{Users}
 use Rattle.spec_world.specs.Ends.{Logons}

@@ -31,18 +31,6 @@ pub record DurableShown (d : Durable) (s : model.Server) : Type 0 where
   pub pending : (f : ℕ) → exists_in s.entries f ≡ true → s.delete_pending f ≡ true → contains nat_cmp d.pending f ≡ true
   pub ascend : FilesAscend s
 
--- the body is these records, in the version that the state has reached
-abbrev pub IsBodyIn : model.Server → List ℕ → List Record → Type 0
-IsBodyIn s body rs = SpellsRecords s.version body rs
-
--- What comes of a body: its records one after the other, if none makes an open that deletes the root on close; nothing, where it is
--- no list of records; where memory runs out perhaps a part.
-abbrev pub Applied : Durable → model.Server → List ℕ → Result Unit RecordError → Type 0
-Applied d s body (Ok u) = (rs : List Record) × IsBodyIn s body rs
-    × (all_sound (records_of rs) ≡ true → DurableShown d (fold_from s (records_of rs)))
-Applied d s body (Err Memory) = ⊤
-Applied d s body (Err (BadRecord at)) = BreaksRecords s.version body at × DurableShown d s
-
 -- ---- parts of a record
 
 -- the record of a create of this file

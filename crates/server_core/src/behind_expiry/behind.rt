@@ -20,16 +20,15 @@ ghost use Rattle.server_core.specs.body_writing.Bodies.{IsLack};
 ghost use Rattle.server_checks.specs.session_table.Logons.{LogonsShown};
 ghost use Rattle.spec_world.specs.Ends.{Logons};
 
-use crate::event_memory::{
-    Plan, Prepared, Ruling, ServerState, at_connection, body_of, fits, make_room, plan_law, rule,
-    ruling_law,
-};
+use crate::event_memory::make_room;
 use crate::joined_bodies::joined_law;
+use crate::journaled_tables::ServerState;
 use base_outside::Disk;
 use journal::{body_law, spelled};
 use server_checks::{Asked, EventError, Tables};
-use server_effects::expire_records;
-use std::alloc::AllocError;
+use server_effects::{Prepared, expire_records};
+use server_plan::{Plan, Ruling, at_connection, body_of, fits, plan_law, rule, ruling_law};
+use std::alloc::{AllocError, Global};
 use wire_bytes::Bytes;
 
 /// An event with its memory, and its body behind that of the expiry.
@@ -65,7 +64,7 @@ pub fn ready_behind<D: Disk>(
     server: &mut ServerState<D>,
     asked: &Asked<'_>,
     now: u64,
-    front: &Bytes,
+    front: &[u8],
 ) -> Result<Option<Both>, EventError>
     ensures room { IfOk result (λ r. IfSome r (λ x. RoomToCarry server.new.tables asked.now x.prepared
         × HasRoomToWrite server.new x.body)) }
@@ -136,14 +135,14 @@ fn both_ready<D: Disk>(
     body_law();
     plan_law();
     ruling_law();
-    match make_room(server, asked, ruling, &body, now) {
+    match make_room(server, asked, ruling, body.as_slice(), now) {
         Ok(prepared) => Ok(Some(Both { prepared, body })),
         Err(error) => Err(error),
     }
 }
 
 // The ruling on the event, with its body behind the expiry's.
-fn plan_behind(t: &Tables, asked: &Asked<'_>, now: u64, front: &Bytes) -> Result<Plan, AllocError>
+fn plan_behind(t: &Tables, asked: &Asked<'_>, now: u64, front: &[u8]) -> Result<Plan, AllocError>
     ensures { (s : model.Server) (records : List model.Record) → Fits s → TablesShown t.now s → IsBodyOf front.now records
         → IfOk result (λ p. IsPlannedBehind p.ruling p.body s now (event_of asked.now) records) }
 {
@@ -159,7 +158,7 @@ fn with_body(
     asked: &Asked<'_>,
     ruling: Ruling,
     now: u64,
-    front: &Bytes,
+    front: &[u8],
 ) -> Result<Plan, AllocError>
     ensures { (s : model.Server) (records : List model.Record) → Fits s → TablesShown t.now s
         → ruling_of (event_of asked.now) ruling ≡ steps.ruling s (event_of asked.now) → IsBodyOf front.now records
@@ -178,7 +177,7 @@ fn body_behind(
     asked: &Asked<'_>,
     ruling: &Ruling,
     now: u64,
-    front: &Bytes,
+    front: &[u8],
 ) -> Result<Bytes, AllocError>
     ensures { (s : model.Server) (records : List model.Record) → Fits s → TablesShown t.now s
         → OwingOf s (ruling_of (event_of asked.now) ruling.now) → IsBodyOf front.now records
@@ -186,15 +185,15 @@ fn body_behind(
 {
     joined_law();
     match body_of(t, asked, ruling, now) {
-        Ok(own) => joined(front, &own),
+        Ok(own) => joined(t.alloc, front, own.as_slice()),
         Err(error) => Err(error),
     }
 }
 
-fn joined(front: &Bytes, own: &Bytes) -> Result<Bytes, AllocError>
+fn joined(alloc: Global, front: &[u8], own: &[u8]) -> Result<Bytes, AllocError>
     ensures { IfOk result (λ b. b ≡ front.now ++ own.now) }
 {
-    let mut body = front.copy()?;
-    body.extend(own.as_slice())?;
+    let mut body = Bytes::from_slice(alloc, front)?;
+    body.extend(own)?;
     Ok(body)
 }

@@ -24,13 +24,13 @@ ghost use Rattle.spec_crypto.specs.tokens.Tokens.{Users};
 ghost use Rattle.spec_world.specs.Ends.{Logons};
 
 use crate::body_writing::used_behind;
-use crate::first_deadlines::{Prepared, ServerState, carry_dated};
+use crate::first_deadlines::carry_dated;
+use crate::journaled_tables::ServerState;
 use crate::recording::write;
 use base_outside::Disk;
 use law_records::carried_law;
 use server_checks::{Asked, EventError};
-use server_effects::Answer;
-use wire_bytes::Bytes;
+use server_effects::{Answer, Prepared};
 
 /// Writes the body, and carries out what it stands for, at `now` (100 ns since 1601). Where the disk fails the tables follow all the
 /// same, but for the journal's bytes, and there is no answer.
@@ -38,7 +38,7 @@ pub fn commit<D: Disk>(
     server: &mut ServerState<D>,
     asked: &Asked<'_>,
     prepared: Prepared,
-    body: &Bytes,
+    body: &[u8],
     now: u64,
 ) -> Result<Answer, EventError>
     requires { RoomToCarry server.old.tables asked.now prepared × HasRoomToWrite server.old body.now }

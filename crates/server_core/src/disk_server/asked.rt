@@ -6,8 +6,8 @@ ghost use Rattle.server_core.specs.disk_server.Asked.{HasShape, BookLogonIs, IsB
 ghost use Rattle.server_core.specs.Shown.{HoldsServer};
 ghost use Rattle.spec_world.specs.Ends.{Logons};
 
-use crate::Server;
 use crate::event_replies::Logon;
+use crate::server::Server;
 use base_outside::Disk;
 use crypto_sessions::verify;
 use server_checks::{ServerEvent, SetupHeard};

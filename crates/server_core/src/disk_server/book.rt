@@ -3,10 +3,11 @@ ghost use Rattle.std.specs.Prelude.{◌≡◌};
 ghost use Rattle.server_core.specs.disk_server.Telling.{TellsAnswer, refusal};
 ghost use Rattle.server_core.specs.Shown.{stopped_of};
 
-use crate::Server;
 use crate::disk_server::asked::{logon_in, shape_in};
-use crate::event_replies::{Logon, Reply, Serve, ServeError, reply_from};
+use crate::event_replies::{Logon, reply_from};
+use crate::server::Server;
 use base_outside::{Disk, Standing};
+use conn_core::{Reply, Serve, ServeError};
 use server_checks::ServerEvent;
 use server_effects::Answer;
 use std::alloc::Global;

@@ -22,8 +22,8 @@ use crate::body_writing::reserve_body;
 use crate::journaled_tables::ServerState;
 use base_outside::Disk;
 use server_checks::{Asked, EventError};
-use server_plan::{Prepared, Ruling, prepare};
-use wire_bytes::Bytes;
+use server_effects::Prepared;
+use server_plan::{Ruling, prepare};
 
 /// Takes the memory that a ruling and its body want. Where there is none the state is as before.
 ///
@@ -34,7 +34,7 @@ pub fn make_room<D: Disk>(
     server: &mut ServerState<D>,
     asked: &Asked<'_>,
     ruling: Ruling,
-    body: &Bytes,
+    body: &[u8],
     now: u64,
 ) -> Result<Prepared, EventError>
     requires { fits_by server.old.tables.journal (length body.now) ≡ true }

@@ -14,7 +14,7 @@ use wire_commands::{Body, Command, WriteError, reply_body};
 /// The most bytes of a body that fits a frame.
 const LONGEST: usize = 1_113_984;
 
-fn file_in(body: &Body) -> Option<u64>
+fn file_in(body: &Body) -> Option<u128>
     ensures { result ≡ created_in (body_of body.now) }
 {
     match body {
@@ -58,7 +58,7 @@ pub fn reply_from(
     let Some(progress) = progress_for(logon, answer) else {
         return Err(WriteError::Unwritable);
     };
-    match reply_body(alloc, answer.token.as_slice(), command, &answer.reply) {
+    match reply_body(alloc, &answer.token, command, &answer.reply) {
         Ok(body) => {
             if body.len() > LONGEST {
                 return Err(WriteError::Unwritable);

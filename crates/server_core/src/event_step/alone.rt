@@ -17,15 +17,16 @@ ghost use Rattle.server_plan.specs.rulings.Rulings.{ruling_of};
 ghost use Rattle.spec_crypto.specs.tokens.Tokens.{Users};
 ghost use Rattle.spec_world.specs.Ends.{Logons};
 
-use crate::behind_expiry::{Plan, ServerState, plan_event, plan_law};
 use crate::commit_event::commit;
 use crate::event_memory::make_room;
+use crate::journaled_tables::ServerState;
 use crate::next_body::behind_law;
 use base_outside::Disk;
 use journal::body_law;
 use law_records::{carried_law, expiring_law, keeps_law, stands_law};
 use server_checks::{Asked, EventError};
 use server_effects::Answer;
+use server_plan::{Plan, plan_event, plan_law};
 
 // An event in front of which no open expires.
 pub(crate) fn event_alone<D: Disk>(
@@ -85,8 +86,9 @@ fn carry_plan<D: Disk>(
     plan_law();
     stands_law();
     let Plan { ruling, body } = plan;
-    match make_room(server, asked, ruling, &body, now) {
-        Ok(prepared) => commit(server, asked, prepared, &body, now),
+    let body = body.as_slice();
+    match make_room(server, asked, ruling, body, now) {
+        Ok(prepared) => commit(server, asked, prepared, body, now),
         Err(error) => Err(error),
     }
 }

@@ -15,17 +15,17 @@ ghost use Rattle.server_core.specs.body_writing.Bodies.{IsLack};
 ghost use Rattle.spec_crypto.specs.tokens.Tokens.{Users};
 ghost use Rattle.spec_world.specs.Ends.{Logons};
 
-use crate::behind_expiry::{Both, ServerState};
+use crate::behind_expiry::Both;
 use crate::event_step::both::carry_both;
 use crate::event_step::expiring::Behind;
 use crate::expiry_alone::take_back;
+use crate::journaled_tables::ServerState;
 use crate::next_body::behind_law;
 use base_outside::Disk;
 use journal::body_law;
 use law_records::{dated_law, expiring_law, keeps_law, stands_law};
 use server_checks::{Asked, EventError};
 use server_effects::Expired;
-use wire_bytes::Bytes;
 
 // The event, with its body behind the expiry's, as an end of both.
 pub(crate) fn carry_behind<D: Disk>(
@@ -60,7 +60,7 @@ pub(crate) fn none_behind<D: Disk>(
     asked: &Asked<'_>,
     now: u64,
     expired: Expired,
-    front: &Bytes,
+    front: &[u8],
 ) -> Result<Behind, EventError>
     requires { HasOpensRoom server.old.tables.opens × HasRoomToWrite server.old front.now }
     ensures step { (users : Users) (s : model.Server) (L : Logons) (records : List model.Record) (e : ServerEvent) (o : ℕ)
@@ -97,7 +97,7 @@ pub(crate) fn lack_behind<D: Disk>(
     asked: &Asked<'_>,
     now: u64,
     expired: Expired,
-    front: &Bytes,
+    front: &[u8],
     lack: EventError,
 ) -> Result<Behind, EventError>
     requires { HasOpensRoom server.old.tables.opens × HasRoomToWrite server.old front.now }

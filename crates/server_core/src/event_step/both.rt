@@ -12,14 +12,16 @@ ghost use Rattle.server_effects.specs.prepared_event.Prepared.{RoomToCarry};
 ghost use Rattle.spec_crypto.specs.tokens.Tokens.{Users};
 ghost use Rattle.spec_world.specs.Ends.{Logons};
 
-use crate::behind_expiry::{Both, ServerState, ruling_law};
-use crate::commit_event::{commit, dated_effects_law};
+use crate::behind_expiry::Both;
+use crate::commit_event::commit;
+use crate::journaled_tables::ServerState;
 use crate::next_body::behind_law;
 use base_outside::Disk;
 use journal::body_law;
 use law_records::{carried_law, expiring_law, keeps_law, stands_law};
 use server_checks::{Asked, EventError};
-use server_effects::{Answer, Expired, give_up};
+use server_effects::{Answer, Expired, dated_effects_law, give_up};
+use server_plan::ruling_law;
 
 // The open stays out, and the event follows, with one body for both.
 pub(crate) fn carry_both<D: Disk>(
@@ -50,5 +52,5 @@ pub(crate) fn carry_both<D: Disk>(
     ruling_law();
     stands_law();
     give_up(&mut server.tables.opens, expired);
-    commit(server, asked, both.prepared, &both.body, now)
+    commit(server, asked, both.prepared, both.body.as_slice(), now)
 }

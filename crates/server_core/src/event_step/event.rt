@@ -14,9 +14,9 @@ ghost use Rattle.law_server.specs.tables.Fits.{Fits};
 ghost use Rattle.spec_crypto.specs.tokens.Tokens.{Users};
 ghost use Rattle.spec_world.specs.Ends.{Logons};
 
-use crate::behind_expiry::ServerState;
 use crate::event_step::alone::event_alone;
 use crate::event_step::expiring::{Behind, event_behind_expiry};
+use crate::journaled_tables::ServerState;
 use base_outside::Disk;
 use law_records::expiring_law;
 use server_checks::{Asked, EventError, ServerEvent, hear, unmade_law};

@@ -11,15 +11,16 @@ ghost use Rattle.server_core.specs.journaled_tables.Rooms.{HasRoomToWrite};
 ghost use Rattle.spec_crypto.specs.tokens.Tokens.{Users};
 ghost use Rattle.spec_world.specs.Ends.{Logons};
 
-use crate::behind_expiry::{ServerState, fits, front_body, ready_behind};
+use crate::behind_expiry::{front_body, ready_behind};
 use crate::body_writing::reserve_body;
 use crate::event_step::back::{carry_behind, lack_behind, none_behind};
+use crate::journaled_tables::ServerState;
 use base_outside::Disk;
 use journal::body_law;
 use law_records::{expiring_law, keeps_law};
 use server_checks::{Asked, EventError};
 use server_effects::{Answer, Expired, take_expired};
-use wire_bytes::Bytes;
+use server_plan::fits;
 
 // What became of an event behind the expiry of an open.
 #[derive(Drop)]
@@ -50,7 +51,7 @@ pub(crate) fn event_behind_expiry<D: Disk>(
 {
     keeps_law();
     match front_body(&server.tables, asked, id) {
-        Ok(front) => behind_front(server, asked, now, id, &front),
+        Ok(front) => behind_front(server, asked, now, id, front.as_slice()),
         Err(_) => Err(EventError::Memory),
     }
 }
@@ -61,7 +62,7 @@ fn behind_front<D: Disk>(
     asked: &Asked<'_>,
     now: u64,
     id: u64,
-    front: &Bytes,
+    front: &[u8],
 ) -> Result<Behind, EventError>
     ensures step { (users : Users) (s : model.Server) (L : Logons) (records : List model.Record) (e : ServerEvent)
         → ExpiryAsks D.told D.seen D.may_leave server.old users s L records now e asked.now → MayExpire s now id
@@ -95,7 +96,7 @@ fn take_out<D: Disk>(
     asked: &Asked<'_>,
     now: u64,
     id: u64,
-    front: &Bytes,
+    front: &[u8],
 ) -> Result<Behind, EventError>
     requires { HasRoomToWrite server.old front.now }
     ensures step { (users : Users) (s : model.Server) (L : Logons) (records : List model.Record) (e : ServerEvent)
@@ -125,7 +126,7 @@ fn event_without<D: Disk>(
     asked: &Asked<'_>,
     now: u64,
     expired: Expired,
-    front: &Bytes,
+    front: &[u8],
 ) -> Result<Behind, EventError>
     requires { HasOpensRoom server.old.tables.opens × HasRoomToWrite server.old front.now }
     ensures step { (users : Users) (s : model.Server) (L : Logons) (records : List model.Record) (e : ServerEvent) (o : ℕ)

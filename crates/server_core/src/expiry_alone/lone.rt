@@ -24,7 +24,6 @@ use law_records::{carried_law, dated_law};
 use server_checks::EventError;
 use server_effects::{Expired, put_back};
 use store_opens::Taken;
-use wire_bytes::Bytes;
 
 /// The open comes back. Where there is no memory for it, the expiry stands alone: its body, for which there is room, goes onto
 /// the disk.
@@ -35,7 +34,7 @@ use wire_bytes::Bytes;
 pub fn take_back<D: Disk>(
     server: &mut ServerState<D>,
     expired: Expired,
-    front: &Bytes,
+    front: &[u8],
     now: u64,
 ) -> Result<(), EventError>
     requires { HasOpensRoom server.old.tables.opens × HasRoomToWrite server.old front.now }
@@ -62,7 +61,7 @@ pub fn take_back<D: Disk>(
 fn expire_alone<D: Disk>(
     server: &mut ServerState<D>,
     taken: Taken,
-    front: &Bytes,
+    front: &[u8],
     now: u64,
 ) -> EventError
     requires { HasRoomToWrite server.old front.now }

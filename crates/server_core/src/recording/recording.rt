@@ -12,11 +12,10 @@ use crate::body_writing::{stopped_behind, write_body};
 use crate::journaled_tables::ServerState;
 use base_outside::Disk;
 use server_checks::EventError;
-use wire_bytes::Bytes;
 
 /// Writes a body for which there is room; none wants no write, and none fails. Where the disk fails the server stops, at the disk's
 /// count of faults. The tables stay as they are, with their count of the journal's bytes.
-pub fn write<D: Disk>(server: &mut ServerState<D>, body: &Bytes) -> Result<(), EventError>
+pub fn write<D: Disk>(server: &mut ServerState<D>, body: &[u8]) -> Result<(), EventError>
     requires { HasRoomToWrite server.old body.now }
     ensures writes { WritesBut D.faults server.old body.now result server.new }
     ensures same { server.new.tables ≡ server.old.tables }
@@ -26,7 +25,7 @@ pub fn write<D: Disk>(server: &mut ServerState<D>, body: &Bytes) -> Result<(), E
         → LeavesOnly D.moment D.left_since server.old.journal.disk server.new.journal.disk (LeavesOf bodies body.now) }
     ensures none { length body.now ≡ 0 → IsOk result }
 {
-    match write_body(&mut server.journal, body.as_slice()) {
+    match write_body(&mut server.journal, body) {
         Ok(()) => Ok(()),
         Err(error) => {
             server.stopped = stopped_behind(&error, server.stopped);

@@ -15,9 +15,9 @@ ghost use Rattle.server_core.specs.restart_tables.Found.{Found, IsOf};
 ghost use Rattle.server_core.specs.restart_tables.Restart.{BeginAnswers, RestartAnswers, RestartLeaves};
 
 use crate::durable_state::Durable;
-use crate::opening::behind;
+use crate::epoch::{behind, epoch_records};
+use crate::folding::fold_bodies;
 use crate::restart_tables::tables::tables_of;
-use crate::{epoch_records, fold_bodies};
 use base_outside::Disk;
 use journal::{Journal, JournalError, spelled};
 use server_checks::{Config, Tables};

@@ -27,7 +27,6 @@ pub(crate) fn no_record(alloc: Global) -> Records
 pub(crate) fn one_record(alloc: Global, one: Record) -> Result<Records, AllocError>
     ensures { IfOk result (λ rs. records_of rs ≡ record_of one ∷ []) }
 {
-    let mut records = Records::new(alloc);
-    records.push(one)?;
-    Ok(records)
+    let records = vec![in alloc; one]?;
+    Ok(Records::from_vec(records))
 }

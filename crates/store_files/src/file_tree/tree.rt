@@ -12,6 +12,13 @@ use std::alloc::Global;
 use std::collections::{BTreeMap, HashMap};
 use wire_bytes::Text;
 
+/// The sum of the files' lengths, and how many bytes it may come to.
+#[derive(Clone, Copy)]
+pub struct Space {
+    pub used: u64,
+    pub room: u64,
+}
+
 /// The files of the share.
 #[derive(Drop)]
 pub struct Tree {
@@ -132,6 +139,17 @@ impl Tree {
         ensures { (s : Server) → ShowsFiles self.now s → result ≡ used s }
     {
         self.used
+    }
+
+    /// The sum of the files' lengths, and how many bytes it may come to.
+    pub fn space(&self) -> Space
+        ensures used { (s : Server) → ShowsFiles self.now s → result.used ≡ used s }
+        ensures room { (s : Server) → ShowsFiles self.now s → result.room ≡ s.room }
+    {
+        Space {
+            used: self.used,
+            room: self.room,
+        }
     }
 
     /// The number that the next file gets.

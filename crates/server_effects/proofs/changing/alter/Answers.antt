@@ -1,25 +1,18 @@
-use Rattle.std.proofs.Common.{◌≡◌, ℕ, true, subst, sym, ◌∙◌}
-use Rattle.wire_commands.specs.values.Meaning.{command_of, message_of}
+use Rattle.std.proofs.Common.{subst, sym, ◌∙◌}
+use Rattle.wire_commands.specs.values.Meaning.{message_of}
 use Rattle.spec_exchange.specs.CheckOpen.{file_of}
 use Rattle.spec_exchange.specs.Effects.{change_file}
-use Rattle.spec_exchange.specs.Files.{exists}
 use Rattle.spec_exchange.specs.State.{Server}
-use Rattle.store_files.specs.file_tree.Shown.{ShowsFiles}
 use Rattle.server_checks.specs.Shown.{TablesShown}
 use Rattle.server_checks.specs.declared.tables.Tables.{Tables}
 use Rattle.server_effects.proofs.Changed.{changed_standing, changed_tables, reach_changed}
 use Rattle.server_effects.proofs.Steps.{config_kept, logons_kept, tree_config_kept, tree_logons_kept}
-use Rattle.server_effects.specs.Able.{AbleToChange, IsChangeOf}
-use Rattle.server_effects.specs.Ready.{ChangeFor, FilesForChange}
 use Rattle.server_effects.proofs.changing.alter.Goals as goal
 
 pub returns-clause-shows : goal.returns-clause-shows
 returns-clause-shows c = λ s ch f h fs a r acts.
     let g = file_of s c.args.id in
-    let files = subst (λ (z : ℕ). exists s z ≡ true → AbleToChange s z ch → ChangeFor c.args.t.now s z c.args.change ch
-    → IsChangeOf (command_of c.args.m.now.command) ch → FilesForChange c.args.t.now s c.args.change
-    → ShowsFiles c.change_file.new.t.tree (change_file s z c.args.now ch))
-    (c.file_of-file.ensures.shown s h.opens a.0) (c.change_file.ensures.shows s ch) (f.open_files c.args.id a.0) a.1 r a.2 fs in
+    let files = c.change_file.ensures.shows s ch h.opens a.0 (f.open_files c.args.id a.0) a.1 r a.2 fs in
     let changed = subst (λ (t : Tables). TablesShown t (change_file s g c.args.now ch)) (sym c.change_file.ensures.kept)
     (changed_tables c.args.t.now c.change_file.new.t.tree s g c.args.now ch h files) in
     record {

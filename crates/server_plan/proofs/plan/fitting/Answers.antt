@@ -22,9 +22,9 @@ pub returns-clause-plan : goal.returns-clause-plan
 returns-clause-plan c = λ s now f h e b.
     let k = subst (λ (r : steps.Ruling). IsBodyOf c.args.body (carried_out s now r).records) e b in
     lesser s now (event_of c.args.asked.now) (ruling_of (event_of c.args.asked.now) c.args.ruling) _ e
-    c.without_records.ensures c.new.ensures
+    c.plan_without_records.ensures.ruling c.plan_without_records.ensures.body
     (c.body_law.ensures.fits s c.args.body _ f.limit k ∙ (ap (λ (j : ℕ). fits_by j (length c.args.body)) h.journal_is
     ∙ (ap (λ (n : ℕ). fits_by c.args.t.now.journal n) (sym c.len.ensures) ∙ (sym c.fits.ensures ∙ c.if-fits.false))))
 
 pub returns-clause-fits : goal.returns-clause-fits
-returns-clause-fits c = ap (λ (v : List ℕ). fits_by c.args.t.now.journal (length v)) c.new.ensures
+returns-clause-fits c = ap (λ (v : List ℕ). fits_by c.args.t.now.journal (length v)) c.plan_without_records.ensures.body

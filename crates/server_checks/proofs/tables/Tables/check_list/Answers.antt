@@ -10,5 +10,5 @@ returns c = λ k s f t st.
     let e = c.file_of-file.ensures.shown s t st in
     passed c.check_listed.result (verdict_of k) _ _
     (list_is s c.args.id c.args.class c.args.restart c.args.single c.args.pattern.now c.args.room c.file_of-file.result
-    (sym (c.if-not-has_access.ensures s t st)) (sym (c.if-not-is_directory.ensures s t.files x)) e)
+    (sym (c.if-not-has_access.ensures s t st)) (sym (c.if-not-is_directory.ensures s t x)) e)
     (c.check_listed.ensures k s t st x e)

@@ -10,4 +10,5 @@ pub returns-in-Ok : goal.returns-in-Ok
 returns-in-Ok c = λ s records f h w b.
     let owed = (carried_out s c.args.now (ruling_of (event_of c.args.asked.now) c.args.ruling.now)).records in
     if_ok_by c.joined.result c.joined.ensures (λ v e. subst (λ (bytes : List ℕ). IsBodyOf bytes (records ++ owed)) (sym e)
-    (c.joined_law.ensures c.args.front.now c.in-Ok.own records owed b (c.in-Ok.ensures.told s f h w)))
+    (c.joined_law.ensures c.args.front.now c.as_slice.result.now records owed b
+    (subst (λ (bytes : List ℕ). IsBodyOf bytes owed) (sym c.as_slice.ensures) (c.in-Ok.ensures.told s f h w))))

@@ -1,13 +1,21 @@
-use Rattle.std.proofs.Common.{ℕ, ap, length, subst, sym, ◌∙◌}
+use Rattle.std.proofs.Common.{◌≡◌, ℕ, List, true, ap, length, subst, sym, ◌∙◌}
 use Rattle.spec_exchange.specs.Step as steps
 use Rattle.server_checks.specs.event_heard.Heard.{event_of}
 use Rattle.server_core.proofs.behind_expiry.behind.both_ready.Goals as goal
 use Rattle.journal.specs.record_bodies.Body.{fits_by}
+use Rattle.server_core.specs.journaled_tables.Rooms.{HasRoomToWrite}
 use Rattle.server_plan.specs.Plans.{OwingOf}
 use Rattle.server_plan.specs.rulings.Rulings.{AbleToRule}
 
+pub make_room-requires : goal.make_room-requires
+make_room-requires g c =
+    subst (λ (b : List ℕ). fits_by c.args.server.now.tables.journal (length b) ≡ true) (sym c.as_slice.ensures) c.requires
+
 pub returns-in-Ok-clause-room : goal.returns-in-Ok-clause-room
-returns-in-Ok-clause-room g c = (c.in-Ok.ensures.room, c.in-Ok.ensures.written)
+returns-in-Ok-clause-room g c = (
+  c.in-Ok.ensures.room,
+  subst (λ (b : List ℕ). HasRoomToWrite c.make_room.new.server b) c.as_slice.ensures c.in-Ok.ensures.written,
+)
 
 pub returns-in-Ok-clause-shown : goal.returns-in-Ok-clause-shown
 returns-in-Ok-clause-shown g c = λ s records f h a p.

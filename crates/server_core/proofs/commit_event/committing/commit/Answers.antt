@@ -1,9 +1,9 @@
-use Rattle.std.proofs.Common.{◌≡◌, ◌+◌, ◌++◌, ℕ, true, ap, subst, sym, ◌∙◌}
+use Rattle.std.proofs.Common.{◌+◌, ◌++◌, ℕ, ap, refl, subst, sym, ◌∙◌}
 use Rattle.std.specs.Prelude.{OnOk, Result}
 use Rattle.spec_exchange.specs.Step.{carried_out, with_deadlines}
 use Rattle.journal.specs.disk_journal.Journal.{JournalSettled}
 use Rattle.server_checks.specs.event_heard.Heard.{event_of}
-use Rattle.journal.specs.record_bodies.Body.{added_by, bodies_of, fits_by}
+use Rattle.journal.specs.record_bodies.Body.{added_by, bodies_of}
 use Rattle.server_checks.specs.declared.tables.Tables.{Tables}
 use Rattle.server_core.proofs.commit_event.Shown.{counted_shown, prepared_count, uncounted_shown}
 use Rattle.server_core.proofs.commit_event.Written.{failed}
@@ -14,7 +14,7 @@ use Rattle.server_core.specs.recording.Writes.{WritesBut}
 use Rattle.server_checks.specs.session_table.Logons.{LogonsShown}
 
 pub used_behind-used-requires : goal.used_behind-used-requires
-used_behind-used-requires g c = subst (λ (n : ℕ). fits_by c.args.server.now.tables.journal n ≡ true) (sym c.len.ensures) c.requires.1.1
+used_behind-used-requires g c = c.requires.1.1
 
 pub write-written-requires : goal.write-written-requires
 write-written-requires g c = c.requires.1
@@ -36,7 +36,7 @@ returns-in-Ok g c =
             k.acted,
             counted_shown c.carry_dated-answer.new.t C.server (s.journal + added_by c.args.body.now) c.used_behind-used.result k.shows
                 (ap (λ (n : ℕ). n + added_by c.args.body.now) (prepared_count c.args.server.now.tables s c.args.now x c.args.prepared i)
-                ∙ sym (c.used_behind-used.ensures c.args.body.now (sym c.len.ensures))),
+                ∙ sym (c.used_behind-used.ensures c.args.body.now refl)),
           );
       beside = λ users s L e fits i may able heard logons step.
           c.carry_dated-answer.ensures.beside users s L e fits

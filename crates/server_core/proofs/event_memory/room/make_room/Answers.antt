@@ -1,18 +1,16 @@
-use Rattle.std.proofs.Common.{arith, length, refl, ◌∙◌}
+use Rattle.std.proofs.Common.{length, refl}
 use Rattle.server_core.proofs.event_memory.Rooms.{has_room, is_small, room_yet, tables_stay}
 use Rattle.server_core.proofs.event_memory.room.make_room.Goals as goal
 
 pub reserve_body-requires : goal.reserve_body-requires
 reserve_body-requires g c =
-    let small = is_small c.args.server.now.tables.journal (length c.args.body.now) c.requires in
-    let same = c.len.ensures in
-    omega (arith, small, same)
+    is_small c.args.server.now.tables.journal (length c.args.body.now) c.requires
 
 pub returns-in-Ok-prepare : goal.returns-in-Ok-prepare
 returns-in-Ok-prepare g c = record {
   room = c.in-Ok-prepare.ensures.room;
   written = has_room (record c.args.server.now { journal = c.reserve_body.new.journal; tables = c.prepare.new.t })
-      c.args.server.now.tables.journal c.len.result c.args.body.now c.in-Ok.ensures.room c.len.ensures c.requires
+      c.args.server.now.tables.journal (length c.args.body.now) c.args.body.now c.in-Ok.ensures.room refl c.requires
       c.in-Ok-prepare.ensures.kept.journal;
   front = λ front h.
       room_yet c.args.server.now (record c.args.server.now { journal = c.reserve_body.new.journal; tables = c.prepare.new.t }) front
@@ -48,5 +46,5 @@ returns-in-Err g c = record {
   step = λ L logons. tt;
   kept = tables_stay c.args.server.now.tables;
   journal = (c.in-Err.ensures.kept, refl);
-  sure = λ none wants. c.in-Err.ensures.none (c.len.ensures ∙ none);
+  sure = λ none wants. c.in-Err.ensures.none none;
 }

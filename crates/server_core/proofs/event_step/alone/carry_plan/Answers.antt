@@ -1,9 +1,9 @@
-use Rattle.std.proofs.Common.{List, ℕ, length, refl, sym, ap, subst, ◌∙◌}
+use Rattle.std.proofs.Common.{◌≡◌, List, ℕ, true, length, refl, sym, ap, subst, ◌∙◌}
 use Rattle.spec_exchange.specs.State as model
-use Rattle.spec_exchange.specs.Step.{Ruling, carried_out, step, with_deadlines}
-use Rattle.server_core.proofs.standing_law.Behind.{held, held_still, settled_still}
+use Rattle.spec_exchange.specs.Step.{Ruling, carried_out, event_answer, step, with_deadlines}
+use Rattle.server_core.proofs.journaled_tables.Behind.{held, held_still, settled_still}
 use Rattle.server_checks.specs.event_heard.Heard.{event_of, heard_event}
-use Rattle.journal.specs.record_bodies.Body.{IsBodyOf}
+use Rattle.journal.specs.record_bodies.Body.{IsBodyOf, fits_by}
 use Rattle.server_checks.specs.declared.tables.Config.{Config}
 use Rattle.server_core.proofs.event_step.Committed.{alone_comes, event_carried, may_plan}
 use Rattle.server_core.proofs.event_step.Early.{not_on, written_memory}
@@ -23,7 +23,8 @@ returns-in-Ok g c =
     let x = event_of c.args.asked.now in
     let told = g.D.Disk.told in
     let seen = g.D.Disk.seen in
-    let may_leave = g.D.Disk.may_leave in record {
+    let may_leave = g.D.Disk.may_leave in
+    let body = c.as_slice-body.result.now in record {
       step = λ users s L records e a plan is.
           let ready = c.in-Ok.ensures.shown s a.holds.fits a.holds.shown.tables a.heard.agrees
           (c.plan_law.ensures.able c.args.plan s c.args.now x a.holds.fits plan)
@@ -31,7 +32,7 @@ returns-in-Ok g c =
           let r = prepared_ruling x c.in-Ok.prepared in
           let rules = ready.1 ∙ plan.ruling in
           event_carried told seen may_leave g.D.Disk.faults old mid c.commit.new.server users s s L records c.args.now e c.args.asked.now
-          c.in-Ok.prepared c.args.plan.body (carried_out (with_deadlines s c.args.now) c.args.now r).records c.commit.result
+          c.in-Ok.prepared body (carried_out (with_deadlines s c.args.now) c.args.now r).records c.commit.result
           (record { added = c.body_law.ensures.added; spelled = c.behind_law.ensures }) (record {
             stepped = c.keeps_law.ensures.stepped;
             sound = c.keeps_law.ensures.sound;
@@ -63,22 +64,24 @@ returns-in-Ok g c =
               alone = c.expiring_law.ensures.alone;
               records = c.expiring_law.ensures.records;
               counts = c.carried_law.ensures.counts;
-            }) s c.args.now (heard_event users L s e) x r c.args.plan.body is rules plan.body;
+            }) s c.args.now (heard_event users L s e) x r body is rules
+                (subst (λ (b : List ℕ). IsBodyOf b (event_answer s c.args.now x).records) (sym c.as_slice-body.ensures) plan.body);
           });
       any_moment = λ tells users s L records bodies e a plan is goes.
           let ev = heard_event users L s e in
           since_same g.D.Disk.moment g.D.Disk.left_since old.journal mid.journal c.commit.new.server.journal.disk
           (EventLeavesBodies s c.args.now ev bodies) c.make_room.ensures.journal.0
           (leaves_more g.D.Disk.moment g.D.Disk.left_since mid.journal.disk c.commit.new.server.journal.disk
-          (LeavesOf bodies c.args.plan.body)
-          (EventLeavesBodies s c.args.now ev bodies) (by_event s c.args.now ev bodies c.args.plan.body
-          (subst (λ (A : model.Answer). IsBodyOf c.args.plan.body A.records) (sym is)
-          (subst (λ (rs : List model.Record). IsBodyOf c.args.plan.body rs)
-          (sym (c.expiring_law.ensures.records s c.args.now x)) plan.body)))
+          (LeavesOf bodies body)
+          (EventLeavesBodies s c.args.now ev bodies) (by_event s c.args.now ev bodies body
+          (subst (λ (A : model.Answer). IsBodyOf body A.records) (sym is)
+          (subst (λ (rs : List model.Record). IsBodyOf body rs)
+          (sym (c.expiring_law.ensures.records s c.args.now x))
+          (subst (λ (b : List ℕ). IsBodyOf b (event_answer s c.args.now x).records) (sym c.as_slice-body.ensures) plan.body))))
           (c.commit.ensures.any_moment tells bodies
           (settled_still seen may_leave old.journal mid.journal bodies c.make_room.ensures.journal.0 goes.1.settled)));
       config = c.commit.ensures.config ∙ c.make_room.ensures.kept.config;
-      early = λ s e b w. written_memory g.D.Disk.faults mid c.commit.new.server c.args.plan.body c.commit.result c.commit.ensures.writes;
+      early = λ s e b w. written_memory g.D.Disk.faults mid c.commit.new.server body c.commit.result c.commit.ensures.writes;
     }
 
 pub returns : goal.returns
@@ -102,11 +105,12 @@ returns g c =
           nothing_left seen may_leave g.D.Disk.moment g.D.Disk.left_since g.met.D.Disk.only_now s c.args.now (heard_event users L s e)
           old.journal mid.journal.disk bodies (same_disk old.journal mid.journal c.make_room.ensures.journal.0) goes.1.settled;
       config = c.make_room.ensures.kept.config;
-      early = λ s e b w. absurd (not_on (c.in-Err.ensures.sure (ap (λ (v : List ℕ). length v) b) (ap wants_memory_by e ∙ w)));
+      early = λ s e b w. absurd (not_on (c.in-Err.ensures.sure (ap (λ (v : List ℕ). length v) (c.as_slice-body.ensures ∙ b)) (ap wants_memory_by e ∙ w)));
     }
 
 pub make_room-requires : goal.make_room-requires
-make_room-requires g c = c.requires
+make_room-requires g c =
+    subst (λ (b : List ℕ). fits_by c.args.server.now.tables.journal (length b) ≡ true) (sym c.as_slice-body.ensures) c.requires
 
 pub commit-requires : goal.commit-requires
 commit-requires g c = (c.in-Ok.ensures.room, c.in-Ok.ensures.written)

@@ -1,5 +1,5 @@
 use Rattle.std.proofs.Common.{ap, subst, ◌∙◌}
-use Rattle.server_core.proofs.standing_law.Behind.{stands_still}
+use Rattle.server_core.proofs.journaled_tables.Behind.{stands_still}
 use Rattle.server_checks.specs.event_heard.Heard.{heard_event}
 use Rattle.server_core.proofs.event_step.Moments.{since_same}
 use Rattle.server_core.proofs.event_step.Refused.{answers_from, asks_on, same_disk}

@@ -1,6 +1,6 @@
-use Rattle.std.proofs.Common.{ℕ, ap, length, refl, subst, sym, ◌∙◌}
+use Rattle.std.proofs.Common.{ℕ, ap, length, refl, sym, ◌∙◌}
 use Rattle.spec_exchange.specs.Step.{step}
-use Rattle.server_core.proofs.standing_law.Behind.{held, held_still, holds_shown, stands_still}
+use Rattle.server_core.proofs.journaled_tables.Behind.{held, held_still, holds_shown, stands_still}
 use Rattle.server_checks.specs.event_heard.Heard.{event_of, heard_event}
 use Rattle.journal.specs.record_bodies.Body.{fits_by}
 use Rattle.server_core.proofs.event_step.Moments.{since_same}
@@ -9,7 +9,6 @@ use Rattle.server_core.proofs.event_step.expiring.behind_front.Goals as goal
 use Rattle.server_checks.specs.setups.Setups.{progress_of}
 use Rattle.server_core.specs.journaled_tables.Beside.{logons_behind}
 use Rattle.server_core.specs.journaled_tables.Holds.{EventLeavesBodies}
-use Rattle.server_core.specs.body_writing.Bodies.{HasBodyRoom}
 
 pub returns-then-not-fits-clause-step : goal.returns-then-not-fits-clause-step
 returns-then-not-fits-clause-step g c = λ users s L records e a m b. (
@@ -17,7 +16,7 @@ returns-then-not-fits-clause-step g c = λ users s L records e a m b. (
   a.said ∙ c.expiring_law.ensures.unfit s c.args.now c.args.id (event_of c.args.asked.now) m.is_due
       (c.expiring_law.ensures.front s c.args.now c.args.id (event_of c.args.asked.now)
       (c.body_law.ensures.fits s c.args.front.now _ a.holds.fits.limit b ∙ (ap (λ (j : ℕ). fits_by j (length c.args.front.now)) a.holds.shown.tables.journal_is
-      ∙ (ap (λ (n : ℕ). fits_by c.args.server.now.tables.journal n) (sym c.len.ensures) ∙ (sym c.fits.ensures ∙ c.if-not-fits.true))))),
+      ∙ (sym c.fits.ensures ∙ c.if-not-fits.true)))),
 )
 
 pub returns-then-not-fits-clause-any_moment : goal.returns-then-not-fits-clause-any_moment
@@ -29,15 +28,11 @@ pub returns-then-not-fits-clause-none : goal.returns-then-not-fits-clause-none
 returns-then-not-fits-clause-none g c = (same_room c.args.server.now.journal, refl)
 
 pub reserve_body-requires : goal.reserve_body-requires
-reserve_body-requires g c = below_limit c.args.server.now.tables.journal c.len-2.result
-    (ap (λ (n : ℕ). fits_by c.args.server.now.tables.journal n) (c.len-2.ensures ∙ sym c.len.ensures)
-    ∙ (sym c.fits.ensures ∙ c.if-not-fits.false))
+reserve_body-requires g c =
+    below_limit c.args.server.now.tables.journal (length c.args.front.now) (sym c.fits.ensures ∙ c.if-not-fits.false)
 
 pub take_out-requires : goal.take_out-requires
-take_out-requires g c = (
-  subst (λ (n : ℕ). HasBodyRoom c.reserve_body.new.journal n) c.len-2.ensures c.in-Ok.ensures.room,
-  ap (λ (n : ℕ). fits_by c.args.server.now.tables.journal n) (sym c.len.ensures) ∙ (sym c.fits.ensures ∙ c.if-not-fits.false),
-)
+take_out-requires g c = (c.in-Ok.ensures.room, sym c.fits.ensures ∙ c.if-not-fits.false)
 
 pub returns-in-Ok-clause-step : goal.returns-in-Ok-clause-step
 returns-in-Ok-clause-step g c = λ users s L records e a m b.
@@ -52,7 +47,7 @@ returns-in-Ok-clause-step g c = λ users s L records e a m b.
       body = b;
       room = c.body_law.ensures.fits s c.args.front.now _ a.holds.fits.limit b
           ∙ (ap (λ (j : ℕ). fits_by j (length c.args.front.now)) a.holds.shown.tables.journal_is
-          ∙ (ap (λ (n : ℕ). fits_by c.args.server.now.tables.journal n) (sym c.len.ensures) ∙ (sym c.fits.ensures ∙ c.if-not-fits.false)));
+          ∙ (sym c.fits.ensures ∙ c.if-not-fits.false));
     }))
 
 pub returns-in-Ok-clause-any_moment : goal.returns-in-Ok-clause-any_moment
@@ -67,7 +62,7 @@ returns-in-Ok-clause-any_moment g c = λ told users s L records bodies e a m b n
       body = b;
       room = c.body_law.ensures.fits s c.args.front.now _ a.holds.fits.limit b
           ∙ (ap (λ (j : ℕ). fits_by j (length c.args.front.now)) a.holds.shown.tables.journal_is
-          ∙ (ap (λ (n : ℕ). fits_by c.args.server.now.tables.journal n) (sym c.len.ensures) ∙ (sym c.fits.ensures ∙ c.if-not-fits.false)));
+          ∙ (sym c.fits.ensures ∙ c.if-not-fits.false));
     }) (n.0, stands_still g.D.Disk.seen g.D.Disk.may_leave old.journal c.reserve_body.new.journal s records bodies o n.1))
 
 pub returns-in-Ok-clause-none : goal.returns-in-Ok-clause-none

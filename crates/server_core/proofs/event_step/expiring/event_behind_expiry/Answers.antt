@@ -1,16 +1,19 @@
-use Rattle.std.proofs.Common.{inl, refl}
+use Rattle.std.proofs.Common.{List, ℕ, inl, refl, subst, sym}
 use Rattle.server_checks.specs.event_heard.Heard.{heard_event}
 use Rattle.server_core.proofs.event_step.Refused.{none_leaves}
 use Rattle.server_core.proofs.event_step.expiring.event_behind_expiry.Goals as goal
+use Rattle.server_core.specs.event_step.Behind.{IsExpiryFront}
 
 pub returns-in-Ok-clause-step : goal.returns-in-Ok-clause-step
 returns-in-Ok-clause-step g c = λ users s L records e a m. c.behind_front.ensures.step users s L records e a m
-    (c.in-Ok.ensures s a.holds.fits a.holds.shown.tables (c.keeps_law.ensures.due s c.args.now c.args.id a.holds.fits m.is_due).0)
+    (subst (λ (b : List ℕ). IsExpiryFront s c.args.asked.now c.args.id b) (sym c.as_slice.ensures)
+    (c.in-Ok.ensures s a.holds.fits a.holds.shown.tables (c.keeps_law.ensures.due s c.args.now c.args.id a.holds.fits m.is_due).0))
 
 pub returns-in-Ok-clause-any_moment : goal.returns-in-Ok-clause-any_moment
 returns-in-Ok-clause-any_moment g c = λ told users s L records bodies e a m n.
     c.behind_front.ensures.any_moment told users s L records bodies e a m
-    (c.in-Ok.ensures s a.holds.fits a.holds.shown.tables (c.keeps_law.ensures.due s c.args.now c.args.id a.holds.fits m.is_due).0) n
+    (subst (λ (b : List ℕ). IsExpiryFront s c.args.asked.now c.args.id b) (sym c.as_slice.ensures)
+    (c.in-Ok.ensures s a.holds.fits a.holds.shown.tables (c.keeps_law.ensures.due s c.args.now c.args.id a.holds.fits m.is_due).0)) n
 
 pub returns-in-Err-clause-step : goal.returns-in-Err-clause-step
 returns-in-Err-clause-step g c = λ users s L records e a m. (a.goes_on, inl a.holds)

@@ -1,7 +1,7 @@
 use Rattle.std.proofs.Common.{Option, sym, subst, ◌∙◌}
 use Rattle.std.specs.Prelude.{IfSome}
 use Rattle.spec_exchange.specs.State as model
-use Rattle.server_core.proofs.standing_law.Behind.{stands_still}
+use Rattle.server_core.proofs.journaled_tables.Behind.{stands_still}
 use Rattle.server_checks.specs.event_heard.Heard.{event_of, heard_event}
 use Rattle.server_core.specs.behind_expiry.Behind.{BothReady}
 use Rattle.server_core.specs.declared.behind_expiry.behind.Both.{Both}

@@ -1,8 +1,8 @@
-use Rattle.std.proofs.Common.{◌≡◌, ◌+◌, ◌++◌, ℕ, true, ap, subst, sym, ◌∙◌}
+use Rattle.std.proofs.Common.{◌+◌, ◌++◌, ℕ, ap, refl, subst, sym, ◌∙◌}
 use Rattle.std.specs.Prelude.{OnOk, Result}
 use Rattle.spec_exchange.specs.Step.{expire}
 use Rattle.journal.specs.disk_journal.Journal.{JournalSettled}
-use Rattle.journal.specs.record_bodies.Body.{added_by, bodies_of, fits_by}
+use Rattle.journal.specs.record_bodies.Body.{added_by, bodies_of}
 use Rattle.server_checks.specs.Shown.{TablesShown}
 use Rattle.server_checks.specs.declared.tables.Tables.{Tables}
 use Rattle.server_checks.specs.declared.setups.error.EventError.{EventError}
@@ -12,7 +12,7 @@ use Rattle.server_core.proofs.expiry_alone.lone.expire_alone.Goals as goal
 use Rattle.server_core.specs.recording.Writes.{WritesBut}
 
 pub used_behind-used-requires : goal.used_behind-used-requires
-used_behind-used-requires g c = subst (λ (n : ℕ). fits_by c.args.server.now.tables.journal n ≡ true) (sym c.len.ensures) c.requires.1
+used_behind-used-requires g c = c.requires.1
 
 pub write-written-requires : goal.write-written-requires
 write-written-requires g c = c.requires
@@ -26,7 +26,7 @@ returns-in-Ok g c = record {
       (c.date.ensures.shown (expire s o) (c.give_up.ensures.shows (expire s o) k.opens
       (ap (λ (x : ℕ). (expire s o).deadline x) id ∙ no_deadline s o))) (c.dated_law.ensures.expired s c.args.now o)
       (ap (λ (n : ℕ). n + added_by c.args.front.now) (sym (c.carried_law.ensures.expired s o) ∙ h.journal_is)
-      ∙ sym (c.used_behind-used.ensures c.args.front.now (sym c.len.ensures)));
+      ∙ sym (c.used_behind-used.ensures c.args.front.now refl));
   writes =
       subst (λ (w : Result Unit EventError). WritesBut g.D.Disk.faults c.args.server.now c.args.front.now w c.write-written.new.server)
       c.in-Ok.is c.write-written.ensures.writes;

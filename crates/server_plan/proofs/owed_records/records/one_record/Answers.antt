@@ -1,5 +1,7 @@
-use Rattle.server_plan.proofs.owed_records.Told.{one_of}
+use Rattle.std.proofs.Common.{List, ap, ◌∙◌}
+use Rattle.journal.specs.record_bytes.Meaning.{records_of}
+use Rattle.journal.specs.declared.record_bytes.value.Record.{Record}
 use Rattle.server_plan.proofs.owed_records.records.one_record.Goals as goal
 
 pub returns : goal.returns
-returns c = one_of _ _ c.args.one c.new-records.ensures c.in_ok-push.ensures.ok
+returns c = ap (λ (v : List Record). records_of v) (c.from_vec.ensures ∙ c.in_ok-records.ensures.items)

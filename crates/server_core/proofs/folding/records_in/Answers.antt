@@ -1,5 +1,5 @@
 use Rattle.server_core.proofs.Sound.{caused_of, not_read, read_as, unsound_as}
-use Rattle.server_core.proofs.reading.records_in.Goals as goal
+use Rattle.server_core.proofs.folding.records_in.Goals as goal
 
 pub returns-then-are_sound-clause-read : goal.returns-then-are_sound-clause-read
 returns-then-are_sound-clause-read c = read_as c.args.state.now.version c.args.body.now c.as_slice.result.now c.in-Ok.records

@@ -18,8 +18,8 @@ use Rattle.server_core.specs.journaled_tables.Holds.{EventRefused, JournaledHeld
 use Rattle.server_core.specs.journaled_tables.Shown.{ServerShown}
 use Rattle.server_core.specs.declared.journaled_tables.state.ServerState.{ServerState}
 use Rattle.server_core.specs.recording.Writes.{WritesBut}
-use Rattle.server_core.proofs.standing_law.Behind.{Written, holds_more}
-use Rattle.server_core.proofs.standing_law.Laws.{Bodies, Steps, follows}
+use Rattle.server_core.proofs.journaled_tables.Behind.{Written, holds_more}
+use Rattle.server_core.proofs.journaled_tables.Laws.{Bodies, Steps, follows}
 use Rattle.server_checks.specs.session_table.Logons.{LogonsShown}
 use Rattle.base_outside.specs.streams.Faults.{Rose}
 use Rattle.spec_world.specs.Ends.{Logons}

@@ -7,7 +7,7 @@ use Rattle.server_core.specs.journaled_tables.Holds.{JournaledHeld, JournaledHol
 use Rattle.server_core.specs.journaled_tables.Shown.{ServerShown}
 use Rattle.server_core.specs.declared.journaled_tables.state.ServerState.{ServerState}
 use Rattle.law_server.proofs.tables.Folded.{sound_more}
-use Rattle.server_core.proofs.standing_law.Laws.{Bodies, Follows}
+use Rattle.server_core.proofs.journaled_tables.Laws.{Bodies, Follows}
 use Rattle.spec_world.specs.Ends.{Logons}
 
 pub held : {D : Type 0} (told : Type 0) (seen : D → List ℕ) (may_leave : D → List ℕ → Type 0) (c : ServerState D) (s : model.Server)

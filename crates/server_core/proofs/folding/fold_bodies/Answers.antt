@@ -1,6 +1,6 @@
 use Rattle.server_core.proofs.SoFar.{so_far_begun, so_far_more, nearer, all_read, stays_settled, reads_on, stays_quiet}
 use Rattle.server_core.proofs.SoFar.{unread, unread_cause, unfolded, unfolded_cause}
-use Rattle.server_core.proofs.reading.fold_bodies.Goals as goal
+use Rattle.server_core.proofs.folding.fold_bodies.Goals as goal
 
 pub loop-body-init : goal.loop-body-init
 loop-body-init g c = so_far_begun g.D.Disk.told g.D.Disk.seen g.D.Disk.may_leave g.D.Disk.moment g.D.Disk.left_since g.D.Disk.faults

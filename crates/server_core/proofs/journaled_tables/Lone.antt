@@ -14,8 +14,8 @@ use Rattle.server_core.specs.journaled_tables.Holds.{EventRefused, JournaledHeld
 use Rattle.server_core.specs.declared.journaled_tables.state.ServerState.{ServerState}
 use Rattle.server_core.specs.journaled_tables.Alone.{AloneShown, written_as}
 use Rattle.server_core.specs.recording.Writes.{WritesBut}
-use Rattle.server_core.proofs.standing_law.Behind.{holds_more}
-use Rattle.server_core.proofs.standing_law.Laws.{Bodies, Expiries, follows_alone}
+use Rattle.server_core.proofs.journaled_tables.Behind.{holds_more}
+use Rattle.server_core.proofs.journaled_tables.Laws.{Bodies, Expiries, follows_alone}
 use Rattle.server_checks.specs.session_table.Logons.{LogonsShown}
 use Rattle.base_outside.specs.streams.Faults.{Rose}
 use Rattle.spec_world.specs.Ends.{Logons}

@@ -1,6 +1,6 @@
 use Rattle.std.proofs.Common.{arith}
 use Rattle.server_core.proofs.Sound.{sound_on, sound_ends, sound_through}
-use Rattle.server_core.proofs.reading.are_sound.Goals as goal
+use Rattle.server_core.proofs.folding.are_sound.Goals as goal
 
 pub loop-record-preserved : goal.loop-record-preserved
 loop-record-preserved c = sound_on c.args.records.now c.loop-record.record-index c.record-item.result c.is_sound.result (grind arith)

@@ -1,6 +1,6 @@
 use Rattle.std.proofs.Common.{◌-◌}
 use Rattle.server_core.proofs.SoFar.{FoldedSoFar}
-use Rattle.server_core.proofs.reading.fold_bodies.Given as goal
+use Rattle.server_core.proofs.folding.fold_bodies.Given as goal
 
 abbrev pub invariant-loop-body : goal.invariant-loop-body
 invariant-loop-body g l = FoldedSoFar g.D.Disk.told g.D.Disk.seen g.D.Disk.may_leave g.D.Disk.moment g.D.Disk.left_since

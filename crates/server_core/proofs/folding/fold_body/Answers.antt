@@ -1,5 +1,5 @@
 use Rattle.server_core.proofs.Sound.{folded_by, refused_in}
-use Rattle.server_core.proofs.reading.fold_body.Goals as goal
+use Rattle.server_core.proofs.folding.fold_body.Goals as goal
 
 pub returns-in-Ok-with_records-clause-applied : goal.returns-in-Ok-with_records-clause-applied
 returns-in-Ok-with_records-clause-applied c = λ s i h. folded_by c.args.state.now c.with_records.new.self s c.args.body.now

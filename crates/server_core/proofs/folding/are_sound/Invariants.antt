@@ -1,7 +1,7 @@
 use Rattle.std.proofs.Common.{◌≡◌, drop}
 use Rattle.journal.specs.record_bytes.Meaning.{records_of}
 use Rattle.law_server.specs.tables.Fits.{all_sound}
-use Rattle.server_core.proofs.reading.are_sound.Given as goal
+use Rattle.server_core.proofs.folding.are_sound.Given as goal
 
 abbrev pub invariant-loop-record : goal.invariant-loop-record
 invariant-loop-record l = all_sound (records_of (drop l.record-index l.records)) ≡ all_sound (records_of l.records)
