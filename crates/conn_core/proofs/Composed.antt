@@ -496,7 +496,7 @@ finish_not k guid S d new why e ended h = (
 )
 
 pub finish_with : (k : ℕ) (guid : List ℕ) (S : ConnectionStep) (d : Dealt) (new : Conn) (a : Answered) (t : Taken)
-    → (t.bytes ≡ a.bytes) × (t.note.status ≡ (if some_lacked d.replies.items.items then Some no_memory else a.status))
+    → (t.bytes ≡ a.bytes.items) × (t.note.status ≡ (if some_lacked d.replies.items.items then Some no_memory else a.status))
     × (t.note.acted ≡ some_acted d.replies.items.items) × (t.took ≡ d.took) × (t.lacked ≡ some_lacked d.replies.items.items)
     → AnswersWith k guid S new (Ok a) → FrameFinishes k guid S d new (Ok t)
 finish_with k guid S d new a t is h = record {

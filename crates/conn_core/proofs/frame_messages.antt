@@ -7,3 +7,4 @@ pub mod Steps
 pub mod Greets
 pub mod Whole
 pub mod Places
+pub mod Probes

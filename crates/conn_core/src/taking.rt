@@ -67,14 +67,14 @@ fn status_by(lacked: bool, status: Option<u32>) -> Option<u32>
 }
 
 fn taken_of(answered: Answered, dealt: &Dealt) -> Taken
-    ensures { (result.bytes ≡ answered.bytes)
+    ensures { (result.bytes ≡ answered.bytes.items)
         × (result.note.status ≡ (if some_lacked dealt.now.replies.items.items then Some no_memory else answered.status))
         × (result.note.acted ≡ some_acted dealt.now.replies.items.items) × (result.took ≡ dealt.now.took)
         × (result.lacked ≡ some_lacked dealt.now.replies.items.items) }
 {
     let lacked = dealt.replies.lacked();
     Taken {
-        bytes: answered.bytes,
+        bytes: Bytes::from_vec(answered.bytes),
         note: StepNote {
             status: status_by(lacked, answered.status),
             acted: dealt.replies.acted(),
@@ -146,7 +146,7 @@ pub fn take_frame<S: Serve>(
         Err(why) => return Err(at_once(why)),
     };
     // Before the first event, so that there is a place for the answer to each one that acts.
-    let mut dealt = match dealt_for(conn.alloc, asked.len()) {
+    let mut dealt = match dealt_for(conn.alloc, asked.messages.len()) {
         Ok(dealt) => dealt,
         Err(AllocError) => return Err(at_once(ConnEnd::Memory)),
     };

@@ -16,9 +16,10 @@ module _ {X : Type 0} where
   blank (suc n) zero = refl
   blank (suc n) (suc at) = blank n at
 
-  pub blank_served : {B E R : Type 0} (serves : ℕ → View B E R → X → View B E R → Type 0) (n : ℕ) (ends : List (Option X))
-      (book : B) (v : View B E R) → ends ≡ replicate n none → v ≡ first_view book → AreServed serves [] 0 ends v
-  blank_served serves n ends book v is first = subst (λ w. AreServed serves [] 0 ends w) (sym first) record {
+  pub blank_served : {B E R K : Type 0} (serves : ℕ → View B E R → X → View B E R → Type 0) (is_at : ℕ → K → Type 0) (n : ℕ)
+      (ends : List (Option X)) (book : B) (v : View B E R) → ends ≡ replicate n none → v ≡ first_view book
+      → AreServed serves is_at [] 0 ends v
+  blank_served serves is_at n ends book v is first = subst (λ w. AreServed serves is_at [] 0 ends w) (sym first) record {
     seat_at = λ _. 0;
     is_first = refl;
     none_own = refl;

@@ -26,7 +26,7 @@ none_there (suc i) x here = absurd (let q : None ≡ Some x = here in cc)
 
 module _ {B : Type 0} (z : ServerSettings) (guid : z.guid ≡ server_guid) (h : Course) (log : List (Entry Turn Answer))
     (meets : (seat : ℕ) → AllMeet z h (entries_of seat 0 log)) (seat_at : ℕ → ℕ) (opening : Option B)
-    (kept : List (List (Entry Turn Answer))) (count : ℕ) (over : Passage → Type 0) where
+    (kept : List (List (Entry Turn Answer))) (count : ℕ) (over : ℕ → Passage → Type 0) where
   abbrev pub Seat : Type 0
   Seat = ℕ × List Placed
 
@@ -41,7 +41,7 @@ module _ {B : Type 0} (z : ServerSettings) (guid : z.guid ≡ server_guid) (h : 
     pub seat_is : connection.seat ≡ seat
     pub end_is : connection.end ≡ end
     pub served : WasServed z h log connection
-    pub passed : over connection.passage
+    pub passed : over connection.accept connection.passage
 
   abbrev pub made : (place : ℕ) (end : Ended) (x : Seat) → serving.WasServed (ServesOver over serves_link) opening kept (place + 1) end x
       → x.1 ≡ entries_of x.0 0 log → Made place end x.0
@@ -86,7 +86,7 @@ module _ {B : Type 0} (z : ServerSettings) (guid : z.guid ≡ server_guid) (h : 
   -- what is known of each
   record Facts (c : EndedConnection) (seats : List ℕ) : Type 0 where
     served : WasServed z h log c
-    passed : over c.passage
+    passed : over c.accept c.passage
     place : ℕ
     accept_is : c.accept ≡ place + 1
     few : place < count
@@ -223,7 +223,7 @@ module _ {B : Type 0} (z : ServerSettings) (guid : z.guid ≡ server_guid) (h : 
 -- ---- all that the clause says of the connections, by the seats that have ended
 
 pub record Connected (z : ServerSettings) (h : Course) (log : List (Entry Turn Answer)) (count : ℕ) (links : List (ℕ × Ended))
-    (seats : List (ℕ × List Placed)) (over : Passage → Type 0) : Type 0 where
+    (seats : List (ℕ × List Placed)) (over : ℕ → Passage → Type 0) : Type 0 where
   pub all : List EndedConnection
   pub each : AllServed z h log all
   pub passed : AllPassed over all
@@ -237,7 +237,8 @@ pub record Connected (z : ServerSettings) (h : Course) (log : List (Entry Turn A
 pub connected : {B : Type 0} (z : ServerSettings) (guid : z.guid ≡ server_guid) (h : Course) (log : List (Entry Turn Answer))
     (meets : (seat : ℕ) → AllMeet z h (entries_of seat 0 log)) (seat_at : ℕ → ℕ) (opening : Option B)
     (kept : List (List (Entry Turn Answer))) (count : ℕ) (links : List (ℕ × Ended)) (seats : List (ℕ × List Placed))
-    (over : Passage → Type 0) → EachServed (ServesOver over serves_link) seat_at opening kept count links seats → HaveAll log seats → numbers.AreApart (numbers_in seats)
+    (over : ℕ → Passage → Type 0) → EachServed (ServesOver over serves_link) seat_at opening kept count links seats → HaveAll log seats
+    → numbers.AreApart (numbers_in seats)
     → Connected z h log count links seats over
 connected z guid h log meets seat_at opening kept count links seats over each have apart = record {
   all = connections z guid h log meets seat_at opening kept count over links seats each have;

@@ -1,3 +1,4 @@
+pub mod AllServed
 pub mod Blank
 pub mod Counted
 pub mod Rises

@@ -45,17 +45,24 @@ memory_kept old new why is failed = subst (λ (x : ReadError). HasOutsideFailed 
 pub failed_rose : (old new : ℕ) (why : ReadError) → why ≡ whys.Failed → HasOutsideFailed old new why → Rose old new
 failed_rose old new why is failed = subst (λ (x : ReadError). HasOutsideFailed old new x) is failed
 
--- a net that was told something serves as it did before, where neither its place nor its counts moved
+-- a net that was told something serves as it did before, where neither its place nor its counts moved, nor what its peers send
 pub serves_still : {D N : Type 0} (told : Type 0) (seen : D → List ℕ) (may_leave : D → List ℕ → Type 0) (faults : D → ℕ)
-    (listens_at : N → Option Address) (links : N → ℕ) (net_faults : N → ℕ) (over : Passage → Type 0) (before : ℕ) (at : Address) (bound : Option Bound)
-    (server : Server D) (from : Stand) (written written' : Option (List ℕ)) (sink sink' : ℕ) (net heard net' : N) (disk' : Option D) (ending : Ending)
+    (listens_at : N → Option Address) (links : N → ℕ) (net_faults : N → ℕ) (link_told : Type 0) (sent : N → List (List ℕ))
+    (over : (net net' : N) → ℕ → Passage → Type 0) (before : ℕ) (at : Address) (bound : Option Bound)
+    (server : Server D) (from : Stand) (written written' : Option (List ℕ)) (sink sink' : ℕ) (net heard net' : N) (disk' : Option D)
+    (ending : Ending)
     → listens_at heard ≡ listens_at net → links heard ≡ links net → net_faults heard ≡ net_faults net
-    → Serves told seen may_leave faults listens_at links net_faults over before at bound server from written written' sink sink' heard net' disk'
+    → (link_told → sent heard ≡ sent net)
+    → Serves told seen may_leave faults listens_at links net_faults link_told sent over before at bound server from written written' sink
+    sink' heard net' disk'
     ending
-    → Serves told seen may_leave faults listens_at links net_faults over before at bound server from written written' sink sink' net net' disk' ending
-serves_still told seen may_leave faults listens_at links net_faults over before at bound server from written written' sink sink' net heard net' disk'
-    ending place accepted calm (inl h) =
-    inl (subst (λ (n : ℕ). Rose n (net_faults net')) calm h.0, h.1, h.2 ∙ place, h.3 ∙ accepted, h.4)
-serves_still told seen may_leave faults listens_at links net_faults over before at bound server from written written' sink sink' net heard net' disk'
-    ending place accepted calm (inr h) =
-    inr (h.0, h.1, h.2 ∙ accepted, h.3 ∙ calm, h.4)
+    → Serves told seen may_leave faults listens_at links net_faults link_told sent over before at bound server from written written' sink
+    sink' net net' disk' ending
+serves_still told seen may_leave faults listens_at links net_faults link_told sent over before at bound server from written written' sink
+    sink' net heard net' disk'
+    ending place accepted calm same (inl h) =
+    inl (subst (λ (n : ℕ). Rose n (net_faults net')) calm h.0, h.1, h.2 ∙ place, h.3 ∙ accepted, (λ t. h.4 t ∙ same t), h.5)
+serves_still told seen may_leave faults listens_at links net_faults link_told sent over before at bound server from written written' sink
+    sink' net heard net' disk'
+    ending place accepted calm same (inr h) =
+    inr (h.0, h.1, h.2 ∙ accepted, h.3 ∙ calm, (λ t. h.4 t ∙ same t), h.5)

@@ -118,12 +118,13 @@ module _ {D : Type 0} (told : Type 0) (seen : D → List ℕ) (may_leave : D →
   }
 
   -- each that was made has ended, and the first seat has the first number
-  whole_seat : (over : Passage → Type 0) (count : ℕ) (v : View (ServerBook D) Turn Answer) (ends : List (Option Ended)) → AreServedBy over count v ends → IsWhole v
+  whole_seat : (over : ℕ → Passage → Type 0) (count : ℕ) (v : View (ServerBook D) Turn Answer) (ends : List (Option Ended))
+      → AreServedBy over count v ends → IsWhole v
   whole_seat over count v ends s = (inl (sym s.is_first), λ n made. back n (s.back n made))
     where
-      back : (n : ℕ) → IsOneOf n (numbers_of v) ⊎ ((place : ℕ) × ⊥) → IsOneOf n (numbers_of v)
+      back : (n : ℕ) → IsOneOf n (numbers_of v) ⊎ ((place : ℕ) × (link : ℕ) × ⊥) → IsOneOf n (numbers_of v)
       back n (inl among) = among
-      back n (inr none) = absurd none.1
+      back n (inr none) = absurd none.2
 
   entry_of_one : (v : View (ServerBook D) Turn Answer) (log : List (Entry Turn Answer)) (i : ℕ) (e : Entry Turn Answer)
       → slice_get log i ≡ Some e → entries_of v.number 0 log ≡ [] → IsOneOf e.seat (numbers_of v) → IsOneOf e.seat (numbers_in v.ended)
@@ -131,7 +132,8 @@ module _ {D : Type 0} (told : Type 0) (seen : D → List ℕ) (may_leave : D →
   entry_of_one v log i e here none (inr among) = among
 
   -- by the history's course
-  whole_by : (over : Passage → Type 0) (count : ℕ) (from : Stand) (v : View (ServerBook D) Turn Answer) (ends : List (Option Ended)) (opening last : ServerBook D)
+  whole_by : (over : ℕ → Passage → Type 0) (count : ℕ) (from : Stand) (v : View (ServerBook D) Turn Answer) (ends : List (Option Ended))
+      (opening last : ServerBook D)
       (log : List (Entry Turn Answer)) (to : Standing) (h : Course) (s : AreServedBy over count v ends)
       → Replays (server_steps told seen may_leave) opening log last → RunsBy (settings_of opening.server.server) (On from) log h to
       → NonceTables from.server from.logons (λ x. 0) → IsOnDisk told seen may_leave opening log h last
@@ -157,8 +159,10 @@ module _ {D : Type 0} (told : Type 0) (seen : D → List ℕ) (may_leave : D →
     once = are_once (settings_of opening.server.server) h log from to runs first c.all c.each c.apart;
   }
 
-  pub whole_of : (over : Passage → Type 0) (count : ℕ) (server : Server D) (from : Stand) (v : View (ServerBook D) Turn Answer) (ends : List (Option Ended))
-      (last : ServerBook D) (opens : ServingOpens server v) → AreServedBy over count v ends → Closes (server_steps told seen may_leave) v last
+  pub whole_of : (over : ℕ → Passage → Type 0) (count : ℕ) (server : Server D) (from : Stand) (v : View (ServerBook D) Turn Answer)
+      (ends : List (Option Ended))
+      (last : ServerBook D) (opens : ServingOpens server v) → AreServedBy over count v ends → Closes
+      (server_steps told seen may_leave) v last
       → BeginsAt told seen may_leave server from → WasServedWhole told seen may_leave over count opens.opening from ends last
   whole_of over count server from v ends last opens s closes b =
       let opening = opens.opening in

@@ -22,7 +22,7 @@ use Rattle.server_core.specs.declared.server.Server.{Server}
 use Rattle.server_core.specs.restart_tables.Restart.{RestartRefused}
 use Rattle.serve_turns.specs.link_serving.Lines.{ended_lines}
 use Rattle.serve_turns.specs.link_serving.Passage.{Passage, ServesOver}
-use Rattle.serve_turns.specs.link_serving.Serving.{AreServed}
+use Rattle.serve_turns.specs.link_serving.Serving.{AreAllServed}
 use Rattle.serve_turns.specs.declared.link_serving.ended.Ended.{Ended}
 use Rattle.serve_turns.specs.shared_book.Seats.{Closes}
 use Rattle.serve_turns.specs.declared.shared_book.view.View.{View}
@@ -45,8 +45,8 @@ abbrev pub serving_accepted : Option Bound → ℕ
 serving_accepted None = 4294967295
 serving_accepted (Some bound) = bound.count
 
--- As many were accepted as the words say, and of each it is told how it ended; without a count as many as have numbers. A net's count of links
--- that it accepted, before and behind, stands still at 2^64 - 1.
+-- As many were accepted as the words say, and of each it is told how it ended; without a count as many as have numbers. A net's count of
+-- links that it accepted, before and behind, stands still at 2^64 - 1.
 abbrev pub AllEnded : Option Bound → List (Option Ended) → (links links' : ℕ) → Type 0
 AllEnded None ends links links' = links + 4294967295 < 2 ^ 64 → links' ≡ links + 4294967295
 AllEnded (Some bound) ends links links' =
@@ -98,10 +98,10 @@ module _ {B : Type 0} where
   abbrev pub serves_link : ℕ → Passage → View B Turn Answer → Ended → View B Turn Answer → Type 0
   serves_link number passed from end to = turns.Serves server_guid (number % 2 ^ 32) passed from end to
 
-  -- Links below a count were served so, and none is being served: each by a seat of its own, which this seat took in with its number and all
-  -- its entries. Of what passed over each this holds. Of some it is told how they ended.
-  abbrev pub AreServedBy : (Passage → Type 0) → ℕ → View B Turn Answer → List (Option Ended) → Type 0
-  AreServedBy over count view ends = AreServed (ServesOver over serves_link) [] count ends view
+  -- Links below a count were served so, and none is being served: each by a seat of its own, which this seat took in with its number and
+  -- all its entries. Of what passed over each, and its number, this holds. Of some it is told how they ended.
+  abbrev pub AreServedBy : (ℕ → Passage → Type 0) → ℕ → View B Turn Answer → List (Option Ended) → Type 0
+  AreServedBy over count view ends = AreAllServed (ServesOver over serves_link) count ends view
 
 -- a seat of a book that opens with this server
 pub record ServingOpens {D : Type 0} (server : Server D) (view : View (ServerBook D) Turn Answer) : Type 0 where
@@ -109,13 +109,17 @@ pub record ServingOpens {D : Type 0} (server : Server D) (view : View (ServerBoo
   pub begins : opening.server.server ≡ server
   pub is : view.opening ≡ Some opening
 
+-- Of a net it is told how many links it accepted, what their peers send, if links of its kind tell that, and of two of its states what is
+-- all that passed over the link of a number that it accepted between them.
 module _ {D N : Type 0} (told : Type 0) (seen : D → List ℕ) (may_leave : D → List ℕ → Type 0) (faults : D → ℕ)
-    (listens_at : N → Option Address) (links : N → ℕ) (net_faults : N → ℕ) (over : Passage → Type 0) where
-  -- Links were served, each by a seat of one book, whose history leads from the server that began, and stood there then, to the one that was
-  -- there in the end. They are all that the net accepted, but for one that was let go at once. The disk is that of the last server. The net
-  -- listens where it did. Where it ended with 0 the server goes on, and as many links were accepted as the words say, and of each an end is
-  -- told, or as many as have numbers. Of all that passed over a link which the net accepted this holds.
-  pub record HasServed (before : ℕ) (bound : Option Bound) (server : Server D) (from : Stand) (written written' : Option (List ℕ)) (sink sink' : ℕ)
+    (listens_at : N → Option Address) (links : N → ℕ) (net_faults : N → ℕ) (link_told : Type 0) (sent : N → List (List ℕ))
+    (over : (net net' : N) → ℕ → Passage → Type 0) where
+  -- Links were served, each by a seat of one book, whose history leads from the server that began, and stood there then, to the one that
+  -- was there in the end. They are all that the net accepted, but for one that was let go at once. The disk is that of the last server. The
+  -- net listens where it did. Where it ended with 0 the server goes on, and as many links were accepted as the words say, and of each an
+  -- end is told, or as many as have numbers. The connection of each number was on the link of that number which the net accepted meanwhile.
+  pub record HasServed (before : ℕ) (bound : Option Bound) (server : Server D) (from : Stand) (written written' : Option (List ℕ))
+      (sink sink' : ℕ)
       (net net' : N) (disk' : Option D) (ending : Ending) : Type 0 where
     pub view : View (ServerBook D) Turn Answer
     pub opens : ServingOpens server view
@@ -126,19 +130,20 @@ module _ {D N : Type 0} (told : Type 0) (seen : D → List ℕ) (may_leave : D �
     pub listens : listens_at net' ≡ listens_at net
     pub links_served : ℕ
     pub accepted : AreAccepted (serving_accepted bound) links_served halt (links net) (links net')
-    pub served : AreServedBy over links_served view ends
+    pub served : AreServedBy (over net net') links_served view ends
     pub closes : Closes (server_steps told seen may_leave) view last
     pub disk_is : disk' ≡ Some (disk_of last.server.server)
     pub rose : (has_stopped last && has_risen before (faults (disk_of last.server.server))) ≡ true
         → Rose before (faults (disk_of last.server.server))
     pub counted : ending ≡ Done → AllEnded bound ends (links net) (links net')
     pub goes_on : ending ≡ Done → stopped_of last.server.server ≡ None
-    pub whole : WasServedWhole told seen may_leave over links_served opens.opening from ends last
+    pub whole : WasServedWhole told seen may_leave (over net net') links_served opens.opening from ends last
     pub tells : Behind written written' sink sink' bound halt ends (has_stopped last)
         (has_risen before (faults (disk_of last.server.server))) ending
 
   -- a net listens
-  abbrev pub ServesOn : ℕ → Option Bound → Server D → Stand → (written written' : Option (List ℕ)) → (sink sink' : ℕ) → (net net' : N) → Option D
+  abbrev pub ServesOn : ℕ → Option Bound → Server D → Stand → (written written' : Option (List ℕ)) → (sink sink' : ℕ) → (net net' : N)
+      → Option D
       → Ending → Type 0
   ServesOn before bound server from written written' sink sink' net net' disk' ending =
       (IsQuiet written written' sink sink' Memory ending × (net' ≡ net) × (disk' ≡ None))
@@ -146,17 +151,21 @@ module _ {D N : Type 0} (told : Type 0) (seen : D → List ℕ) (may_leave : D �
 
   -- It was told to listen at an address, which may fail: only where the net's count of faults rose. Then the disk is given back, and the
   -- net listens where it did and accepted nothing.
-  abbrev pub Serves : ℕ → Address → Option Bound → Server D → Stand → (written written' : Option (List ℕ)) → (sink sink' : ℕ) → (net net' : N)
+  abbrev pub Serves : ℕ → Address → Option Bound → Server D → Stand → (written written' : Option (List ℕ)) → (sink sink' : ℕ) →
+      (net net' : N)
       → Option D → Ending → Type 0
   Serves before at bound server from written written' sink sink' net net' disk' ending =
       (Rose (net_faults net) (net_faults net') × IsQuiet written written' sink sink' NetFailed ending
-      × (listens_at net' ≡ listens_at net) × (links net' ≡ links net) × (disk' ≡ Some (disk_of server)))
+      × (listens_at net' ≡ listens_at net) × (links net' ≡ links net) × (link_told → sent net' ≡ sent net)
+      × (disk' ≡ Some (disk_of server)))
       ⊎ ((ready : N) × (listens_at ready ≡ Some at) × (links ready ≡ links net) × (net_faults ready ≡ net_faults net)
+      × (link_told → sent ready ≡ sent net)
       × ServesOn before bound server from written written' sink sink' ready net' disk' ending)
 
   -- it was told at most what no count and no place of a net shows
   abbrev pub IsNetUnused : (net net' : N) → Type 0
   IsNetUnused net net' = (listens_at net' ≡ listens_at net) × (links net' ≡ links net) × (net_faults net' ≡ net_faults net)
+      × (link_told → sent net' ≡ sent net)
 
   -- The disk refuses, by its cause, and is given up, and the net isn't used; or a server began on what the disk holds, with this
   -- configuration.
@@ -167,4 +176,5 @@ module _ {D N : Type 0} (told : Type 0) (seen : D → List ℕ) (may_leave : D �
       × IsNetUnused net net' × (disk' ≡ None))
       ⊎ ((server : Server D) × (begins : ServerBegins told seen may_leave faults config disk (state_of server))
       × (config_of server ≡ config)
-      × Serves (faults disk) said.address said.bound server (first_stand config begins.2 begins.3) written written' sink sink' net net' disk' ending)
+      × Serves (faults disk) said.address said.bound server
+      (first_stand config begins.2 begins.3) written written' sink sink' net net' disk' ending)

@@ -27,8 +27,8 @@ use Rattle.serve_command.specs.Steps.{ServerBook, server_steps}
 
 -- ---- connections
 
--- One that has ended: its place among the links that were accepted, from 1, its seat's number, what passed over its link, how the connection
--- ended, and what was sealed for it.
+-- One that has ended: its place among the links that were accepted, from 1, its seat's number, what passed over its link, how the
+-- connection ended, and what was sealed for it.
 pub record EndedConnection : Type 0 where
   pub accept : ℕ
   pub seat : ℕ
@@ -42,15 +42,16 @@ number_of x = x.accept % 2 ^ 32
 
 -- each entry of the history that its seat has, and no other, is a turn of it
 abbrev pub WasServed : ServerSettings → Course → List (Entry Turn Answer) → EndedConnection → Type 0
-WasServed z h log x = WasServedBy z h (number_of x) (entries_of x.seat 0 log) x.passage.came x.passage.wrote x.passage.faults x.passage.faults'
+WasServed z h log x = WasServedBy z h (number_of x)
+    (entries_of x.seat 0 log) x.passage.came x.passage.wrote x.passage.faults x.passage.faults'
     x.passage.ended x.end x.seals
 
 abbrev pub AllServed : ServerSettings → Course → List (Entry Turn Answer) → List EndedConnection → Type 0
 AllServed z h log xs = (i : ℕ) (x : EndedConnection) → slice_get xs i ≡ Some x → WasServed z h log x
 
--- what passed over the link of each is told to be possible
-abbrev pub AllPassed : (Passage → Type 0) → List EndedConnection → Type 0
-AllPassed over xs = (i : ℕ) (x : EndedConnection) → slice_get xs i ≡ Some x → over x.passage
+-- what passed over the link of each is all that passed over the link of its number
+abbrev pub AllPassed : (ℕ → Passage → Type 0) → List EndedConnection → Type 0
+AllPassed over xs = (i : ℕ) (x : EndedConnection) → slice_get xs i ≡ Some x → over x.accept x.passage
 
 -- each link is one connection's, and so is each seat
 abbrev pub AreApart : List EndedConnection → Type 0
@@ -122,8 +123,8 @@ module _ {D : Type 0} (told : Type 0) (seen : D → List ℕ) (may_leave : D →
     pub stands : StandsFor (seen disk) bodies
     pub stays : (bytes : List ℕ) → may_leave disk bytes → StandsFor bytes bodies
 
-  -- A server that goes on shows what its place found, and its disk, where it tells its bytes, stands for the records of all events up to there:
-  -- a reply that stands in the history stands on the disk. One whose disk failed has stopped.
+  -- A server that goes on shows what its place found, and its disk, where it tells its bytes, stands for the records of all events up to
+  -- there: a reply that stands in the history stands on the disk. One whose disk failed has stopped.
   pub record OnDisk (book : ServerBook D) (s : Stand) : Type 0 where
     pub holds : HoldsServer told seen may_leave book.server.server s.server s.logons s.records
     pub goes_on : stopped_of book.server.server ≡ None
@@ -146,11 +147,12 @@ module _ {D : Type 0} (told : Type 0) (seen : D → List ℕ) (may_leave : D →
   -- ---- the whole
 
   -- Of the server that began, the history, the connections, and the server that was there in the end: the history runs in the model; each
-  -- connection's turns are its seat's entries, and what it wrote are the answers to what came, and that is all that passed over a link of which
-  -- this holds; no entry is anybody else's; there are as many connections as links, each of one of the links; links, seats and numbers are
+  -- connection's turns are its seat's entries, and what it wrote are the answers to what came, and that is all that passed over the link of
+  -- its number; no entry is anybody else's; there are as many connections as links, each of one of the links; links, seats and numbers are
   -- each one connection's own; of which it is told how they ended, they ended so; the disk stands for the records at each place; and no
   -- nonce came twice.
-  pub record WasServedWhole (over : Passage → Type 0) (count : ℕ) (opening : ServerBook D) (from : Stand) (ends : List (Option Ended)) (last : ServerBook D)
+  pub record WasServedWhole (over : ℕ → Passage → Type 0) (count : ℕ) (opening : ServerBook D) (from : Stand) (ends : List (Option Ended))
+      (last : ServerBook D)
       : Type 0 where
     pub log : List (Entry Turn Answer)
     pub h : Course

@@ -1,6 +1,7 @@
 //! The command.
-ghost use Rattle.std.specs.Prelude.{◌≡◌, IfOk, None, length, replicate};
-ghost use Rattle.serve_turns.specs.link_serving.Passage.{IsOfLink};
+ghost use Rattle.std.specs.Prelude.{◌≡◌, [], IfOk, None, length, replicate};
+ghost use Rattle.serve_turns.specs.link_serving.Passage.{IsOfNet};
+ghost use Rattle.serve_turns.specs.link_serving.Serving.{AnyLinksServed};
 ghost use Rattle.serve_turns.specs.shared_book.Seats.{Closes};
 ghost use Rattle.serve_turns.specs.shared_book.Words.{view_of, IsSeatOf};
 ghost use Rattle.serve_command.specs.Steps.{server_steps};
@@ -8,7 +9,7 @@ ghost use Rattle.serve_command.specs.Whole.{BeginsAt};
 ghost use Rattle.serve_turns.specs.event_book.History.{Stand};
 ghost use Rattle.serve_command.specs.Ends.{ServingEnds};
 ghost use Rattle.server_core.specs.declared.server.Server.{Server};
-ghost use Rattle.serve_command.specs.Serving.{AreServedBy, HasServed, ServingOpens, Serves, ServesOn, Starts};
+ghost use Rattle.serve_command.specs.Serving.{HasServed, ServingOpens, Serves, ServesOn, Starts, serves_link};
 ghost use Rattle.serve_command.specs.Serving.{serving_accepted, serving_listed};
 
 use crate::behind::{Left, behind, left_of};
@@ -41,8 +42,9 @@ pub struct Finished<N, D> {
 }
 
 /// Reads settings from a source, begins a server on what the disk holds, and serves the connections that a net accepts at an address, each
-/// on a thread of its own; until so many were accepted and have ended, which are told then, or as many as have numbers of their own. It prints nothing before it
-/// ends. Each ending has its cause: what the words don't allow is judged before, then the source, the settings, the disk and the net.
+/// on a thread of its own; until so many were accepted and have ended, which are told then, or as many as have numbers of their own. It
+/// prints nothing before it ends. Each ending has its cause: what the words don't allow is judged before, then the source, the settings,
+/// the disk and the net.
 pub fn serve<W, S, O, D, N, C, R>(
     rt: &W,
     alloc: Global,
@@ -62,7 +64,9 @@ where
     N: Net + Drop,
     C: Clock + Drop + Send,
     R: Rng + Drop + Send,
-    ensures { ServingEnds D.told D.seen D.may_leave D.faults N.listens_at N.accepted N.faults (IsOfLink N.L.told N.L.given N.L.written N.L.faults N.L.ended) said.now disk (S.left source.old)
+    ensures { ServingEnds D.told D.seen D.may_leave D.faults N.listens_at N.accepted N.faults N.L.told N.sent
+        (IsOfNet N.L.told N.L.given N.L.left N.L.written N.L.faults N.L.ended N.L.number N.accepted N.sent) said.now disk
+        (S.left source.old)
         (S.left source.new) (S.faults source.old) (S.faults source.new) (O.written sink.old) (O.written sink.new) (O.faults sink.old)
         (O.faults sink.new) net result.net result.disk result.ending }
 {
@@ -95,7 +99,9 @@ where
     N: Net + Drop,
     C: Clock + Drop + Send,
     R: Rng + Drop + Send,
-    ensures { Starts D.told D.seen D.may_leave D.faults N.listens_at N.accepted N.faults (IsOfLink N.L.told N.L.given N.L.written N.L.faults N.L.ended) said.now setup.config disk (O.written sink.old)
+    ensures { Starts D.told D.seen D.may_leave D.faults N.listens_at N.accepted N.faults N.L.told N.sent
+        (IsOfNet N.L.told N.L.given N.L.left N.L.written N.L.faults N.L.ended N.L.number N.accepted N.sent) said.now setup.config disk
+        (O.written sink.old)
         (O.written sink.new) (O.faults sink.old) (O.faults sink.new) net result.net result.disk result.ending }
 {
     let Setup { config, watch } = setup;
@@ -152,7 +158,8 @@ fn opened<D: Disk + Drop, N: Net>(
 ) -> Result<(SharedBook<ServerBook<D>>, Roll<ServerBook<D>, Ended>), AllocError>
     ensures own { IfOk result (λ r. IsSeatOf r.0 r.1.seat) }
     ensures opens { IfOk result (λ r. ServingOpens server (view_of r.1.seat)) }
-    ensures served { IfOk result (λ r. AreServedBy (IsOfLink N.L.told N.L.given N.L.written N.L.faults N.L.ended) 0 (view_of r.1.seat) r.1.ends.items) }
+    ensures served { IfOk result (λ r. AnyLinksServed N.L.told N.L.given N.L.left N.L.written N.L.faults N.L.ended N.L.number serves_link [] 0
+        r.1.ends.items (view_of r.1.seat)) }
     ensures room { IfOk result (λ r. length r.1.ends.items ≡ count) }
 {
     let ends = none_ended(alloc, count)?;
@@ -202,7 +209,9 @@ where
     C: Clock + Drop + Send,
     R: Rng + Drop + Send,
     ensures { (from : Stand) → BeginsAt D.told D.seen D.may_leave server from
-        → Serves D.told D.seen D.may_leave D.faults N.listens_at N.accepted N.faults (IsOfLink N.L.told N.L.given N.L.written N.L.faults N.L.ended) before said.now.address said.now.bound server from
+        → Serves D.told D.seen D.may_leave D.faults N.listens_at N.accepted N.faults N.L.told N.sent
+        (IsOfNet N.L.told N.L.given N.L.left N.L.written N.L.faults N.L.ended N.L.number N.accepted N.sent) before said.now.address
+        said.now.bound server from
         (O.written sink.old) (O.written sink.new) (O.faults sink.old) (O.faults sink.new) net result.net result.disk result.ending }
 {
     match net.listen(said.address) {
@@ -239,7 +248,9 @@ where
     C: Clock + Drop + Send,
     R: Rng + Drop + Send,
     ensures { (from : Stand) → BeginsAt D.told D.seen D.may_leave server from
-        → ServesOn D.told D.seen D.may_leave D.faults N.listens_at N.accepted N.faults (IsOfLink N.L.told N.L.given N.L.written N.L.faults N.L.ended) before said.now.bound server from
+        → ServesOn D.told D.seen D.may_leave D.faults N.listens_at N.accepted N.faults N.L.told N.sent
+        (IsOfNet N.L.told N.L.given N.L.left N.L.written N.L.faults N.L.ended N.L.number N.accepted N.sent) before said.now.bound server
+        from
         (O.written sink.old) (O.written sink.new) (O.faults sink.old) (O.faults sink.new) net result.net result.disk result.ending }
 {
     let count = listed(said.bound);
@@ -278,11 +289,14 @@ where
     C: Clock + Drop + Send,
     R: Rng + Drop + Send,
     requires own { IsSeatOf book roll.seat }
-    requires served { AreServedBy (IsOfLink N.L.told N.L.given N.L.written N.L.faults N.L.ended) 0 (view_of roll.seat) roll.ends.items }
+    requires served { AnyLinksServed N.L.told N.L.given N.L.left N.L.written N.L.faults N.L.ended N.L.number serves_link [] 0
+        roll.ends.items (view_of roll.seat) }
     requires room { length roll.ends.items ≡ serving_listed said.now.bound }
     ensures { (server : Server D) (from : Stand) → ServingOpens server (view_of roll.seat)
         → BeginsAt D.told D.seen D.may_leave server from → HasServed D.told D.seen D.may_leave D.faults N.listens_at N.accepted
-        N.faults (IsOfLink N.L.told N.L.given N.L.written N.L.faults N.L.ended) before said.now.bound server from (O.written sink.old) (O.written sink.new) (O.faults sink.old) (O.faults sink.new) net
+        N.faults N.L.told N.sent
+        (IsOfNet N.L.told N.L.given N.L.left N.L.written N.L.faults N.L.ended N.L.number N.accepted N.sent) before said.now.bound server
+        from (O.written sink.old) (O.written sink.new) (O.faults sink.old) (O.faults sink.new) net
         result.net result.disk result.ending }
 {
     let outside = Connections {

@@ -10,3 +10,4 @@ pub mod Watching
 pub mod Stepping
 pub mod Wholes
 pub mod Framing
+pub mod Drawn

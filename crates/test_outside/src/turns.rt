@@ -147,8 +147,11 @@ impl Listening {
 
 impl Link for Listening {
     ghost use Rattle.std.specs.Prelude.{⊤};
+    ghost use Rattle.base_outside.specs.network.Link.{unnumbered};
 
     ghost told = { ⊤ };
+
+    ghost number = { λ _. unnumbered };
 
     ghost given = { λ l. l.link.given };
 

@@ -1,5 +1,5 @@
 ghost use Rattle.std.specs.Prelude.{◌≡◌, false};
-ghost use Rattle.base_outside.specs.network.Link.{is_link_end, untold};
+ghost use Rattle.base_outside.specs.network.Link.{is_link_end, unsent, untold};
 
 use base_outside::{Address, Failed, Link, MemEnd, MemNet, Net};
 use std::sync::Wait;
@@ -81,6 +81,8 @@ impl<'a, W: Wait + time::Clock> MeetingEnd<'a, W> {
 
 impl<'a, W: Wait + time::Clock> Link for MeetingEnd<'a, W> {
     ghost told = { ⊥ };
+
+    ghost number = { λ e. e.link.number };
 
     ghost given = { λ _. untold };
 
@@ -177,6 +179,8 @@ impl<'a, W: Wait + Sync + time::Clock> Net for MeetingNet<'a, W> {
     ghost listens_at = { λ n. n.net.listens_at };
 
     ghost accepted = { λ n. n.net.accepted };
+
+    ghost sent = { λ _. unsent };
 
     ghost faults = { λ n. n.net.faults };
 

@@ -8,7 +8,7 @@ use Rattle.spec_world.specs.Hearing as hearing
 use Rattle.spec_world.specs.Related as related
 use Rattle.conn_core.specs.declared.frame_messages.checked.Checked.{Checked}
 use Rattle.conn_core.specs.declared.frame_messages.checked.CheckedFrame.{CheckedFrame}
-use Rattle.conn_core.specs.frame_messages.Checking.{InOrder, AreInOrder, HasMessage, places_of, bytes_of, message_in}
+use Rattle.conn_core.specs.frame_messages.Checking.{InOrder, AreInOrder, HasMessage, holds_setup, places_of, bytes_of, message_in}
 use Rattle.conn_core.specs.declared.related.related.Carry.{Carry}
 use Rattle.conn_core.specs.related.Carrying.{carry_of, follows, IsCarried, Inherits, TakesOver, SameOthers, AreApart}
 use Rattle.conn_core.proofs.related.Placed.{itself, before_it, behind_it, put_long}
@@ -49,6 +49,20 @@ same_places (x ∷ xs) zero m n e s =
     let place : n.span ≡ x.span = s ∙ sym (ap (λ (y : Checked). y.span) (some_same x m e)) in
     ap (λ (p : Span). p ∷ places_of xs) place
 same_places (x ∷ xs) (suc i) m n e s = ap (λ (ps : List Span). x.span ∷ ps) (same_places xs i m n e s)
+
+-- the commands stay, so it holds a SESSION_SETUP as before
+some_setups : (ms : List Checked) (i : ℕ) (m n : Checked) → slice_get ms i ≡ Some m → n.header.command ≡ m.header.command
+    → holds_setup (set ms i n) ≡ holds_setup ms
+some_setups [] zero m n e s = refl
+some_setups [] (suc i) m n e s = refl
+some_setups (x ∷ xs) zero m n e s =
+    let same : n.header.command ≡ x.header.command = s ∙ sym (ap (λ (y : Checked). y.header.command) (some_same x m e)) in
+    ap (λ (k : ℕ). k == 1 || holds_setup xs) same
+some_setups (x ∷ xs) (suc i) m n e s = ap (λ (b : Bool). x.header.command == 1 || b) (some_setups xs i m n e s)
+
+pub set_setups : (old new : List Checked) (at : ℕ) (a b : Checked) → slice_get old at ≡ Some a → new ≡ set old at b
+    → b.header.command ≡ a.header.command → holds_setup new ≡ holds_setup old
+set_setups old new at a b here is same = ap (λ (ms : List Checked). holds_setup ms) is ∙ some_setups old at a b here same
 
 -- ---- what becomes of a message
 

@@ -364,12 +364,12 @@ goes_of old mid new behind w alike window same nonces = record {
 }
 
 pub goes_with : (z : ServerSettings) (s : model.Server) (L : Logons) (f : ServerEnd) (cs : List hearing.Checked) (ss : List SaidReply)
-    (w : HeldIds) (answers : Answers) (old new : Conn) (frames : Frames) (nonces : NonceState) (behind : Behind) (bytes : List ℕ)
-    (status : Option ℕ) → ShowsEnd old.id z.guid old f → AreAnswers z f cs ss w answers.asked.now answers.replies.now.items.items
-    → Joined f answers.asked.now.sealed ss w old.nonces frames nonces behind → GoesOn old new nonces behind w → bytes ≡ frames.out.items
-    → status ≡ last_status ss
-    → AnswersWith old.id z.guid (walk_replied s L f answers.asked.now.sealed w ss) new (Ok (record { bytes = bytes; status = status }))
-goes_with z s L f cs ss w answers old new frames nonces behind bytes status shows a j goes is told = (
+    (w : HeldIds) (answers : Answers) (old new : Conn) (frames : Frames) (nonces : NonceState) (behind : Behind)
+    (answered : Answered) → ShowsEnd old.id z.guid old f → AreAnswers z f cs ss w answers.asked.now answers.replies.now.items.items
+    → Joined f answers.asked.now.sealed ss w old.nonces frames nonces behind → GoesOn old new nonces behind w
+    → answered.bytes.items ≡ frames.out.items → answered.status ≡ last_status ss
+    → AnswersWith old.id z.guid (walk_replied s L f answers.asked.now.sealed w ss) new (Ok answered)
+goes_with z s L f cs ss w answers old new frames nonces behind answered shows a j goes is told = (
   subst (λ (b : List ℕ). WalkGoes old.id z.guid (walk_replied s L f answers.asked.now.sealed w ss) b new) (sym is)
       (goes_by z s L f cs ss w answers old new frames nonces behind shows a j goes),
   told ∙ sym (status_by s L f answers.asked.now.sealed w ss j.enough),

@@ -1,8 +1,8 @@
 -- What a check of a frame answers, and how the frame in code shows its checked messages.
-use Rattle.std.specs.Prelude.{◌≡◌, ℕ, ◌+◌, ◌-◌, ◌≤◌, List, [], ◌∷◌, Option, Some, None, Result, Ok, Err, take, drop}
+use Rattle.std.specs.Prelude.{◌≡◌, ℕ, ◌+◌, ◌-◌, ◌≤◌, ◌==◌, List, [], ◌∷◌, Option, Some, None, Result, Ok, Err, take, drop}
 use Rattle.std.specs.Prelude.{Bool, false, if◌then◌else◌}
 use Rattle.std.specs.Prelude.{true, length, map, Vec, ⊤, ◌<◌, slice_get}
-use Rattle.std.specs.List.{All}
+use Rattle.std.specs.List.{All, list_any}
 use Rattle.spec_exchange.specs.Status.{access_denied}
 use Rattle.spec_world.specs.Ends as ends
 use Rattle.spec_world.specs.Hearing as hearing
@@ -31,6 +31,10 @@ AllDenied ms = All (λ m. IsDenied m.fault) ms
 
 abbrev pub AreDenied : CheckedFrame → Type 0
 AreDenied x = AllDenied x.messages.items
+
+-- one of these messages is a SESSION_SETUP (MS-SMB2 2.2.1)
+abbrev pub holds_setup : List Checked → Bool
+holds_setup ms = list_any (λ m. m.header.command == 1) ms
 
 -- A message that goes its way: its bytes as they stand, and where no FileId can have been put into them, as it was heard.
 pub record ShowsGoing (bytes : List ℕ) (m : Checked) (c : hearing.Checked) : Type 0 where

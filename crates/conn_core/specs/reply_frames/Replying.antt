@@ -1,5 +1,6 @@
 -- The answer to a frame in code: the frames that its replies are joined in.
-use Rattle.std.specs.Prelude.{◌≡◌, ◌≤◌, ℕ, Bool, true, List, Option, Some, None, Result, Ok, Err, ⊤}
+use Rattle.std.specs.Prelude.{◌≡◌, ◌≤◌, ℕ, Bool, true, List, Option, Some, None, Result, Ok, Err, Vec, ⊤}
+use Rattle.std.specs.Global.{Global}
 use Rattle.spec_exchange.specs.State as model
 use Rattle.spec_crypto.specs.sessions.Nonces.{last_counter}
 use Rattle.spec_wire.specs.credits.Window.{HeldIds}
@@ -50,12 +51,12 @@ pub record WalkGoes (k : ℕ) (guid : List ℕ) (S : ConnectionStep) (bytes : Li
   -- each fits a length of three bytes (2.1), with its transform header where it is sealed
   pub short : AreAtMost 1114112 S.frames
 
-abbrev pub WalkReplies : ℕ → List ℕ → ConnectionStep → Conn → Result (List ℕ) ConnEnd → Type 0
-WalkReplies k guid S new (Ok bytes) = WalkGoes k guid S bytes new
+abbrev pub WalkReplies : ℕ → List ℕ → ConnectionStep → Conn → Result (Vec ℕ Global) ConnEnd → Type 0
+WalkReplies k guid S new (Ok v) = WalkGoes k guid S v.items new
 WalkReplies k guid S new (Err Memory) = ⊤
 WalkReplies k guid S new (Err e) = EndsAs e S.ends
 
 abbrev pub AnswersWith : ℕ → List ℕ → ConnectionStep → Conn → Result Answered ConnEnd → Type 0
-AnswersWith k guid S new (Ok a) = WalkGoes k guid S a.bytes new × (a.status ≡ S.status)
+AnswersWith k guid S new (Ok a) = WalkGoes k guid S a.bytes.items new × (a.status ≡ S.status)
 AnswersWith k guid S new (Err Memory) = ⊤
 AnswersWith k guid S new (Err e) = EndsAs e S.ends

@@ -149,7 +149,7 @@ pub fn carry_out<S: Serve>(
     ensures same { (asked.new.sealed ≡ asked.old.sealed) × (asked.new.moment ≡ asked.old.moment) }
 {
     let mut carried: Option<Carry> = None;
-    for at in 0..asked.len() {
+    for at in 0..asked.messages.len() {
         match step(conn, server, moment, asked, at, &carried, dealt) {
             Ok(behind) => carried = behind,
             Err(why) => return Err(why),

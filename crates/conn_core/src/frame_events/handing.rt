@@ -3,7 +3,7 @@ ghost use Rattle.std.specs.Prelude.{◌≡◌, ◌≤◌, ◌<◌, ◌||◌, [],
 ghost use Rattle.spec_world.specs.Hearing as hearing;
 ghost use Rattle.spec_world.specs.Related.{failed_as, turn_of};
 ghost use Rattle.conn_core.specs.declared.frame_messages.checked.Checked.{Checked};
-ghost use Rattle.conn_core.specs.frame_messages.Checking.{AreDenied, AreInOrder, HasMessage, message_in};
+ghost use Rattle.conn_core.specs.frame_messages.Checking.{AreDenied, AreInOrder, HasMessage, holds_setup, message_in};
 ghost use Rattle.conn_core.specs.related.Carrying.{carry_of, Inherits, IsCarried, SameOthers};
 ghost use Rattle.conn_core.specs.frame_events.Dealing.{AreShortIf, DealsOne, EventAdds, RefusesOne, lost_by, stopped_by};
 ghost use Rattle.conn_core.specs.frame_events.Dealing as dealing;
@@ -101,6 +101,7 @@ pub fn goes(asked: &mut CheckedFrame, at: usize, carried: &Option<Carry>) -> boo
     ensures others { SameOthers at asked.old asked.new }
     ensures order { AreInOrder asked.old → AreInOrder asked.new }
     ensures denied { AreDenied asked.old → AreDenied asked.new }
+    ensures setups { holds_setup asked.new.messages.items ≡ holds_setup asked.old.messages.items }
 {
     match carried {
         None => true,

@@ -15,7 +15,7 @@ pub struct Checked {
     pub span: Span,
 }
 
-/// The messages of a frame, in order. The frame's bytes stand here once, opened in place, and FileIds that related
+/// The messages of a frame, in order, one at least. The frame's bytes stand here once, opened in place, and FileIds that related
 /// messages take over are written into them.
 #[derive(Drop, Debug)]
 pub struct CheckedFrame {
@@ -27,32 +27,11 @@ pub struct CheckedFrame {
 }
 
 impl CheckedFrame {
-    ghost use Rattle.std.specs.Prelude.{◌≡◌, ◌<◌, ◌==◌, length, Some, slice_get};
+    ghost use Rattle.std.specs.Prelude.{◌≡◌, ◌<◌, length, Some, slice_get};
     ghost use Rattle.conn_core.specs.declared.frame_messages.checked.Checked.{Checked};
     ghost use Rattle.conn_core.specs.frame_messages.Checking.{message_in, HasMessage};
 
-    /// How many messages it has, one at least.
-    pub fn len(&self) -> usize
-        ensures { result ≡ length self.now.messages.items }
-    {
-        self.messages.len()
-    }
-
-    /// A frame that was checked has a message.
-    pub fn is_empty(&self) -> bool
-        ensures { result ≡ (length self.now.messages.items == 0) }
-    {
-        self.messages.is_empty()
-    }
-
-    /// It was sealed.
-    pub fn is_sealed(&self) -> bool
-        ensures { result ≡ self.now.sealed }
-    {
-        self.sealed
-    }
-
-    pub fn checked(&self, at: usize) -> &Checked
+    pub(crate) fn checked(&self, at: usize) -> &Checked
         requires { at < length self.now.messages.items }
         ensures { slice_get self.now.messages.items at ≡ Some result.now }
     {
@@ -60,7 +39,7 @@ impl CheckedFrame {
     }
 
     /// The bytes of a message, from its header on, with what pads it to the next one.
-    pub fn message(&self, at: usize) -> &[u8]
+    pub(crate) fn message(&self, at: usize) -> &[u8]
         requires { HasMessage self.now at }
         ensures { (m : Checked) → slice_get self.now.messages.items at ≡ Some m → result.now ≡ message_in self.now.bytes.items m }
     {

@@ -15,7 +15,7 @@ use crate::end::ConnEnd;
 use crate::frame_messages::checked::{Checked, CheckedFrame};
 use crypto_sessions::{Keys, unseal_in_place, verify};
 use std::alloc::Global;
-use wire_bytes::{Header, HeaderError, Parts, Span, read_header, split_compound, u16_at, u64_at};
+use wire_bytes::{Header, HeaderError, Parts, Span, read_header, split_compound, u16_at};
 
 /// The most bytes of a frame's message.
 const MOST: usize = 1_114_112;
@@ -45,8 +45,10 @@ const CANCEL: u16 = 12;
 
 const ECHO: u16 = 13;
 
-/// Where a header has its SessionId (MS-SMB2 2.2.1.2).
+/// Where a header has its SessionId, and that of no session (MS-SMB2 2.2.1.2).
 const SESSION_ID: usize = 40;
+
+const NO_SESSION: [u8; 8] = [0; 8];
 
 const RELATED: u32 = 4;
 
@@ -214,7 +216,7 @@ pub fn is_probe(header: &Header, message: &[u8]) -> bool
     requires { 64 ≤ length message.now }
     ensures { result ≡ hearing.is_probe header.now message.now }
 {
-    header.command == ECHO && u64_at(message, SESSION_ID) == 0
+    header.command == ECHO && message[SESSION_ID..].starts_with(&NO_SESSION)
 }
 
 /// Neither a signature nor a seal is owed by NEGOTIATE, a SESSION_SETUP and an ECHO of SessionId 0.

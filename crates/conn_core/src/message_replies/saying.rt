@@ -190,7 +190,7 @@ fn answered_by<'a>(
 fn answer_at(replies: &Replies, place: usize) -> Option<&Result<Reply, ServeError>>
     ensures { option_copied result ≡ slice_get replies.now.items.items place }
 {
-    replies.as_slice().get(place)
+    replies.items.get(place)
 }
 
 /// The same, where so many answers were given before. One that has none found no memory.

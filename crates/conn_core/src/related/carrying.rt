@@ -3,7 +3,7 @@ ghost use Rattle.std.specs.Prelude.{◌≡◌, ◌≤◌, ◌<◌, ◌++◌, Non
 ghost use Rattle.spec_world.specs.Hearing as hearing;
 ghost use Rattle.spec_world.specs.Related.{failed_as, turn_of, with_file};
 ghost use Rattle.conn_core.specs.declared.frame_messages.checked.Checked.{Checked};
-ghost use Rattle.conn_core.specs.frame_messages.Checking.{AreDenied, AreInOrder, HasMessage, bytes_of, message_in};
+ghost use Rattle.conn_core.specs.frame_messages.Checking.{AreDenied, AreInOrder, HasMessage, bytes_of, holds_setup, message_in};
 ghost use Rattle.conn_core.specs.related.Carrying.{carry_of, IsCarried, RelatedCarries, Inherits, SameOthers, TakesOver};
 
 use crate::frame_messages::{Checked, CheckedFrame};
@@ -91,6 +91,7 @@ pub fn inherit(frame: &mut CheckedFrame, at: usize, before: &Carry) -> bool
     ensures others { SameOthers at frame.old frame.new }
     ensures order { AreInOrder frame.old → AreInOrder frame.new }
     ensures denied { AreDenied frame.old → AreDenied frame.new }
+    ensures setups { holds_setup frame.new.messages.items ≡ holds_setup frame.old.messages.items }
 {
     let mut checked = *frame.checked(at);
     let is_related = checked.related;

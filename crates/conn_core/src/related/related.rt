@@ -1,7 +1,6 @@
 //! Related messages (MS-SMB2 3.2.4.1.4, 3.3.5.2.7.2).
 ghost use Rattle.std.specs.Prelude.{◌≡◌, ◌≤◌, ℕ, List, IfSome, None, Some, Ok, option_map};
 ghost use Rattle.spec_wire.specs.messages.Bare.{bare_fault};
-ghost use Rattle.spec_commands.specs.Ids as ids;
 ghost use Rattle.spec_commands.specs.CommandOf;
 ghost use Rattle.spec_world.specs.Hearing as hearing;
 ghost use Rattle.spec_world.specs.Related as related;
@@ -11,7 +10,8 @@ ghost use Rattle.conn_core.specs.related.Carrying.{carry_of, file_told, handed_b
 use crate::frame_messages::Checked;
 use crate::served::{Reply, ServeError};
 use spec_wire::MessageError;
-use wire_bytes::{FixedOut, read_echo_request};
+use wire_bytes::read_echo_request;
+use wire_commands::file_id;
 
 const SUCCESS: u32 = 0;
 
@@ -82,17 +82,6 @@ fn handed_on(file: [u8; 16]) -> [u8; 16]
     ensures { result ≡ related.handed_on file }
 {
     if file == NAMES_NONE { [0; 16] } else { file }
-}
-
-/// The FileId of an open: its number twice.
-#[tactic(auto, unfolding(spec_commands::specs::Ids::file_id))]
-fn file_id(file: u64) -> [u8; 16]
-    ensures { result ≡ ids.file_id file }
-{
-    let mut out = FixedOut::<16>::new();
-    out.put_u64(file);
-    out.put_u64(file);
-    out.finish()
 }
 
 /// The related flag on a frame's first message breaks its form, where it isn't refused before.
@@ -216,7 +205,7 @@ fn file_behind(
     before: &Option<Carry>,
     checked: &Checked,
     message: &[u8],
-    file: Option<u64>,
+    file: Option<u128>,
 ) -> [u8; 16]
     ensures { (c : hearing.Checked) → IsCarried checked.now message.now c
         → result ≡ file_told (option_map carry_of before.now) c file }

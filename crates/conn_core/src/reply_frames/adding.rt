@@ -232,7 +232,7 @@ fn add_each<'a>(
         place: 0,
         waiting: None,
     };
-    for at in 0..answers.asked.len() {
+    for at in 0..answers.asked.messages.len() {
         walk = match add_next(conn, joining, answers, at, walk) {
             Ok(walk) => walk,
             Err(why) => return Err(why),

@@ -24,12 +24,11 @@ use crate::reply_frames::room::{hello_for, room_for};
 use crate::reply_sealing::Frames;
 use crate::served::Replies;
 use crypto_sessions::Nonces;
-use wire_bytes::Bytes;
 
 /// The frames that answer, and the status of the last reply.
 #[derive(Drop)]
 pub struct Answered {
-    pub bytes: Bytes,
+    pub bytes: Vec<u8>,
     pub status: Option<u32>,
 }
 
@@ -52,7 +51,7 @@ fn go_on(conn: &mut Conn, behind: &Behind)
 
 /// The frames of all replies, and the connection behind them.
 fn finish(conn: &mut Conn, joining: Joining, status: Option<u32>) -> Answered
-    ensures told { (result.bytes ≡ joining.frames.out.items) × (result.status ≡ status) }
+    ensures told { (result.bytes.items ≡ joining.frames.out.items) × (result.status ≡ status) }
     ensures same { (conn.new.id ≡ conn.old.id) × (conn.new.guid ≡ conn.old.guid) × (conn.new.salt ≡ conn.old.salt)
         × (conn.new.window ≡ conn.old.window) × (conn.new.asked ≡ conn.old.asked) × (conn.new.logon ≡ joining.behind.logon) }
     ensures nonces { (f : ServerEnd) → NoncesBehind conn.old.nonces joining.behind.channel f
@@ -61,7 +60,7 @@ fn finish(conn: &mut Conn, joining: Joining, status: Option<u32>) -> Answered
     let Joining { frames, behind } = joining;
     go_on(conn, &behind);
     Answered {
-        bytes: Bytes::from_vec(frames.into_bytes()),
+        bytes: frames.into_bytes(),
         status,
     }
 }
@@ -78,7 +77,7 @@ fn join_all(conn: &mut Conn, answers: &Answers<'_>, room: Vec<u8>) -> Result<Ans
         → AnswersWith conn.old.id z.guid (walk_replied s L f answers.now.asked.now.sealed w ss) conn.new result }
 {
     let mut joining = Joining {
-        frames: Frames::new(room, answers.asked.is_sealed()),
+        frames: Frames::new(room, answers.asked.sealed),
         behind: Behind {
             logon: conn.logon,
             channel: None,
@@ -136,7 +135,7 @@ pub fn answered_with(
 /// key. Each reply but to a CANCEL is granted credits. A reply of NEGOTIATE or SESSION_SETUP moves the logon on.
 /// `Spent` where no nonce is left. The first answer that says that an event found no memory has the room that stands
 /// by for it.
-pub fn answer(conn: &mut Conn, asked: &CheckedFrame, replies: &Replies) -> Result<Bytes, ConnEnd>
+pub fn answer(conn: &mut Conn, asked: &CheckedFrame, replies: &Replies) -> Result<Vec<u8>, ConnEnd>
     requires messages { AllHaveMessages asked.now }
     requires short { AreMessagesShort replies.now.items.items }
     ensures { (z : ServerSettings) (s : Server) (L : Logons) (f : ServerEnd) (cs : List hearing.Checked)

@@ -26,7 +26,7 @@ const AROUND: usize = 192;
 fn greets(asked: &CheckedFrame) -> bool
     ensures { result ≡ first_greets asked.now.messages.items }
 {
-    if asked.is_empty() {
+    if asked.messages.is_empty() {
         return false;
     }
     asked.checked(0).header.command == NEGOTIATE
@@ -76,6 +76,7 @@ fn hello_bytes(hello: Option<&Hello>) -> usize {
 fn size_of(answers: &Answers<'_>) -> usize {
     answers
         .asked
+        .messages
         .len()
         .saturating_mul(AROUND)
         .saturating_add(hello_bytes(answers.hello))

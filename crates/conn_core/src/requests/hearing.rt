@@ -42,8 +42,8 @@ pub struct Told {
     pub client_guid: u128,
     /// What NEGOTIATE chose.
     pub chosen: Chosen,
-    /// Of a SESSION_SETUP: the value of the chain behind it.
-    pub chain: [u8; 64],
+    /// Of a SESSION_SETUP: the chain behind it.
+    pub chain: Chain,
     /// Random bytes for a challenge.
     pub fresh: [u8; 8],
 }
@@ -69,7 +69,7 @@ fn setup_heard<'a>(
         form,
         bytes,
         chosen: told.chosen,
-        chain: told.chain,
+        chain: told.chain.value(),
         fresh: told.fresh,
     }
 }
@@ -181,7 +181,7 @@ fn taken(before: Chain, message: &[u8]) -> Chain
     behind
 }
 
-/// The value of the chain behind a SESSION_SETUP; of any other message that of before.
+/// The chain behind a SESSION_SETUP; of any other message that of before.
 fn chain_behind(conn: &Conn, frame: &CheckedFrame, at: usize) -> Chain
     requires { HasMessage frame.now at }
     ensures { (f : ServerEnd) (m : Checked) (c : hearing.Checked) → ShowsGreeting conn.now.logon.greeting f.greeting
@@ -199,16 +199,17 @@ fn chain_behind(conn: &Conn, frame: &CheckedFrame, at: usize) -> Chain
 /// What this connection tells of a message of a checked frame. It takes no memory.
 pub fn told_of(conn: &Conn, frame: &CheckedFrame, at: usize, fresh: [u8; 8]) -> Told
     requires { HasMessage frame.now at }
-    ensures { (guid : List ℕ) (f : ServerEnd) (m : Checked) (c : hearing.Checked)
+    ensures told { (guid : List ℕ) (f : ServerEnd) (m : Checked) (c : hearing.Checked)
         → ShowsEnd conn.now.id guid conn.now f → slice_get frame.now.messages.items at ≡ Some m
-        → ShowsGoing frame.now.bytes.items m c
-        → IsRequestTold f c result × (result.connection ≡ conn.now.id) × (result.fresh ≡ fresh) }
+        → ShowsGoing frame.now.bytes.items m c → IsRequestTold f c result }
+    ensures connection { result.connection ≡ conn.now.id }
+    ensures fresh { result.fresh ≡ fresh }
 {
     Told {
         connection: conn.id,
         client_guid: conn.logon.client(),
         chosen: conn.logon.chosen(),
-        chain: chain_behind(conn, frame, at).value(),
+        chain: chain_behind(conn, frame, at),
         fresh,
     }
 }

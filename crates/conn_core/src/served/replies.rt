@@ -8,7 +8,7 @@ use std::alloc::{AllocError, Global};
 /// The server's answers to a frame, one for each message that has an event, in their order.
 #[derive(Drop)]
 pub struct Replies {
-    items: Vec<Result<Reply, ServeError>>,
+    pub items: Vec<Result<Reply, ServeError>>,
 }
 
 fn lacks(answer: &Result<Reply, ServeError>) -> bool
@@ -51,17 +51,8 @@ fn acted_in(answers: &[Result<Reply, ServeError>]) -> bool
 }
 
 impl Replies {
-    ghost use Rattle.std.specs.Prelude.{◌≡◌, ◌≤◌, ◌==◌, ◌++◌, ◌∷◌, [], length, vec_len, vec_capacity, IfOk, OnOk, OnErr};
+    ghost use Rattle.std.specs.Prelude.{◌≡◌, ◌≤◌, ◌++◌, ◌∷◌, [], vec_len, vec_capacity, IfOk, OnOk, OnErr};
     ghost use Rattle.conn_core.specs.served.Replies.{some_lacked, some_acted};
-
-    /// No answers. It takes no memory.
-    pub fn new(alloc: Global) -> Replies
-        ensures { result.items.items ≡ [] }
-    {
-        Replies {
-            items: Vec::new(alloc),
-        }
-    }
 
     /// No answers yet, with room for so many.
     pub fn with_room(alloc: Global, count: usize) -> Result<Replies, AllocError>
@@ -70,24 +61,6 @@ impl Replies {
     {
         let items = Vec::with_capacity(alloc, count)?;
         Ok(Replies { items })
-    }
-
-    pub fn len(&self) -> usize
-        ensures { result ≡ length self.now.items.items }
-    {
-        self.items.len()
-    }
-
-    pub fn is_empty(&self) -> bool
-        ensures { result ≡ (length self.now.items.items == 0) }
-    {
-        self.items.is_empty()
-    }
-
-    pub fn as_slice(&self) -> &[Result<Reply, ServeError>]
-        ensures { result.now ≡ self.now.items.items }
-    {
-        self.items.as_slice()
     }
 
     /// Adds an answer at the end. Where there is no memory nothing changes.

@@ -18,7 +18,7 @@ pub struct Reply {
     pub tree: u32,
     pub body: Bytes,
     /// The open that a CREATE made, attached or told again.
-    pub file: Option<u64>,
+    pub file: Option<u128>,
     pub progress: Progress,
     /// Files, the set of opens or ranges changed.
     pub acted: bool,

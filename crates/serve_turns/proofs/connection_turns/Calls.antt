@@ -12,7 +12,7 @@ use Rattle.serve_turns.specs.connection_turns.Passing.{Feeds, HasWritten, NextFr
 use Rattle.serve_turns.specs.link_serving.Passage.{Passed}
 use Rattle.wire_bytes.specs.frames.Next.{FrameNextAnswers}
 use Rattle.base_outside.specs.streams.Faults.{Rose}
-use Rattle.base_outside.specs.network.Link.{is_link_end}
+use Rattle.base_outside.specs.network.Link.{LinkGives, is_link_end}
 use Rattle.spec_wire.specs.declared.messages.refusal.FrameError.{FrameError}
 use Rattle.spec_wire.specs.declared.messages.refusal.FrameError.TheVariants as frames
 
@@ -41,94 +41,106 @@ at_end ended ended' buffer count is some e =
 take_on : (at count : ℕ) (text : List ℕ) → take at text ++ take count (take (length text - at) (drop at text)) ≡ take (at + count) text
 take_on at count text = rw (take_rest text at) (sym (take-add at count text))
 
-module _ {K : Type 0} (told : Type 0) (given written : K → List ℕ) where
+module _ {K : Type 0} (told : Type 0) (given left written : K → List ℕ) where
   -- the link gave bytes and took none
-  pub gave : (l n : K) (bytes : List ℕ) → (told → given n ≡ given l ++ bytes) → (told → written n ≡ written l)
-      → Passed told given written l n bytes []
-  gave l n bytes h k = record { given_is = h; written_is = λ t. k t ∙ sym (append-nil (written l)) }
+  pub gave : (l n : K) (bytes : List ℕ) → (told → given n ≡ given l ++ bytes) → (told → left l ≡ bytes ++ left n)
+      → (told → written n ≡ written l) → Passed told given left written l n bytes []
+  gave l n bytes h r k = record { given_is = h; left_is = r; written_is = λ t. k t ∙ sym (append-nil (written l)) }
 
   -- it gave none in a read
-  pub gave_none : (l n : K) → (told → given n ≡ given l) → (told → written n ≡ written l) → Passed told given written l n [] []
-  gave_none l n h k = gave l n [] (λ t. h t ∙ sym (append-nil (given l))) k
+  pub gave_none : (l n : K) → (told → (left n ≡ left l) × (given n ≡ given l)) → (told → written n ≡ written l)
+      → Passed told given left written l n [] []
+  gave_none l n h k = gave l n [] (λ t. (h t).1 ∙ sym (append-nil (given l))) (λ t. sym (h t).0) k
 
   -- it took more of a text
-  pub more_written : (l m n : K) (text : List ℕ) (at count : ℕ) → HasWritten told given written l m (take at text)
-      → (told → written n ≡ written m ++ take count (take (length text - at) (drop at text))) → (told → given n ≡ given m)
-      → HasWritten told given written l n (take (at + count) text)
+  pub more_written : (l m n : K) (text : List ℕ) (at count : ℕ) → HasWritten told given left written l m (take at text)
+      → (told → written n ≡ written m ++ take count (take (length text - at) (drop at text)))
+      → (told → (left n ≡ left m) × (given n ≡ given m)) → HasWritten told given left written l n (take (at + count) text)
   more_written l m n text at count h w k =
       let piece : List ℕ = take count (take (length text - at) (drop at text)) in
       record {
-        given_is = λ t. k t ∙ h.given_is t;
+        given_is = λ t. (k t).1 ∙ h.given_is t;
+        left_is = λ t. h.left_is t ∙ sym (k t).0;
         written_is = λ t. w t ∙ ap (λ (z : List ℕ). z ++ piece) (h.written_is t) ∙ append_assoc (written l) (take at text) piece
             ∙ ap (λ (z : List ℕ). written l ++ z) (take_on at count text);
       }
 
   -- it took the whole
-  pub all_written : (l n : K) (text : List ℕ) (at : ℕ) → length text ≤ at → HasWritten told given written l n (take at text)
-      → HasWritten told given written l n text
-  all_written l n text at past h = subst (λ (z : List ℕ). HasWritten told given written l n z) (take_all at text past) h
+  pub all_written : (l n : K) (text : List ℕ) (at : ℕ) → length text ≤ at → HasWritten told given left written l n (take at text)
+      → HasWritten told given left written l n text
+  all_written l n text at past h = subst (λ (z : List ℕ). HasWritten told given left written l n z) (take_all at text past) h
 
   -- it took a front, and then failed
-  pub front_written : (l m n : K) (text : List ℕ) (at : ℕ) → HasWritten told given written l m (take at text)
-      → (told → written n ≡ written m) → (told → given n ≡ given m)
-      → (wrote : List ℕ) × (lost : List ℕ) × (wrote ++ lost ≡ text) × HasWritten told given written l n wrote
+  pub front_written : (l m n : K) (text : List ℕ) (at : ℕ) → HasWritten told given left written l m (take at text)
+      → (told → written n ≡ written m) → (told → (left n ≡ left m) × (given n ≡ given m))
+      → (wrote : List ℕ) × (lost : List ℕ) × (wrote ++ lost ≡ text) × HasWritten told given left written l n wrote
   front_written l m n text at h w k = (
     take at text,
     drop at text,
     take-append-drop at text,
-    record { given_is = λ t. k t ∙ h.given_is t; written_is = λ t. w t ∙ h.written_is t },
+    record {
+      given_is = λ t. (k t).1 ∙ h.given_is t;
+      left_is = λ t. h.left_is t ∙ sym (k t).0;
+      written_is = λ t. w t ∙ h.written_is t;
+    },
   )
 
   -- what it took behind a call that neither gave nor took a byte
-  pub written_behind : (l m n : K) (wrote : List ℕ) → (told → given m ≡ given l) → (told → written m ≡ written l)
-      → HasWritten told given written m n wrote → HasWritten told given written l n wrote
+  pub written_behind : (l m n : K) (wrote : List ℕ) → (told → (left m ≡ left l) × (given m ≡ given l)) → (told → written m ≡ written l)
+      → HasWritten told given left written m n wrote → HasWritten told given left written l n wrote
   written_behind l m n wrote g w h =
       record {
-        given_is = λ t. h.given_is t ∙ ap (λ (z : List ℕ). z ++ []) (g t);
+        given_is = λ t. h.given_is t ∙ ap (λ (z : List ℕ). z ++ []) (g t).1;
+        left_is = λ t. sym (g t).0 ∙ h.left_is t;
         written_is = λ t. h.written_is t ∙ ap (λ (z : List ℕ). z ++ wrote) (w t);
       }
 
-  pub front_behind : (l m n : K) (text : List ℕ) → (told → given m ≡ given l) → (told → written m ≡ written l)
-      → ((wrote : List ℕ) × (lost : List ℕ) × (wrote ++ lost ≡ text) × HasWritten told given written m n wrote)
-      → (wrote : List ℕ) × (lost : List ℕ) × (wrote ++ lost ≡ text) × HasWritten told given written l n wrote
+  pub front_behind : (l m n : K) (text : List ℕ) → (told → (left m ≡ left l) × (given m ≡ given l)) → (told → written m ≡ written l)
+      → ((wrote : List ℕ) × (lost : List ℕ) × (wrote ++ lost ≡ text) × HasWritten told given left written m n wrote)
+      → (wrote : List ℕ) × (lost : List ℕ) × (wrote ++ lost ≡ text) × HasWritten told given left written l n wrote
   front_behind l m n text g w (wrote, lost, joined, passed) = (wrote, lost, joined, written_behind l m n wrote g w passed)
 
-module _ {K : Type 0} (told : Type 0) (given written : K → List ℕ) (faults : K → ℕ) where
+module _ {K : Type 0} (told : Type 0) (given left written : K → List ℕ) (faults : K → ℕ) where
   -- an answer of which a front was written
-  pub put_fails : (l n : K) (answer : Result (List ℕ) ConnEnd) (bytes text : List ℕ) (count : ℕ) → answer ≡ Ok bytes → text ≡ bytes
-      → count ≡ faults n → Rose (faults l) (faults n)
-      → ((wrote : List ℕ) × (lost : List ℕ) × (wrote ++ lost ≡ text) × HasWritten told given written l n wrote)
-      → PutFails told given written faults l answer n (LinkFault count)
-  put_fails l n answer bytes text count is same counts rose (wrote, lost, joined, passed) =
+  pub put_fails : (l n : K) (answer : List ℕ) (count : ℕ) → count ≡ faults n → Rose (faults l) (faults n)
+      → ((wrote : List ℕ) × (lost : List ℕ) × (wrote ++ lost ≡ answer) × HasWritten told given left written l n wrote)
+      → PutFails told given left written faults l answer n (LinkFault count)
+  put_fails l n answer count counts rose (wrote, lost, joined, passed) =
       record {
         wrote = wrote;
         lost = lost;
-        answer_is = is ∙ ap Ok (sym (joined ∙ same));
+        answer_is = sym joined;
         passed = passed;
         is = ap LinkFault counts;
         rose = rose;
       }
 
-module _ {K : Type 0} (told : Type 0) (given written : K → List ℕ) (faults : K → ℕ) (ended : K → Bool) where
+module _ {K : Type 0} (told : Type 0) (given left written : K → List ℕ) (faults : K → ℕ) (ended : K → Bool) where
   -- a read gave nothing
   pub feeds_end : (l n : K) (s buffer : List ℕ) (count : ℕ) → count ≡ 0 → 0 < length buffer
-      → (told → given n ≡ given l ++ take count buffer) → (told → written n ≡ written l) → faults n ≡ faults l
-      → ended n ≡ (ended l || is_link_end count buffer) → Feeds told given written faults ended l s n s (Err None)
-  feeds_end l n s buffer count is some h k calm e =
+      → (told → given n ≡ given l ++ take count buffer) → (told → LinkGives (left l) count buffer (left n)) → (told → written n ≡ written l)
+      → faults n ≡ faults l → ended n ≡ (ended l || is_link_end count buffer)
+      → Feeds told given left written faults ended l s n s (Err None)
+  feeds_end l n s buffer count is some h r k calm e =
       let none : told → given n ≡ given l ++ [] = λ t. h t ∙ ap (λ (x : ℕ). given l ++ take x buffer) is in
-      (gave told given written l n [] none k, calm, at_end (ended l) (ended n) buffer count is some e, refl)
+      let same : told → left l ≡ left n = λ t. (r t).next ∙ ap (λ (x : ℕ). take x buffer ++ left n) is in
+      (gave told given left written l n [] none same k, calm, at_end (ended l) (ended n) buffer count is some e, refl)
 
   -- what a read gave found no memory
-  pub feeds_lack : (l n : K) (s s' bytes : List ℕ) → (told → given n ≡ given l ++ bytes) → (told → written n ≡ written l)
-      → faults n ≡ faults l → s' ≡ s → Feeds told given written faults ended l s n s' (Err (Some Memory))
-  feeds_lack l n s s' bytes h k calm same = (bytes, gave told given written l n bytes h k, same, inr (refl, calm))
+  pub feeds_lack : (l n : K) (s s' buffer : List ℕ) (count : ℕ) → (told → given n ≡ given l ++ take count buffer)
+      → (told → LinkGives (left l) count buffer (left n)) → (told → written n ≡ written l) → faults n ≡ faults l → s' ≡ s
+      → Feeds told given left written faults ended l s n s' (Err (Some Memory))
+  feeds_lack l n s s' buffer count h r k calm same =
+      (take count buffer, gave told given left written l n (take count buffer) h (λ t. (r t).next) k, same, inr (refl, calm))
 
   -- a read failed
-  pub feeds_fail : (l n : K) (s : List ℕ) (count : ℕ) → (told → given n ≡ given l) → (told → written n ≡ written l) → count ≡ faults n
-      → Rose (faults l) (faults n) → Feeds told given written faults ended l s n s (Err (Some (LinkFault count)))
-  feeds_fail l n s count h k counts rose = ([], gave_none told given written l n h k, refl, inl (ap LinkFault counts, rose, refl))
+  pub feeds_fail : (l n : K) (s : List ℕ) (count : ℕ) → (told → (left n ≡ left l) × (given n ≡ given l)) → (told → written n ≡ written l)
+      → count ≡ faults n → Rose (faults l) (faults n) → Feeds told given left written faults ended l s n s (Err (Some (LinkFault count)))
+  feeds_fail l n s count h k counts rose = ([], gave_none told given left written l n h k, refl, inl (ap LinkFault counts, rose, refl))
 
   -- what a read gave stands behind the stream
-  pub feeds_more : (l n : K) (s s' bytes : List ℕ) (x : Unit) → (told → given n ≡ given l ++ bytes) → (told → written n ≡ written l)
-      → faults n ≡ faults l → s' ≡ s ++ bytes → Feeds told given written faults ended l s n s' (Ok x)
-  feeds_more l n s s' bytes x h k calm more = (bytes, gave told given written l n bytes h k, calm, more)
+  pub feeds_more : (l n : K) (s s' buffer : List ℕ) (count : ℕ) (x : Unit) → (told → given n ≡ given l ++ take count buffer)
+      → (told → LinkGives (left l) count buffer (left n)) → (told → written n ≡ written l) → faults n ≡ faults l
+      → s' ≡ s ++ take count buffer → Feeds told given left written faults ended l s n s' (Ok x)
+  feeds_more l n s s' buffer count x h r k calm more =
+      (take count buffer, gave told given left written l n (take count buffer) h (λ t. (r t).next) k, calm, more)

@@ -1,12 +1,12 @@
 -- Frames of a connection that were answered, one behind the other.
-use Rattle.std.proofs.Common.{◌≡◌, ℕ, List, [], ◌∷◌, ◌++◌, refl, sym, ap, ◌∙◌, subst, append_assoc}
+use Rattle.std.proofs.Common.{Bool, ◌≡◌, ℕ, List, [], ◌∷◌, ◌++◌, refl, sym, ap, ◌∙◌, subst, append_assoc}
 use Rattle.std.proofs.lemmas.List.{append-nil}
 use Rattle.spec_wire.specs.messages.Frames.{Frames}
 use Rattle.law_wire.proofs.messages.Streams.{whole_stays}
 use Rattle.spec_world.specs.Answering.{Seal}
 use Rattle.spec_world.specs.Ends.{ServerEnd}
 use Rattle.spec_world.specs.Settings.{ServerSettings}
-use Rattle.serve_turns.specs.connection_turns.Frames.{Answers, AnswersAll, AreAtOnce}
+use Rattle.serve_turns.specs.connection_turns.Frames.{Answers, AnswersAll, AreAtOnce, AreOfSuch}
 use Rattle.serve_turns.specs.event_book.History.{AllMeet, Course, Placed}
 
 pub meet_front : (z : ServerSettings) (h : Course) (xs ys : List Placed) → AllMeet z h (xs ++ ys) → AllMeet z h xs
@@ -21,6 +21,10 @@ pub once_both : (now : ℕ) (fresh : List ℕ) (xs ys : List Placed) → AreAtOn
     → AreAtOnce now fresh (xs ++ ys)
 once_both now fresh [] ys a b = b
 once_both now fresh (x ∷ xs) ys a b = (a.0, a.1, once_both now fresh xs ys a.2 b)
+
+pub such_both : (setup : Bool) (xs ys : List Placed) → AreOfSuch setup xs → AreOfSuch setup ys → AreOfSuch setup (xs ++ ys)
+such_both setup [] ys a b = b
+such_both setup (x ∷ xs) ys a b = (a.0, such_both setup xs ys a.1 b)
 
 joined : {A : Type 0} (a b c d : List A) → a ≡ b ++ c → a ++ d ≡ b ++ (c ++ d)
 joined a b c d e = ap (λ l. l ++ d) e ∙ append_assoc b c d

@@ -1,6 +1,6 @@
 -- One frame of a connection: what was checked of it, the turns of its messages, and its answer, as one step of what was given.
 use Rattle.std.proofs.Common.{◌≡◌, ◌≤◌, ℕ, Bool, true, false, not, ◌&&◌, List, [], ◌∷◌, length, take, Option, Some, None, Result, Ok, Err}
-use Rattle.std.proofs.Common.{inl, inr, refl, sym, ap, subst, ◌∙◌, append-nil, arith}
+use Rattle.std.proofs.Common.{Vec, Global, inl, inr, refl, sym, ap, subst, ◌∙◌, append-nil, arith}
 use Rattle.std.specs.Prelude.{is_some}
 use Rattle.spec_exchange.specs.State as model
 use Rattle.spec_exchange.specs.Fold.{nothing_yet}
@@ -174,13 +174,13 @@ module _ (z : ServerSettings) (h : Course) (k : ℕ) (f : ServerEnd) (before : �
           (given_frame F d).step why (alike_due F (alone d) sealed goes is) cause;
     }
 
-    said : (d : gives.Dealt) (sealed : Bool) (new : ConnectionState) (result : Result (List ℕ) ConnEnd)
+    said : (d : gives.Dealt) (sealed : Bool) (new : ConnectionState) (result : Result (Vec ℕ Global) ConnEnd)
         → DealtBy z h k now fresh server logons F.server_end before F.messages turns d → new.setups ≡ d.setups → d.stopped ≡ None
         → F.sealed ≡ sealed
         → WalkReplies k z.guid (walk_replied d.going.server d.going.logons F.server_end sealed d.going.window d.going.replies) new.conn result
         → FrameComes z h k f before frame turns result new
-    said d sealed new (Ok bytes) by count goes is w =
-        let on = walked d sealed new.conn bytes goes is w in (
+    said d sealed new (Ok v) by count goes is w =
+        let on = walked d sealed new.conn v.items goes is w in (
           (given_frame F d).step.server_end,
           (given_frame F d).step.sealings,
           record {
@@ -229,9 +229,9 @@ module _ (z : ServerSettings) (h : Course) (k : ℕ) (f : ServerEnd) (before : �
         (subst (λ (i : ℕ). MessagesEnd z h i now fresh server logons F.server_end old F.messages turns new x e (Err why)) number end)
 
     -- they were, and here is what came of the answer
-    pub frame_comes : (j : ℕ) (old mid new : ConnectionState) (at x : CheckedFrame) (e : Dealt) (result : Result (List ℕ) ConnEnd)
-        → j ≡ k → old.setups ≡ before → new.setups ≡ mid.setups → F.sealed ≡ at.sealed → (x.sealed ≡ at.sealed) × (x.moment ≡ at.moment)
-        → at.moment ≡ now → (at.sealed ≡ true → MaySeal F.server_end.keys) → GreetsFirst F.messages
+    pub frame_comes : (j : ℕ) (old mid new : ConnectionState) (at x : CheckedFrame) (e : Dealt)
+        (result : Result (Vec ℕ Global) ConnEnd) → j ≡ k → old.setups ≡ before → new.setups ≡ mid.setups → F.sealed ≡ at.sealed
+        → (x.sealed ≡ at.sealed) × (x.moment ≡ at.moment) → at.moment ≡ now → (at.sealed ≡ true → MaySeal F.server_end.keys) → GreetsFirst F.messages
         → AreAsked F.server_end.asked F.messages → F.server_end.counter ≤ last_counter → ShowsEnd k z.guid mid.conn F.server_end
         → MessagesEnd z h j now fresh server logons F.server_end old F.messages turns mid x e (Ok tt)
         → ((s : model.Server) (L : Logons) (cs : List hearing.Checked) (ss : List answering.SaidReply) (w : HeldIds)

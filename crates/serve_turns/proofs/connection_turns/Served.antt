@@ -1,5 +1,6 @@
 -- A connection that was served, from its parts.
-use Rattle.std.proofs.Common.{◌≡◌, ℕ, Bool, true, false, List, [], ◌∷◌, ◌++◌, Option, Some, None, inl, inr, refl, sym, ap, ◌∙◌, append_assoc}
+use Rattle.std.proofs.Common.{◌≡◌, ℕ, Bool, true, false, List, [], ◌∷◌, ◌++◌}
+use Rattle.std.proofs.Common.{Option, Some, None, inl, inr, refl, sym, ap, ◌∙◌, append_assoc}
 use Rattle.std.proofs.Common.{subst, arith}
 use Rattle.std.proofs.lemmas.List.{append-nil}
 use Rattle.spec_world.specs.Ends.{first_server_end}
@@ -25,12 +26,12 @@ use Rattle.serve_turns.proofs.connection_turns.Linking.{passed_none}
 idle : (f : ℕ) → IsTurnIdle [] [] f f
 idle f = record { nothing_came = refl; nothing_written = refl; calm = refl }
 
-module _ {B K : Type 0} (told : Type 0) (given written : K → List ℕ) (faults : K → ℕ) (ended : K → Bool) where
+module _ {B K : Type 0} (told : Type 0) (given left written : K → List ℕ) (faults : K → ℕ) (ended : K → Bool) where
   -- its frames, and the turn in which it was lost
   pub rest_served : (guid : List ℕ) (number : ℕ) (v u w : View B Turn Answer) (c : ConnectionState) (salt : List ℕ) (l n : K)
       (why : Option ConnEnd) (last : EventAnswer) (end : Ended) → ShowsEnd number guid c.conn (first_server_end salt) → c.setups ≡ 0
-      → Stops told given written faults ended v c [] l u n why → HearsOnce u (End number) last w → end ≡ ended_of why last
-      → OnLinkTaken told given written faults ended guid number v l end w n
+      → Stops told given left written faults ended v c [] l u n why → HearsOnce u (End number) last w → end ≡ ended_of why last
+      → OnLinkTaken told given left written faults ended guid number v l end w n
   rest_served guid number v u w c salt l n why last end shows none stops hears is =
       record {
         came = stops.came;
@@ -71,12 +72,12 @@ module _ {B K : Type 0} (told : Type 0) (given written : K → List ℕ) (faults
   -- there was no room for its state
   pub rest_lacked : (guid : List ℕ) (number : ℕ) (v w : View B Turn Answer) (l : K) (last : EventAnswer) (end : Ended)
       → HearsOnce v (End number) last w → end ≡ ended_of (Some Memory) last
-      → OnLinkTaken told given written faults ended guid number v l end w l
+      → OnLinkTaken told given left written faults ended guid number v l end w l
   rest_lacked guid number v w l last end hears is =
       record {
         came = [];
         wrote = [];
-        passed = passed_none told given written l;
+        passed = passed_none told given left written l;
         rest = record {
           turns = hears.turn ∷ [];
           own = hears.own;
@@ -99,20 +100,20 @@ module _ {B K : Type 0} (told : Type 0) (given written : K → List ℕ) (faults
 
   -- either of both
   pub rest_by : (guid : List ℕ) (number : ℕ) (v u w : View B Turn Answer) (l n : K) (why : Option ConnEnd) (last : EventAnswer)
-      (end : Ended) → OnLinkFrames told given written faults ended guid number v l why u n → HearsOnce u (End number) last w
-      → end ≡ ended_of why last → OnLinkTaken told given written faults ended guid number v l end w n
+      (end : Ended) → OnLinkFrames told given left written faults ended guid number v l why u n → HearsOnce u (End number) last w
+      → end ≡ ended_of why last → OnLinkTaken told given left written faults ended guid number v l end w n
   rest_by guid number v u w l n why last end (inl (c, salt, shows, none, stops)) hears is =
       rest_served guid number v u w c salt l n why last end shows none stops hears is
   rest_by guid number v u w l n why last end (inr (lacks, seat, link)) hears is =
-      subst (λ (x : K). OnLinkTaken told given written faults ended guid number v l end w x) (sym link)
+      subst (λ (x : K). OnLinkTaken told given left written faults ended guid number v l end w x) (sym link)
       (rest_lacked guid number v w l last end (subst (λ (x : View B Turn Answer). HearsOnce x (End number) last w) seat hears)
       (is ∙ ap (λ (o : Option ConnEnd). ended_of o last) lacks))
 
   -- behind the turn that took it in
   pub taken_served : (guid : List ℕ) (number : ℕ) (v u w : View B Turn Answer) (l n : K) (first : EventAnswer) (end : Ended)
       → HearsOnce v (Accept number) first u → refusal_of first ≡ None
-      → OnLinkTaken told given written faults ended guid number u l end w n
-      → OnLink told given written faults ended guid number v l end w n
+      → OnLinkTaken told given left written faults ended guid number u l end w n
+      → OnLink told given left written faults ended guid number v l end w n
   taken_served guid number v u w l n first end hears taken h =
       record {
         came = h.came;
@@ -130,12 +131,12 @@ module _ {B K : Type 0} (told : Type 0) (given written : K → List ℕ) (faults
   -- it was not taken in
   pub refused_served : (guid : List ℕ) (number : ℕ) (v w : View B Turn Answer) (l : K) (first : EventAnswer) (why : ConnEnd) (end : Ended)
       → HearsOnce v (Accept number) first w → refusal_of first ≡ Some why → has_lost first ≡ false → end ≡ ended_by why
-      → OnLink told given written faults ended guid number v l end w l
+      → OnLink told given left written faults ended guid number v l end w l
   refused_served guid number v w l first why end hears refused kept is =
       record {
         came = [];
         wrote = [];
-        passed = passed_none told given written l;
+        passed = passed_none told given left written l;
         served = record {
           turns = hears.turn ∷ [];
           own = hears.own;
@@ -165,12 +166,12 @@ module _ {B K : Type 0} (told : Type 0) (given written : K → List ℕ) (faults
 
   pub lost_served : (guid : List ℕ) (number : ℕ) (v u w : View B Turn Answer) (l : K) (first last : EventAnswer) (why : ConnEnd)
       (end : Ended) → HearsOnce v (Accept number) first u → refusal_of first ≡ Some why → has_lost first ≡ true
-      → HearsOnce u (End number) last w → end ≡ ended_by why → OnLink told given written faults ended guid number v l end w l
+      → HearsOnce u (End number) last w → end ≡ ended_by why → OnLink told given left written faults ended guid number v l end w l
   lost_served guid number v u w l first last why end hears refused lost gone is =
       record {
         came = [];
         wrote = [];
-        passed = passed_none told given written l;
+        passed = passed_none told given left written l;
         served = record {
           turns = hears.turn ∷ (gone.turn ∷ []);
           own = gone.own ∙ ap (λ (l : List Placed). l ++ gone.turn ∷ []) hears.own
@@ -201,7 +202,7 @@ module _ {B K : Type 0} (told : Type 0) (given written : K → List ℕ) (faults
 
   let_go_by : (guid : List ℕ) (number : ℕ) (v u w : View B Turn Answer) (l : K) (first : EventAnswer) (why : ConnEnd) (end : Ended)
       (lost : Bool) → has_lost first ≡ lost → HearsOnce v (Accept number) first u → refusal_of first ≡ Some why → LetsGoBy lost number u w
-      → end ≡ ended_by why → OnLink told given written faults ended guid number v l end w l
+      → end ≡ ended_by why → OnLink told given left written faults ended guid number v l end w l
   let_go_by guid number v u w l first why end true lost hears refused goes is =
       lost_served guid number v u w l first goes.0 why end hears refused lost goes.1 is
   let_go_by guid number v u w l first why end false kept hears refused goes is =
@@ -210,7 +211,7 @@ module _ {B K : Type 0} (told : Type 0) (given written : K → List ℕ) (faults
 
   pub let_go : (guid : List ℕ) (number : ℕ) (v u w : View B Turn Answer) (l : K) (first : EventAnswer) (why : ConnEnd) (end : Ended)
       → HearsOnce v (Accept number) first u → refusal_of first ≡ Some why → LetsGo number first u w → end ≡ ended_by why
-      → OnLink told given written faults ended guid number v l end w l
+      → OnLink told given left written faults ended guid number v l end w l
   let_go guid number v u w l first why end hears refused goes is =
       let_go_by guid number v u w l first why end (has_lost first) refl hears refused goes is
 
@@ -218,8 +219,9 @@ module _ {B K : Type 0} (told : Type 0) (given written : K → List ℕ) (faults
   pub serves_by : (serves : ℕ → Passage → View B Turn Answer → Ended → View B Turn Answer → Type 0) (place : ℕ) (guid : List ℕ)
       (number : ℕ) (v w : View B Turn Answer) (l m n : K) (end : Ended)
       → ((p : Passage) → Serves guid number p v end w → serves place p v end w)
-      → OnLink told given written faults ended guid number v l end w m → (told → (given n ≡ given m) × (written n ≡ written m))
-      → ended n ≡ ended m → faults n ≡ faults m → ServesOn told given written faults ended serves place v l end w n
+      → OnLink told given left written faults ended guid number v l end w m →
+      (told → (left n ≡ left m) × (given n ≡ given m) × (written n ≡ written m))
+      → ended n ≡ ended m → faults n ≡ faults m → ServesOn told given left written faults ended serves place v l end w n
   serves_by serves place guid number v w l m n end is h still open_still calm =
       record {
         passage = record {
@@ -231,8 +233,9 @@ module _ {B K : Type 0} (told : Type 0) (given written : K → List ℕ) (faults
         };
         passes = record {
           bytes = record {
-            given_is = λ t. (still t).0 ∙ h.passed.given_is t;
-            written_is = λ t. (still t).1 ∙ h.passed.written_is t;
+            given_is = λ t. (still t).1 ∙ h.passed.given_is t;
+            left_is = λ t. h.passed.left_is t ∙ ap (λ (z : List ℕ). h.came ++ z) (sym (still t).0);
+            written_is = λ t. (still t).2 ∙ h.passed.written_is t;
           };
           before = refl;
           behind = sym calm;
@@ -245,8 +248,8 @@ module _ {B K : Type 0} (told : Type 0) (given written : K → List ℕ) (faults
   pub serves_none : (serves : ℕ → Passage → View B Turn Answer → Ended → View B Turn Answer → Type 0) (place : ℕ) (guid : List ℕ)
       (number : ℕ) (v : View B Turn Answer) (l n : K) (end : Ended)
       → ((p : Passage) → Serves guid number p v end v → serves place p v end v) → end ≡ ended_by Memory
-      → (told → (given n ≡ given l) × (written n ≡ written l)) → faults n ≡ faults l
-      → ServesOn told given written faults ended serves place v l end v n
+      → (told → (left n ≡ left l) × (given n ≡ given l) × (written n ≡ written l)) → faults n ≡ faults l
+      → ServesOn told given left written faults ended serves place v l end v n
   serves_none serves place guid number v l n end as_served is still calm =
       record {
         passage = record {
@@ -258,8 +261,9 @@ module _ {B K : Type 0} (told : Type 0) (given written : K → List ℕ) (faults
         };
         passes = record {
           bytes = record {
-            given_is = λ t. (still t).0 ∙ sym (append-nil (given l));
-            written_is = λ t. (still t).1 ∙ sym (append-nil (written l));
+            given_is = λ t. (still t).1 ∙ sym (append-nil (given l));
+            left_is = λ t. sym (still t).0;
+            written_is = λ t. (still t).2 ∙ sym (append-nil (written l));
           };
           before = refl;
           behind = refl;

@@ -15,7 +15,7 @@ use Rattle.conn_core.specs.declared.end.ConnEnd.{ConnEnd}
 use Rattle.conn_core.specs.declared.end.ConnEnd.TheVariants as ends
 use Rattle.conn_core.specs.declared.frame_messages.checked.Checked.{Checked}
 use Rattle.conn_core.specs.declared.frame_messages.checked.CheckedFrame.{CheckedFrame}
-use Rattle.conn_core.specs.frame_messages.Checking.{AreInOrder, message_in}
+use Rattle.conn_core.specs.frame_messages.Checking.{AreInOrder, holds_setup, message_in}
 use Rattle.conn_core.specs.declared.frame_events.handing.Dealt.{Dealt}
 use Rattle.conn_core.specs.declared.related.related.Carry.{Carry}
 use Rattle.conn_core.specs.frame_events.Dealing.{AddsTo, DealsOne, EventAnswer, RefusesOne}
@@ -27,9 +27,9 @@ use Rattle.conn_core.proofs.frame_events.Sharing.{alone}
 use Rattle.conn_core.proofs.frame_events.Shorts.{kept_err, kept_ok, long_err, long_ok, short_one, short_refused}
 use Rattle.conn_core.proofs.frame_events.SoFar.{facts_moved}
 use Rattle.conn_core.proofs.frame_events.Stepping.{Place, carried_so, ready_fails, ready_goes}
-use Rattle.serve_turns.specs.connection_turns.Frames.{AreAtOnce, HasBytes}
-use Rattle.serve_turns.specs.connection_turns.Messages.{AsksNothing, DealsInTurn, MessageSteps, MessagesSoFar, RefusesLate, TakesMessage}
-use Rattle.serve_turns.specs.connection_turns.Messages.{TakesTurn}
+use Rattle.serve_turns.specs.connection_turns.Frames.{AreAtOnce, AreOfSuch, HasBytes, IsOfSuch}
+use Rattle.serve_turns.specs.connection_turns.Messages.{AsksNothing, DealsBy, DealsInTurn, MessageSteps, MessagesSoFar, RefusesLate}
+use Rattle.serve_turns.specs.connection_turns.Messages.{TakesMessage}
 use Rattle.serve_turns.specs.connection_turns.Turning.{message_turn}
 use Rattle.serve_turns.specs.declared.connection_turns.state.ConnectionState.{ConnectionState}
 use Rattle.serve_turns.specs.declared.event_book.turn.Answer.{Answer}
@@ -38,7 +38,7 @@ use Rattle.serve_turns.specs.declared.event_book.turn.Turn.{Turn}
 use Rattle.serve_turns.specs.declared.event_book.turn.What.{What}
 use Rattle.serve_turns.specs.declared.shared_book.view.View.{View}
 use Rattle.serve_turns.specs.event_book.History.{Course, Placed}
-use Rattle.serve_turns.proofs.connection_turns.Taking.{Turned, early_of, late_of, message_answered, message_ends, message_fails}
+use Rattle.serve_turns.proofs.connection_turns.Taking.{Turned, message_answered, message_ends, message_fails}
 use Rattle.serve_turns.proofs.connection_turns.Taking.{message_lacks, message_plain, message_refused}
 
 -- what the message at its place became by what was handed to it
@@ -50,6 +50,7 @@ pub record Became (y : Option related.Carry) (old x : CheckedFrame) (at : ℕ) (
   pub here : slice_get x.messages.items at ≡ Some n
   pub span : n.span ≡ m.span
   pub link : n.related ≡ m.related
+  pub setups : holds_setup x.messages.items ≡ holds_setup old.messages.items
 
 abbrev pub InheritsAs : Option related.Carry → CheckedFrame → CheckedFrame → Checked → Checked → Bool → Type 0
 InheritsAs y old x m n goes = (c : hearing.Checked) → IsCarried m (message_in old.bytes.items m) c → c.related ≡ m.related
@@ -76,6 +77,15 @@ once_by : (now : ℕ) (fresh : List ℕ) (turn : Placed) (a : Asks) → turn.1.e
     → AreAtOnce now fresh (turn ∷ [])
 once_by now fresh turn a is bytes =
     (ap (λ (t : Turn). t.now) is, subst (λ (w : What). HasBytes fresh w) (sym (ap (λ (t : Turn). t.what) is)) bytes, tt)
+
+-- and is of the frame that it was given
+such_by : (now : ℕ) (setup : Bool) (turn : Placed) (a : Asks) (x : CheckedFrame) → turn.1.event ≡ message_turn now a → a.frame ≡ x
+    → holds_setup x.messages.items ≡ setup → AreOfSuch setup (turn ∷ [])
+such_by now setup turn a x is frame holds = (
+  subst (λ (w : What). IsOfSuch setup w) (sym (ap (λ (t : Turn). t.what) is))
+      (ap (λ (y : CheckedFrame). holds_setup y.messages.items) frame ∙ holds),
+  tt,
+)
 
 module _ (z : ServerSettings) (h : Course) (conn : Conn) (now : ℕ) (fresh : List ℕ) (server : model.Server) (logons : Logons)
     (f : ServerEnd) (before : ℕ) (cs : List hearing.Checked) (at : ℕ)
@@ -173,6 +183,7 @@ module _ {B : Type 0} (v w : View B Turn Answer) (now : ℕ) (fresh : List ℕ) 
     turns = [];
     own = ap (λ (u : View B Turn Answer). u.own) stays ∙ sym (append-nil v.own);
     at_once = tt;
+    of_frame = tt;
     conn = ap (λ (q : ConnectionState). q.conn) same;
     steps = λ z h server logons f cs before former all conn alone long s.
         subst (λ (k : ℕ). MessageSteps z h state.conn.id now fresh server logons f before cs (at + 1) (former ++ []) k x e (handed result))
@@ -183,58 +194,49 @@ module _ {B : Type 0} (v w : View B Turn Answer) (now : ℕ) (fresh : List ℕ) 
       → RefusesLate v state n (message_in x.bytes.items n) y d new e result w → TakesMessage v now fresh state old at y d new x e
       (handed result) w
   taken_late result turn late =
-      let p = late_of n state.setups late.late in
       none_taken result turn late.state late.same (λ z h server logons f cs before former s long.
       late_so z h state.conn now fresh server logons f before cs at former state.setups old d y s x m n b e result
-      (ready z h state.conn now fresh server logons f before cs at former state.setups old d y s x m n b turn long) p.0 p.1 late.refuses)
+      (ready z h state.conn now fresh server logons f before cs at former state.setups old d y s x m n b turn long) late.event late.late
+      late.refuses)
 
-  taken_plain : (result : Result Carry ConnEnd) (given : EventAnswer) → InheritsAs y old x m n true
-      → DealsOne n (message_in x.bytes.items n) y given d e result → AsksNothing v state n new given w
-      → TakesMessage v now fresh state old at y d new x e (handed result) w
-  taken_plain result given turn deals asks =
-      let none : DealsOne n (message_in x.bytes.items n) y None d e result =
-      subst (λ (g : EventAnswer). DealsOne n (message_in x.bytes.items n) y g d e result) asks.is deals in
+  taken_plain : (result : Result Carry ConnEnd) → InheritsAs y old x m n true
+      → AsksNothing v state n (message_in x.bytes.items n) y d new e result w → TakesMessage v now fresh state old at y d new x e
+      (handed result) w
+  taken_plain result turn asks =
       none_taken result turn asks.state asks.same (λ z h server logons f cs before former s long.
       none_so z h state.conn now fresh server logons f before cs at former state.setups old d y s x m n b e result
-      (ready z h state.conn now fresh server logons f before cs at former state.setups old d y s x m n b turn long) asks.none none)
+      (ready z h state.conn now fresh server logons f before cs at former state.setups old d y s x m n b turn long) asks.none asks.deals)
 
-  taken_turn : (result : Result Carry ConnEnd) (given : EventAnswer) → InheritsAs y old x m n true
-      → (has_message_event n && is_past_setups state.setups n.header) ≡ false
-      → DealsOne n (message_in x.bytes.items n) y given d e result → TakesTurn v now fresh state x at n new given w
+  taken_turn : (result : Result Carry ConnEnd) → InheritsAs y old x m n true → DealsInTurn v now fresh state x at n y d new e result w
       → TakesMessage v now fresh state old at y d new x e (handed result) w
-  taken_turn result given turn early deals asks = record {
-    turns = asks.turn ∷ [];
-    own = asks.own;
-    at_once = once_by now fresh asks.turn asks.asks asks.is_turn asks.fresh_is;
-    conn = asks.conn;
+  taken_turn result turn one = record {
+    turns = one.takes.turn ∷ [];
+    own = one.takes.own;
+    at_once = once_by now fresh one.takes.turn one.takes.asks one.takes.is_turn one.takes.fresh_is;
+    of_frame = such_by now (holds_setup old.messages.items) one.takes.turn one.takes.asks x one.takes.is_turn one.takes.frame b.setups;
+    conn = one.takes.conn;
     steps = λ z h server logons f cs before former all shows alone long s.
         let r = ready z h state.conn now fresh server logons f before cs at former state.setups old d y s x m n b turn long in
-        let told = asks.told z.guid f n r.t shows b.here r.place.shows in
-        turn_so z h state.conn now fresh server logons f before cs at former state.setups old d y s x m n b new.setups given asks.turn e
-        result r asks.event
+        turn_so z h state.conn now fresh server logons f before cs at former state.setups old d y s x m n b new.setups one.given
+        one.takes.turn e result r one.takes.event
         (record {
-          asks = asks.asks;
-          frame = asks.frame;
-          place = asks.place;
-          told = told.0;
-          number = told.1;
-          is_turn = asks.is_turn;
-          is = asks.is;
+          asks = one.takes.asks;
+          frame = one.takes.frame;
+          place = one.takes.place;
+          told = one.takes.told z.guid f n r.t shows b.here r.place.shows;
+          number = one.takes.connection;
+          is_turn = one.takes.is_turn;
+          is = one.takes.is;
           meets = all.0;
-        }) (early_of n state.setups asks.event early) asks.setups deals;
+        }) one.early one.takes.setups one.deals;
   }
 
   -- it goes its way
   pub takes_going : (result : Result Carry ConnEnd) → InheritsAs y old x m n true
-      → RefusesLate v state n (message_in x.bytes.items n) y d new e result w ⊎ DealsInTurn v now fresh state x at n y d new e result w
-      → TakesMessage v now fresh state old at y d new x e (handed result) w
-  takes_going result turn (inl late) = taken_late result turn late
-  takes_going result turn (inr deals) = by deals.answers
-    where
-      by : AsksNothing v state n new deals.given w ⊎ TakesTurn v now fresh state x at n new deals.given w
-          → TakesMessage v now fresh state old at y d new x e (handed result) w
-      by (inl none) = taken_plain result deals.given turn deals.deals none
-      by (inr asks) = taken_turn result deals.given turn deals.early deals.deals asks
+      → DealsBy v now fresh state x at n y d new e result w → TakesMessage v now fresh state old at y d new x e (handed result) w
+  takes_going result turn (inl none) = taken_plain result turn none
+  takes_going result turn (inr (inl late)) = taken_late result turn late
+  takes_going result turn (inr (inr one)) = taken_turn result turn one
 
 -- it fails with a CREATE before it
 pub takes_failed : {B : Type 0} (v : View B Turn Answer) (now : ℕ) (fresh : List ℕ) (state : ConnectionState) (old x : CheckedFrame)
@@ -246,6 +248,7 @@ takes_failed v now fresh state old x at c d m n b turn = record {
   turns = [];
   own = sym (append-nil v.own);
   at_once = tt;
+  of_frame = tt;
   conn = refl;
   steps = λ z h server logons f cs before former all conn alone long s.
       fails_so z h state.conn now fresh server logons f before cs at former state.setups old d (option_map carry_of c) s x m n b turn long;
@@ -296,19 +299,19 @@ one_short m bytes y given d e (Err why) deals short = kept_err given d e why dea
 
 module _ {B : Type 0} where
   pub long_more : (v w : View B Turn Answer) (now : ℕ) (fresh : List ℕ) (old new : ConnectionState) (x : CheckedFrame) (at : ℕ)
-      (n : Checked)
-      (y : Option related.Carry) (d e : Dealt) (result : Result Carry ConnEnd)
-      → RefusesLate v old n (message_in x.bytes.items n) y d new e result w ⊎ DealsInTurn v now fresh old x at n y d new e result w
-      → length e.replies.items.items ≤ length d.replies.items.items + 1
-  long_more v w now fresh old new x at n y d e result (inl late) = late_long n (message_in x.bytes.items n) y d e result late.refuses
-  long_more v w now fresh old new x at n y d e result (inr one) = one_long n (message_in x.bytes.items n) y one.given d e result one.deals
+      (n : Checked) (y : Option related.Carry) (d e : Dealt) (result : Result Carry ConnEnd)
+      → DealsBy v now fresh old x at n y d new e result w → length e.replies.items.items ≤ length d.replies.items.items + 1
+  long_more v w now fresh old new x at n y d e result (inl none) = one_long n (message_in x.bytes.items n) y None d e result none.deals
+  long_more v w now fresh old new x at n y d e result (inr (inl late)) = late_long n (message_in x.bytes.items n) y d e result late.refuses
+  long_more v w now fresh old new x at n y d e result (inr (inr one)) =
+      one_long n (message_in x.bytes.items n) y one.given d e result one.deals
 
   pub short_more : (v w : View B Turn Answer) (now : ℕ) (fresh : List ℕ) (old new : ConnectionState) (x : CheckedFrame) (at : ℕ)
-      (n : Checked)
-      (y : Option related.Carry) (d e : Dealt) (result : Result Carry ConnEnd)
-      → RefusesLate v old n (message_in x.bytes.items n) y d new e result w ⊎ DealsInTurn v now fresh old x at n y d new e result w
-      → AreMessagesShort d.replies.items.items → AreMessagesShort e.replies.items.items
-  short_more v w now fresh old new x at n y d e result (inl late) short =
+      (n : Checked) (y : Option related.Carry) (d e : Dealt) (result : Result Carry ConnEnd)
+      → DealsBy v now fresh old x at n y d new e result w → AreMessagesShort d.replies.items.items → AreMessagesShort e.replies.items.items
+  short_more v w now fresh old new x at n y d e result (inl none) short =
+      one_short n (message_in x.bytes.items n) y None d e result none.deals short
+  short_more v w now fresh old new x at n y d e result (inr (inl late)) short =
       late_short n (message_in x.bytes.items n) y d e result late.refuses short
-  short_more v w now fresh old new x at n y d e result (inr one) short =
+  short_more v w now fresh old new x at n y d e result (inr (inr one)) short =
       one_short n (message_in x.bytes.items n) y one.given d e result one.deals short

@@ -178,25 +178,6 @@ counted_by before hd after true is count early =
     ∙ early_few before (sym (ap (λ (b : Bool). b && nat_le 4096 before) is) ∙ early))
 counted_by before hd after false is count early = count ∙ ap (λ (b : Bool). if b then min (before + 1) 4294967295 else before) is
 
--- ---- the test in front of it
-
-and_of : (a b : Bool) → a ≡ true → (a && b) ≡ false → b ≡ false
-and_of true b is e = e
-and_of false b is e = absurd cc
-
-both_of : (a b : Bool) → (a && b) ≡ true → (a ≡ true) × (b ≡ true)
-both_of true true e = (refl, refl)
-both_of true false e = absurd cc
-both_of false b e = absurd cc
-
-pub early_of : (m : Checked) (before : ℕ) → has_message_event m ≡ true → (has_message_event m && is_past_setups before m.header) ≡ false
-    → is_past_setups before m.header ≡ false
-early_of m before event e = and_of (has_message_event m) (is_past_setups before m.header) event e
-
-pub late_of : (m : Checked) (before : ℕ) → (has_message_event m && is_past_setups before m.header) ≡ true
-    → (has_message_event m ≡ true) × (is_past_setups before m.header ≡ true)
-late_of m before e = both_of (has_message_event m) (is_past_setups before m.header) e
-
 -- ---- a message that asks nothing: which one it is
 
 abbrev event_test : Option ℕ → Bool → Bool → Bool → Bool

@@ -1,5 +1,5 @@
 -- What is known of a connection before the answer to its next frame goes out.
-use Rattle.std.proofs.Common.{◌≡◌, ◌≤◌, ℕ, ◌+◌, Bool, List, [], ◌∷◌, ◌++◌, length, Option, None, Some, Result, Ok}
+use Rattle.std.proofs.Common.{◌≡◌, ◌≤◌, ℕ, ◌+◌, Bool, List, [], ◌∷◌, ◌++◌, length, Option, None, Some, Result, Ok, Vec, Global}
 use Rattle.std.proofs.Common.{refl, sym, ap, ◌∙◌, subst, append_assoc, arith}
 use Rattle.std.proofs.lemmas.List.{append-nil}
 use Rattle.spec_crypto.specs.sessions.Nonces.{last_counter}
@@ -94,11 +94,11 @@ last_of x (y ∷ ys) = let l = last_of y ys in (x ∷ l.0, l.1, ap (λ zs. x ∷
 
 -- ---- a connection that goes on
 
-module _ {B K : Type 0} (told : Type 0) (given written : K → List ℕ) (faults : K → ℕ) where
+module _ {B K : Type 0} (told : Type 0) (given left written : K → List ℕ) (faults : K → ℕ) where
   -- further frames were answered
   pub way_on : (guid : List ℕ) (k : ℕ) (begun u v : View B Turn Answer) (c d : ConnectionState) (s r : List ℕ) (first l n : K)
-      → IsUnderWay told given written guid k begun first u c s l → GoesOn told given written faults u c s l v d r n
-      → IsUnderWay told given written guid k begun first v d r n
+      → IsUnderWay told given left written guid k begun first u c s l → GoesOn told given left written faults u c s l v d r n
+      → IsUnderWay told given left written guid k begun first v d r n
   way_on guid k begun u v c d s r first l n way on = record {
     made = way.made;
     turns = way.turns ++ on.turns;
@@ -107,7 +107,7 @@ module _ {B K : Type 0} (told : Type 0) (given written : K → List ℕ) (faults
     taken_in = way.taken_in;
     came = way.came ++ on.came;
     wrote = way.wrote ++ on.wrote;
-    passed = passed_on told given written first l n way.came on.came way.wrote on.wrote way.passed on.passed;
+    passed = passed_on told given left written first l n way.came on.came way.wrote on.wrote way.passed on.passed;
     goes = λ z h guided meets.
         let m = way.goes z h guided (meet_front z h way.turns on.turns meets) in
         let shown : ShowsEnd c.conn.id z.guid c.conn m.1.behind =
@@ -119,7 +119,7 @@ module _ {B K : Type 0} (told : Type 0) (given written : K → List ℕ) (faults
         );
   }
 
-module _ {S K : Type 0} (told : Type 0) (given written : K → List ℕ)
+module _ {S K : Type 0} (told : Type 0) (given left written : K → List ℕ)
     (shows : S → Users → model.Server → Logons → List model.Record → Type 0) (stopped : S → Option ℕ) where
   abbrev V : Type 0
   V = View (EventBook S) Turn Answer
@@ -134,8 +134,8 @@ module _ {S K : Type 0} (told : Type 0) (given written : K → List ℕ)
       one a b e = cc
 
   -- The frame was answered, and the seat knows the history up to its last turn.
-  module _ (guid : List ℕ) (k : ℕ) (begun v w : V) (c d : ConnectionState) (s r frame answer : List ℕ) (first link : K)
-      (none_before : begun.own ≡ []) (way : IsUnderWay told given written guid k begun first v c s link)
+  module _ (guid : List ℕ) (k : ℕ) (begun v w : V) (c d : ConnectionState) (s r frame : List ℕ) (answer : Vec ℕ Global)
+      (first link : K) (none_before : begun.own ≡ []) (way : IsUnderWay told given left written guid k begun first v c s link)
       (whole : front s ≡ Whole frame r) (taken : FrameTaken v c frame (Ok answer) d w) (ends : EndsWithOwn w) where
     abbrev all : List Placed
     all = way.turns ++ taken.turns
@@ -156,27 +156,27 @@ module _ {S K : Type 0} (told : Type 0) (given written : K → List ℕ)
 
     -- the frames so far, and this one
     going_on : (z : ServerSettings) (h : Course) → z.guid ≡ guid → AllMeet z h all
-        → (salt : List ℕ) × FramesGo z h k (first_server_end salt) 0 all [] (way.came ++ []) (way.wrote ++ answer) r d
+        → (salt : List ℕ) × FramesGo z h k (first_server_end salt) 0 all [] (way.came ++ []) (way.wrote ++ answer.items) r d
     going_on z h guided meets =
         let m = way.goes z h guided (meet_front z h way.turns taken.turns meets) in
         let shown : ShowsEnd c.conn.id z.guid c.conn m.1.behind =
         subst (λ (i : ℕ). ShowsEnd i z.guid c.conn m.1.behind) (sym m.1.shows.number) m.1.shows in
         let one = taken.comes z h m.1.behind (meet_back z h way.turns taken.turns meets) shown m.1.bound in (
           m.0,
-          going.goes_on z h k (first_server_end m.0) 0 way.turns taken.turns [] way.came [] s r way.wrote answer c d m.1
-              (subst (λ (i : ℕ). FramesGo z h i m.1.behind c.setups taken.turns s [] answer r d) m.1.shows.number
-              (going.frame_goes z h c.conn.id m.1.behind c.setups taken.turns s r frame answer d one.0 one.1 whole one.2 one.3 one.4)),
+          going.goes_on z h k (first_server_end m.0) 0 way.turns taken.turns [] way.came [] s r way.wrote answer.items c d m.1
+              (subst (λ (i : ℕ). FramesGo z h i m.1.behind c.setups taken.turns s [] answer.items r d) m.1.shows.number
+              (going.frame_goes z h c.conn.id m.1.behind c.setups taken.turns s r frame answer.items d one.0 one.1 whole one.2 one.3 one.4)),
         )
 
     module _ (z : ServerSettings) (guided : z.guid ≡ guid) (h : Course) (from to : Standing) (runs : RunsBy z from w.history h to)
         (meets : AllMeet z h (way.made ∷ all)) where
-      goes : (salt : List ℕ) × FramesGo z h k (first_server_end salt) 0 all [] (way.came ++ []) (way.wrote ++ answer) r d
+      goes : (salt : List ℕ) × FramesGo z h k (first_server_end salt) 0 all [] (way.came ++ []) (way.wrote ++ answer.items) r d
       goes = going_on z h guided meets.1
 
       all_on : AllOn h (way.made ∷ all)
       all_on = (
         taken_behind z (h.found way.made.0) (h.found (way.made.0 + 1)) way.made.1 (h.given way.made.0) k meets.0 way.is_made way.taken_in,
-        on_all z h all meets.1 (all_given z h k (first_server_end goes.0) goes.1.behind 0 d.setups goes.1.frames all (way.wrote ++ answer)
+        on_all z h all meets.1 (all_given z h k (first_server_end goes.0) goes.1.behind 0 d.setups goes.1.frames all (way.wrote ++ answer.items)
             goes.1.seals goes.1.answers),
       )
 
@@ -187,7 +187,7 @@ module _ {S K : Type 0} (told : Type 0) (given written : K → List ℕ)
 
       due_at : (opening last_book : EventBook S) (start : Stand) → from ≡ On start
           → Replays (EventSteps shows stopped) opening w.history last_book → ShowsStanding shows stopped z.users last_book to
-          → AnswerIsDue shows stopped z k w.number opening start way.came way.wrote answer
+          → AnswerIsDue shows stopped z k w.number opening start way.came way.wrote answer.items
       due_at opening last_book start begins replays stands = record {
         salt = goes.0;
         log = w.history;
@@ -213,7 +213,7 @@ module _ {S K : Type 0} (told : Type 0) (given written : K → List ℕ)
 
     pub due : IsHistory (EventSteps shows stopped) w → (z : ServerSettings) (opening : EventBook S) (start : Stand) → z.guid ≡ guid
         → w.opening ≡ Some opening → steps.GoesOn shows stopped opening z.users start.server start.logons start.records
-        → AnswerIsDue shows stopped z k w.number opening start way.came way.wrote answer
+        → AnswerIsDue shows stopped z k w.number opening start way.came way.wrote answer.items
     due history z opening start guided opens stands =
         let o = opens_as w opening opens history in
         let R = history_runs shows stopped z (On start) opening o.0 w.history o.1 stands in
@@ -222,40 +222,39 @@ module _ {S K : Type 0} (told : Type 0) (given written : K → List ℕ)
         (subst (AllMeet z h) entries_are (own_meet z w.number (On start) w.history R.all R.to R.runs)) opening o.0 start refl o.1 R.stands
 
   -- the same over the link, in code
-  pub is_due : (guid : List ℕ) (k : ℕ) (begun v w : V) (c d : ConnectionState) (s r frame answer : List ℕ) (first link : K)
-      (result : Result (List ℕ) ConnEnd) (next : Result (Option (List ℕ)) ConnEnd)
-      → IsUnderWay told given written guid k begun first v c s link → next ≡ Ok (Some frame) → NextFrame s r next
-      → FrameTaken v c frame result d w → result ≡ Ok answer → EndsWithOwn w → IsHistory (EventSteps shows stopped) w
-      → IsAnswerDue told given written shows stopped guid k begun first w link answer
-  is_due guid k begun v w c d s r frame answer first link result next way is here taken answered ends history = λ none_before. (
-    way.came,
-    way.wrote,
-    way.passed,
-    (λ z opening start guided opens stands. due guid k begun v w c d s r frame answer first link none_before way
-        (subst (NextFrame s r) is here) (subst (λ x. FrameTaken v c frame x d w) answered taken) ends history z opening start guided opens
-        stands),
-  )
+  pub is_due : (guid : List ℕ) (k : ℕ) (begun v w : V) (c d : ConnectionState) (s r frame : List ℕ) (answer : Vec ℕ Global)
+      (text : List ℕ) (first link : K) (next : Result (Option (List ℕ)) ConnEnd)
+      → IsUnderWay told given left written guid k begun first v c s link → next ≡ Ok (Some frame) → NextFrame s r next
+      → FrameTaken v c frame (Ok answer) d w → text ≡ answer.items → EndsWithOwn w → IsHistory (EventSteps shows stopped) w
+      → IsAnswerDue told given left written shows stopped guid k begun first w link text
+  is_due guid k begun v w c d s r frame answer text first link next way is here taken same ends history =
+      subst (λ (t : List ℕ). IsAnswerDue told given left written shows stopped guid k begun first w link t) (sym same) (λ none_before. (
+        way.came,
+        way.wrote,
+        way.passed,
+        (λ z opening start guided opens stands. due guid k begun v w c d s r frame answer first link none_before way
+            (subst (NextFrame s r) is here) taken ends history z opening start guided opens stands),
+      ))
 
   -- the seat looked at what it knows
-  pub looked : (guid : List ℕ) (k : ℕ) (begun v w : V) (first link : K) (front : ℕ) (bytes text : List ℕ) → w ≡ fronted front v
+  pub looked : (guid : List ℕ) (k : ℕ) (begun v w : V) (first link : K) (front : ℕ) (text : List ℕ) → w ≡ fronted front v
       → IsHistory (EventSteps shows stopped) w
-      → (IsHistory (EventSteps shows stopped) v → IsAnswerDue told given written shows stopped guid k begun first v link bytes)
-      → text ≡ bytes → IsAnswerDue told given written shows stopped guid k begun first w link text
-  looked guid k begun v w first link front bytes text is history due same =
-      subst (λ (x : V). IsAnswerDue told given written shows stopped guid k begun first x link text) (sym is)
-      (subst (λ (t : List ℕ). IsAnswerDue told given written shows stopped guid k begun first v link t) (sym same)
-      (due (subst (λ (x : V). IsHistory (EventSteps shows stopped) x) is history)))
+      → (IsHistory (EventSteps shows stopped) v → IsAnswerDue told given left written shows stopped guid k begun first v link text)
+      → IsAnswerDue told given left written shows stopped guid k begun first w link text
+  looked guid k begun v w first link front text is history due =
+      subst (λ (x : V). IsAnswerDue told given left written shows stopped guid k begun first x link text) (sym is)
+      (due (subst (λ (x : V). IsHistory (EventSteps shows stopped) x) is history))
 
 -- ---- a connection begins
 
 pub first_bound : (salt : List ℕ) → (first_server_end salt).counter ≤ last_counter
 first_bound salt = omega arith
 
-module _ {B K : Type 0} (told : Type 0) (given written : K → List ℕ) (faults : K → ℕ) where
+module _ {B K : Type 0} (told : Type 0) (given left written : K → List ℕ) (faults : K → ℕ) where
   -- it was taken in, and has its state
   pub way_begins : (guid : List ℕ) (k : ℕ) (begun v : View B Turn Answer) (state : ConnectionState) (salt : List ℕ) (first link : K)
       → IsTakenIn k begun v → link ≡ first → ShowsEnd k guid state.conn (first_server_end salt) → state.setups ≡ 0
-      → (first_server_end salt).counter ≤ last_counter → IsUnderWay told given written guid k begun first v state [] link
+      → (first_server_end salt).counter ≤ last_counter → IsUnderWay told given left written guid k begun first v state [] link
   way_begins guid k begun v state salt first link taken same shows none bound = record {
     made = taken.made;
     turns = [];
@@ -264,7 +263,7 @@ module _ {B K : Type 0} (told : Type 0) (given written : K → List ℕ) (faults
     taken_in = taken.taken_in;
     came = [];
     wrote = [];
-    passed = subst (λ l. Passed told given written first l [] []) (sym same) (passed_none told given written first);
+    passed = subst (λ l. Passed told given left written first l [] []) (sym same) (passed_none told given left written first);
     goes = λ z h guided meets. (
       salt,
       subst (λ n. FramesGo z h k (first_server_end salt) n [] [] [] [] [] state) none
@@ -283,8 +282,8 @@ module _ {B K : Type 0} (told : Type 0) (given written : K → List ℕ) (faults
   }
 
   -- a look leaves the seat's own turns
-  pub on_same : (u v w : View B Turn Answer) (c d : ConnectionState) (s r : List ℕ) (l n : K) → GoesOn told given written faults u c s l v d r n
-      → w.own ≡ v.own → GoesOn told given written faults u c s l w d r n
+  pub on_same : (u v w : View B Turn Answer) (c d : ConnectionState) (s r : List ℕ) (l n : K) → GoesOn told given left written faults u c s l v d r n
+      → w.own ≡ v.own → GoesOn told given left written faults u c s l w d r n
   on_same u v w c d s r l n on same = record {
     came = on.came;
     wrote = on.wrote;
@@ -296,7 +295,7 @@ module _ {B K : Type 0} (told : Type 0) (given written : K → List ℕ) (faults
   }
 
   pub stops_same : (ended : K → Bool) (u v w : View B Turn Answer) (c : ConnectionState) (s : List ℕ) (l n : K) (why : Option ConnEnd)
-      → Stops told given written faults ended u c s l v n why → w.own ≡ v.own → Stops told given written faults ended u c s l w n why
+      → Stops told given left written faults ended u c s l v n why → w.own ≡ v.own → Stops told given left written faults ended u c s l w n why
   stops_same ended u v w c s l n why stop same = record {
     came = stop.came;
     wrote = stop.wrote;

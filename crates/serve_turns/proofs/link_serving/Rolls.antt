@@ -11,7 +11,8 @@ use Rattle.serve_turns.specs.declared.shared_book.view.View.{View}
 use Rattle.serve_turns.specs.shared_book.Numbers.{IsOneOf, numbers_of}
 use Rattle.serve_turns.specs.shared_book.Turns.{made_with, rejoined, with_made}
 use Rattle.serve_turns.specs.shared_book.Words.{lasting}
-use Rattle.serve_turns.specs.link_serving.Serving.{AreServed, EachServed, IsAmong, IsEndOf, IsNewSeat, Leaves, Link, WasServed}
+use Rattle.serve_turns.specs.link_serving.Serving.{AreAllServed, AreServed, EachServed, IsAmong}
+use Rattle.serve_turns.specs.link_serving.Serving.{IsEndOf, IsNewSeat, Leaves, Link, WasServed}
 use Rattle.serve_turns.proofs.shared_book.Numbers.{among_both, among_left, among_right, numbers_in-append}
 use Rattle.serve_turns.proofs.shared_book.Views.{point, point-else, point-here}
 
@@ -60,23 +61,25 @@ new_seat opening n v u is same =
 
 -- ---- links that are being served, by what serves them
 
-among_map : {R : Type 0} (link_of : R → Link) (rs : List R) (x : Link) → IsAmong x (map link_of rs) → (r : R) × Contains rs r × (x ≡ link_of r)
+among_map : {R K : Type 0} (link_of : R → Link K) (rs : List R) (x : Link K) → IsAmong x (map link_of rs) → (r : R) × Contains rs r ×
+    (x ≡ link_of r)
 among_map link_of [] x h = absurd h
 among_map link_of (r ∷ rs) x h = ⊎_elim
     (λ (e : x ≡ link_of r). (r, (0, omega arith, refl), e))
-    (λ (t : IsAmong x (map link_of rs)). let f = among_map link_of rs x t in let low = f.1.1 in (f.0, (suc f.1.0, omega arith, f.1.2), f.2)) h
+    (λ (t : IsAmong x (map link_of rs)). let f = among_map link_of rs x t in let low = f.1.1 in
+    (f.0, (suc f.1.0, omega arith, f.1.2), f.2)) h
 
-among_at : {R : Type 0} (link_of : R → Link) (rs : List R) (r : R) (k : ℕ) → k < length rs → get_or rs k r ≡ r
+among_at : {R K : Type 0} (link_of : R → Link K) (rs : List R) (r : R) (k : ℕ) → k < length rs → get_or rs k r ≡ r
     → IsAmong (link_of r) (map link_of rs)
 among_at link_of [] r k low is = absurd (omega (arith, low))
 among_at link_of (q ∷ rs) r zero low is = inl (ap link_of (sym is))
 among_at link_of (q ∷ rs) r (suc k) low is = inr (among_at link_of rs r k (omega (arith, low)) is)
 
-map_among : {R : Type 0} (link_of : R → Link) (rs : List R) (r : R) → Contains rs r → IsAmong (link_of r) (map link_of rs)
+map_among : {R K : Type 0} (link_of : R → Link K) (rs : List R) (r : R) → Contains rs r → IsAmong (link_of r) (map link_of rs)
 map_among link_of rs r h = among_at link_of rs r h.0 h.1 h.2
 
 -- one of them has ended
-pub leaves : {R : Type 0} (link_of : R → Link) (running rest : List R) (child : R) → Contains running child
+pub leaves : {R K : Type 0} (link_of : R → Link K) (running rest : List R) (child : R) → Contains running child
     → ((r : R) → Contains running r → (child ≡ r) ⊎ Contains rest r) → ((r : R) → Contains rest r → Contains running r)
     → length running ≡ length rest + 1 → Leaves (link_of child) (map link_of running) (map link_of rest)
 leaves link_of running rest child has goes stays size = record {
@@ -122,10 +125,10 @@ module _ {R : Type 0} where
   swapped_was old at child low is = (at, low, sym is)
 
 -- the first of them has ended
-pub first_leaves : (link : Link) (rest : List Link) → Leaves link (link ∷ rest) rest
+pub first_leaves : {K : Type 0} (link : Link K) (rest : List (Link K)) → Leaves link (link ∷ rest) rest
 first_leaves link rest = record { was = inl refl; goes = λ x h. h; stays = λ x h. inr h; one_less = omega arith }
 
-pub last_first : {R : Type 0} (link_of : R → Link) (rs : List R) (r : R) (x : Link) → IsAmong x (link_of r ∷ map link_of rs)
+pub last_first : {R K : Type 0} (link_of : R → Link K) (rs : List R) (r : R) (x : Link K) → IsAmong x (link_of r ∷ map link_of rs)
     → IsAmong x (map link_of (rs ++ r ∷ []))
 last_first link_of [] r x h = h
 last_first link_of (q ∷ rs) r x h = ⊎_elim
@@ -133,7 +136,7 @@ last_first link_of (q ∷ rs) r x h = ⊎_elim
     (λ (t : IsAmong x (link_of q ∷ map link_of rs)). ⊎_elim (λ (e : x ≡ link_of q). inl e)
     (λ (m : IsAmong x (map link_of rs)). inr (last_first link_of rs r x (inr m))) t) h
 
-pub first_last : {R : Type 0} (link_of : R → Link) (rs : List R) (r : R) (x : Link) → IsAmong x (map link_of (rs ++ r ∷ []))
+pub first_last : {R K : Type 0} (link_of : R → Link K) (rs : List R) (r : R) (x : Link K) → IsAmong x (map link_of (rs ++ r ∷ []))
     → IsAmong x (link_of r ∷ map link_of rs)
 first_last link_of [] r x h = h
 first_last link_of (q ∷ rs) r x h = ⊎_elim
@@ -168,7 +171,8 @@ module _ {B E R X : Type 0} (serves : ℕ → View B E R → X → View B E R �
   -- what each seat that has ended served stays, where their names do
   each_stays : (seat_at seat_at' : ℕ → ℕ) (opening : Option B) (kept kept' : Kept) (count count' : ℕ)
       → ((place : ℕ) → place < count → (place < count') × (seat_at' place ≡ seat_at place))
-      → ((number : ℕ) (end : X) (seat : Seat) → WasServed serves opening kept number end seat → WasServed serves opening kept' number end seat)
+      → ((number : ℕ) (end : X) (seat : Seat) → WasServed serves opening kept number end seat
+      → WasServed serves opening kept' number end seat)
       → (ls : List (ℕ × X)) (xs : List Seat) → EachServed serves seat_at opening kept count ls xs
       → EachServed serves seat_at' opening kept' count' ls xs
   each_stays seat_at seat_at' opening kept kept' count count' names stays [] [] all = tt
@@ -199,10 +203,14 @@ module _ {B E R X : Type 0} (serves : ℕ → View B E R → X → View B E R �
   end_right place end [] ks one = one
   end_right place end (l ∷ ls) ks one = inr (end_right place end ls ks one)
 
+  one_more : (n m count : ℕ) → n + m ≡ count → suc n + m ≡ count + 1
+  one_more n m count e = omega (arith, e)
+
+module _ {B E R X K : Type 0} (serves : ℕ → View B E R → X → View B E R → Type 0) (is_at : ℕ → K → Type 0) where
   -- the same links in another order
-  pub same_served : (running same : List Link) (count : ℕ) (ends : List (Option X)) (v : View B E R)
-      → ((x : Link) → IsAmong x same → IsAmong x running) → ((x : Link) → IsAmong x running → IsAmong x same)
-      → length same ≡ length running → AreServed serves running count ends v → AreServed serves same count ends v
+  pub same_served : (running same : List (Link K)) (count : ℕ) (ends : List (Option X)) (v : View B E R)
+      → ((x : Link K) → IsAmong x same → IsAmong x running) → ((x : Link K) → IsAmong x running → IsAmong x same)
+      → length same ≡ length running → AreServed serves is_at running count ends v → AreServed serves is_at same count ends v
   same_served running same count ends v less more size a = record {
     seat_at = a.seat_at;
     is_first = a.is_first;
@@ -212,17 +220,17 @@ module _ {B E R X : Type 0} (serves : ℕ → View B E R → X → View B E R �
     each = a.each;
     told = a.told;
     back = λ n h. ⊎_elim (λ (x : IsOneOf n (numbers_of v)). inl x)
-        (λ (x : (place : ℕ) × IsAmong (place, n) running). inr (x.0, more (x.0, n) x.1)) (a.back n h);
+        (λ (x : (place : ℕ) × (link : K) × IsAmong (place, n, link) running). inr (x.0, x.1, more (x.0, n, x.1) x.2)) (a.back n h);
     as_many = ap (λ (n : ℕ). n + length a.links) size ∙ a.as_many;
   }
 
-  one_more : (n m count : ℕ) → n + m ≡ count → suc n + m ≡ count + 1
-  one_more n m count e = omega (arith, e)
-
   -- the next link begins to be served, by a seat of this number
-  pub begins_served : (running : List Link) (count : ℕ) (ends : List (Option X)) (n : ℕ) (v w : View B E R) → w ≡ with_made n v
-      → AreServed serves running count ends v → AreServed serves ((count, n) ∷ running) (count + 1) ends w
-  begins_served running count ends n v w is a = subst (λ (z : View B E R). AreServed serves ((count, n) ∷ running) (count + 1) ends z) (sym is)
+  pub begins_served : (running : List (Link K)) (count : ℕ) (ends : List (Option X)) (n : ℕ) (link : K) (v w : View B E R)
+      → w ≡ with_made n v
+      → is_at count link → AreServed serves is_at running count ends v
+      → AreServed serves is_at ((count, n, link) ∷ running) (count + 1) ends w
+  begins_served running count ends n link v w is here a =
+      subst (λ (z : View B E R). AreServed serves is_at ((count, n, link) ∷ running) (count + 1) ends z) (sym is)
       (let names : ℕ → ℕ = point count n a.seat_at in
       let still : (place : ℕ) → place < count → names place ≡ a.seat_at place = λ place low.
       point-else count n a.seat_at place (λ e. omega (arith, e, low)) in record {
@@ -230,27 +238,30 @@ module _ {B E R X : Type 0} (serves : ℕ → View B E R → X → View B E R �
         is_first = a.is_first;
         none_own = a.none_own;
         served_now = λ x h. ⊎_elim
-            (λ (e : x ≡ (count, n)). (
-              let q : x.0 ≡ count = ap (λ (y : Link). y.0) e in omega (arith, q),
-              ap (λ (y : Link). y.1) e ∙ sym (ap (λ (y : Link). names y.0) e ∙ point-here count n a.seat_at),
+            (λ (e : x ≡ (count, n, link)). (
+              let q : x.0 ≡ count = ap (λ (y : Link K). y.0) e in omega (arith, q),
+              ap (λ (y : Link K). y.1) e ∙ sym (ap (λ (y : Link K). names y.0) e ∙ point-here count n a.seat_at),
+              subst (λ (y : Link K). is_at y.0 y.2) (sym e) here,
             ))
-            (λ (t : IsAmong x running). let y = a.served_now x t in let low = y.0 in (omega (arith, low), y.1 ∙ sym (still x.0 low))) h;
+            (λ (t : IsAmong x running). let y = a.served_now x t in
+            let low = y.0 in (omega (arith, low), y.1 ∙ sym (still x.0 low), y.2)) h;
         links = a.links;
-        each = each_stays a.seat_at names v.opening v.kept v.kept count (count + 1) (λ place low. (omega (arith, low), still place low))
+        each = each_stays serves a.seat_at names v.opening v.kept v.kept count (count + 1)
+            (λ place low. (omega (arith, low), still place low))
             (λ number end seat s. s) a.links v.ended a.each;
         told = a.told;
         back = λ m h. ⊎_elim
-            (λ (e : m ≡ n). inr (count, inl (ap (λ (k : ℕ). (count, k)) e)))
+            (λ (e : m ≡ n). inr (count, link, inl (ap (λ (k : ℕ). (count, k, link)) e)))
             (λ (t : IsOneOf m v.made). ⊎_elim (λ (x : IsOneOf m (numbers_of v)). inl x)
-            (λ (x : (place : ℕ) × IsAmong (place, m) running). inr (x.0, inr x.1)) (a.back m t)) h;
-        as_many = one_more (length running) (length a.links) count a.as_many;
+            (λ (x : (place : ℕ) × (other : K) × IsAmong (place, m, other) running). inr (x.0, x.1, inr x.2)) (a.back m t)) h;
+        as_many = one_more serves (length running) (length a.links) count a.as_many;
       })
 
   -- one that was served has ended, and its seat is taken in
   module _ (ends new : List (Option X)) (place : ℕ) (end : X) (inside : place < length ends → new ≡ set ends place (Some end))
-      (past : length ends ≤ place → new ≡ ends) (running rest : List Link) (count : ℕ) (from to v : View B E R)
-      (is_new : IsNewSeat v.opening from) (lasts : lasting to ≡ lasting from) (by : serves (place + 1) from end to)
-      (left : Leaves (place, to.number) running rest) (a : AreServed serves running count ends v) where
+      (past : length ends ≤ place → new ≡ ends) (running rest : List (Link K)) (count : ℕ) (link : K) (from to v : View B E R)
+      (is_new : IsNewSeat v.opening from) (lasts : lasting to ≡ lasting from) (by : is_at place link → serves (place + 1) from end to)
+      (left : Leaves (place, to.number, link) running rest) (a : AreServed serves is_at running count ends v) where
     abbrev both : View B E R
     both = rejoined v to
 
@@ -260,14 +271,14 @@ module _ {B E R X : Type 0} (serves : ℕ → View B E R → X → View B E R �
     none_made : to.made ≡ []
     none_made = ap (λ x. x.1.1.1) lasts ∙ is_new.3
 
-    was_here : (place < count) × (to.number ≡ a.seat_at place)
-    was_here = a.served_now (place, to.number) left.was
+    was_here : (place < count) × (to.number ≡ a.seat_at place) × is_at place link
+    was_here = a.served_now (place, to.number, link) left.was
 
     serves_here : WasServed serves v.opening both.kept (place + 1) end (to.number, to.own)
     serves_here = record {
       from = from;
       to = to;
-      by = by;
+      by = by was_here.2;
       none_before = is_new.1;
       opens = (is_new.0, ap (λ x. x.0) lasts ∙ is_new.0);
       is_number = (sym (ap (λ x. x.1.0) lasts), refl);
@@ -277,38 +288,39 @@ module _ {B E R X : Type 0} (serves : ℕ → View B E R → X → View B E R �
       stands = refl;
     }
 
-    still : (number : ℕ) (x : X) (seat : Seat) → WasServed serves v.opening v.kept number x seat
+    still : (number : ℕ) (x : X) (seat : Seat serves) → WasServed serves v.opening v.kept number x seat
         → WasServed serves v.opening both.kept number x seat
-    still number x seat s = wider_kept v.opening v.kept to.kept to.history number x seat s
+    still number x seat s = wider_kept serves v.opening v.kept to.kept to.history number x seat s
 
     abbrev links_both : List (ℕ × X)
     links_both = a.links ++ (place, end) ∷ []
 
     each_both : EachServed serves a.seat_at v.opening both.kept count links_both both.ended
-    each_both = each_more a.seat_at v.opening both.kept count a.links ((place, end) ∷ []) v.ended ((to.number, to.own) ∷ to.ended)
-        (each_stays a.seat_at a.seat_at v.opening v.kept both.kept count count (λ p low. (low, refl)) still a.links v.ended a.each) (
+    each_both = each_more serves a.seat_at v.opening both.kept count a.links ((place, end) ∷ []) v.ended ((to.number, to.own) ∷ to.ended)
+        (each_stays serves a.seat_at a.seat_at v.opening v.kept both.kept count count (λ p low. (low, refl)) still a.links v.ended a.each) (
           was_here.0,
           (was_here.1, serves_here),
-          subst (λ (xs : List Seat). EachServed serves a.seat_at v.opening both.kept count [] xs) (sym none_ended) tt,
+          subst (λ (xs : List (Seat serves)). EachServed serves a.seat_at v.opening both.kept count [] xs) (sym none_ended) tt,
         )
 
     told_both : (at : ℕ) (x : X) → get_or new at None ≡ Some x → IsEndOf at x links_both
     told_both at x e = ⊎_elim
-        (λ (h : (at ≡ place) × (x ≡ end)). end_right at x a.links ((place, end) ∷ []) (inl (sym h.0, sym h.1)))
-        (λ (h : get_or ends at None ≡ Some x). end_left at x a.links ((place, end) ∷ []) (a.told at x h))
+        (λ (h : (at ≡ place) × (x ≡ end)). end_right serves at x a.links ((place, end) ∷ []) (inl (sym h.0, sym h.1)))
+        (λ (h : get_or ends at None ≡ Some x). end_left serves at x a.links ((place, end) ∷ []) (a.told at x h))
         (reads ends new place end inside past at x e)
 
     numbers_both : numbers_of both ≡ numbers_of v ++ numbers_of to
     numbers_both = ap (λ ns. v.number ∷ ns) (numbers_in-append v.ended ((to.number, to.own) ∷ to.ended))
 
-    back_both : (n : ℕ) → IsOneOf n both.made → IsOneOf n (numbers_of both) ⊎ ((at : ℕ) × IsAmong (at, n) rest)
+    back_both : (n : ℕ) → IsOneOf n both.made
+        → IsOneOf n (numbers_of both) ⊎ ((at : ℕ) × (other : K) × IsAmong (at, n, other) rest)
     back_both n h = ⊎_elim
         (λ (m : IsOneOf n v.made). ⊎_elim
         (λ (x : IsOneOf n (numbers_of v)). inl (subst (IsOneOf n) (sym numbers_both) (among_left n (numbers_of v) (numbers_of to) x)))
-        (λ (x : (at : ℕ) × IsAmong (at, n) running). ⊎_elim
-        (λ (e : (x.0, n) ≡ (place, to.number)). inl (subst (IsOneOf n) (sym numbers_both)
-        (among_right n (numbers_of v) (numbers_of to) (inl (ap (λ (y : Link). y.1) e)))))
-        (λ (t : IsAmong (x.0, n) rest). inr (x.0, t)) (left.goes (x.0, n) x.1)) (a.back n m))
+        (λ (x : (at : ℕ) × (other : K) × IsAmong (at, n, other) running). ⊎_elim
+        (λ (e : (x.0, n, x.1) ≡ (place, to.number, link)). inl (subst (IsOneOf n) (sym numbers_both)
+        (among_right n (numbers_of v) (numbers_of to) (inl (ap (λ (y : Link K). y.1) e)))))
+        (λ (t : IsAmong (x.0, n, x.1) rest). inr (x.0, x.1, t)) (left.goes (x.0, n, x.1) x.2)) (a.back n m))
         (λ (m : IsOneOf n to.made). absurd (subst (IsOneOf n) none_made m))
         (among_both n v.made to.made h)
 
@@ -316,7 +328,7 @@ module _ {B E R X : Type 0} (serves : ℕ → View B E R → X → View B E R �
     as_many_both = (let was = a.as_many in let less = left.one_less in let more = length-append a.links ((place, end) ∷ []) in
         omega (arith, was, less, more))
 
-    ended_served : AreServed serves rest count new both
+    ended_served : AreServed serves is_at rest count new both
     ended_served = record {
       seat_at = a.seat_at;
       is_first = a.is_first;
@@ -330,30 +342,46 @@ module _ {B E R X : Type 0} (serves : ℕ → View B E R → X → View B E R �
     }
 
   pub entered_served : (ends new : List (Option X)) (place : ℕ) (end : X) → (place < length ends → new ≡ set ends place (Some end))
-      → (length ends ≤ place → new ≡ ends) → (running rest : List Link) (count : ℕ) (from to v w : View B E R) → w ≡ rejoined v to
-      → IsNewSeat v.opening from → lasting to ≡ lasting from → serves (place + 1) from end to → Leaves (place, to.number) running rest
-      → AreServed serves running count ends v → AreServed serves rest count new w
-  entered_served ends new place end inside past running rest count from to v w is is_new lasts by left a =
-      subst (AreServed serves rest count new) (sym is)
-      (ended_served ends new place end inside past running rest count from to v is_new lasts by left a)
+      → (length ends ≤ place → new ≡ ends) → (running rest : List (Link K)) (count : ℕ) (link : K) (from to v w : View B E R)
+      → w ≡ rejoined v to → IsNewSeat v.opening from → lasting to ≡ lasting from → (is_at place link → serves (place + 1) from end to)
+      → Leaves (place, to.number, link) running rest → AreServed serves is_at running count ends v → AreServed serves is_at rest count new w
+  entered_served ends new place end inside past running rest count link from to v w is is_new lasts by left a =
+      subst (AreServed serves is_at rest count new) (sym is)
+      (ended_served ends new place end inside past running rest count link from to v is_new lasts by left a)
 
   -- a link that began to be served has ended at once
-  pub at_once_served : (ends new : List (Option X)) (place n k : ℕ) (v w x : View B E R)
-      → ((running rest : List Link) (count : ℕ) → Leaves (place, k) running rest → AreServed serves running count ends w
-      → AreServed serves rest count new x) → k ≡ n → w ≡ with_made n v → (running : List Link) → AreServed serves running place ends v
-      → AreServed serves running (place + 1) new x
-  at_once_served ends new place n k v w x entered is made running a =
-      entered ((place, k) ∷ running) running (place + 1) (first_leaves (place, k) running)
-      (begins_served running place ends k v w (made ∙ ap (λ z. with_made z v) (sym is)) a)
+  pub at_once_served : (ends new : List (Option X)) (place n k : ℕ) (link : K) (v w x : View B E R)
+      → ((running rest : List (Link K)) (count : ℕ) → Leaves (place, k, link) running rest → AreServed serves is_at running count ends w
+      → AreServed serves is_at rest count new x) → k ≡ n → w ≡ with_made n v → (running : List (Link K)) → is_at place link
+      → AreServed serves is_at running place ends v → AreServed serves is_at running (place + 1) new x
+  at_once_served ends new place n k link v w x entered is made running here a =
+      entered ((place, k, link) ∷ running) running (place + 1) (first_leaves (place, k, link) running)
+      (begins_served running place ends k link v w (made ∙ ap (λ z. with_made z v) (sym is)) here a)
 
-  module _ {T : Type 0} (link_of : T → Link) where
+  -- nothing else is told where none is being served any more
+  pub all_served : (count : ℕ) (ends : List (Option X)) (v : View B E R) → AreServed serves is_at [] count ends v
+      → AreAllServed serves count ends v
+  all_served count ends v a = record {
+    seat_at = a.seat_at;
+    is_first = a.is_first;
+    none_own = a.none_own;
+    served_now = λ x h. absurd h;
+    links = a.links;
+    each = a.each;
+    told = a.told;
+    back = λ n h. ⊎_elim (λ (x : IsOneOf n (numbers_of v)). inl x)
+        (λ (x : (place : ℕ) × (link : K) × IsAmong (place, n, link) []). absurd x.2) (a.back n h);
+    as_many = a.as_many;
+  }
+
+  module _ {T : Type 0} (link_of : T → Link K) where
     -- the same that serve them
     pub those_served : (running same : List T) (count : ℕ) (ends : List (Option X)) (v : View B E R) → same ≡ running
-        → AreServed serves (map link_of running) count ends v → AreServed serves (map link_of same) count ends v
-    those_served running same count ends v is a = subst (λ l. AreServed serves (map link_of l) count ends v) (sym is) a
+        → AreServed serves is_at (map link_of running) count ends v → AreServed serves is_at (map link_of same) count ends v
+    those_served running same count ends v is a = subst (λ l. AreServed serves is_at (map link_of l) count ends v) (sym is) a
 
     pub none_served : (running : List T) (count : ℕ) (ends : List (Option X)) (v : View B E R) → length running ≡ 0
-        → AreServed serves (map link_of running) count ends v → AreServed serves [] count ends v
+        → AreServed serves is_at (map link_of running) count ends v → AreServed serves is_at [] count ends v
     none_served [] count ends v none a = a
     none_served (r ∷ rs) count ends v none a = absurd (omega (arith, none))
 
@@ -363,12 +391,12 @@ module _ {B E R X : Type 0} (serves : ℕ → View B E R → X → View B E R �
     last_long (r ∷ rs) child = ap (λ (n : ℕ). suc n) (last_long rs child)
 
     -- the next link is served by one more
-    pub one_more_served : (running old new : List T) (child : T) (place n : ℕ) (ends : List (Option X)) (v w : View B E R) → old ≡ running
-        → new ≡ old ++ child ∷ [] → link_of child ≡ (place, n) → w ≡ with_made n v
-        → AreServed serves (map link_of running) place ends v → AreServed serves (map link_of new) (place + 1) ends w
-    one_more_served running old new child place n ends v w same is link made a =
-        subst (λ l. AreServed serves (map link_of l) (place + 1) ends w) (sym (is ∙ ap (λ l. l ++ child ∷ []) same))
+    pub one_more_served : (running old new : List T) (child : T) (place n : ℕ) (link : K) (ends : List (Option X)) (v w : View B E R)
+        → old ≡ running → new ≡ old ++ child ∷ [] → link_of child ≡ (place, n, link) → w ≡ with_made n v → is_at place link
+        → AreServed serves is_at (map link_of running) place ends v → AreServed serves is_at (map link_of new) (place + 1) ends w
+    one_more_served running old new child place n link ends v w same is named made here a =
+        subst (λ l. AreServed serves is_at (map link_of l) (place + 1) ends w) (sym (is ∙ ap (λ l. l ++ child ∷ []) same))
         (same_served (link_of child ∷ map link_of running) (map link_of (running ++ child ∷ [])) (place + 1) ends w
         (first_last link_of running child) (last_first link_of running child) (last_long running child)
-        (subst (λ x. AreServed serves (x ∷ map link_of running) (place + 1) ends w) (sym link)
-        (begins_served (map link_of running) place ends n v w made a)))
+        (subst (λ x. AreServed serves is_at (x ∷ map link_of running) (place + 1) ends w) (sym named)
+        (begins_served (map link_of running) place ends n link v w made here a)))

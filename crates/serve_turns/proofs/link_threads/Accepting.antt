@@ -1,7 +1,10 @@
--- How many links a net has accepted, as long as its count doesn't come to its end.
-use Rattle.std.proofs.Common.{◌≡◌, ℕ, ◌+◌, ◌-◌, ◌^◌, ◌<◌, ◌≤◌, min, arith, ◌∙◌, ap}
+-- How many links a net has accepted, as long as its count doesn't come to its end, and which one is the next.
+use Rattle.std.proofs.Common.{◌≡◌, ℕ, zero, suc, ◌+◌, ◌-◌, ◌^◌, ◌<◌, ◌≤◌, List}
+use Rattle.std.proofs.Common.{[], ◌∷◌, ◌++◌, length, min, arith, ◌∙◌, ap, refl, sym, subst}
+use Rattle.std.proofs.Common.{Some, slice_get, append_assoc, length-append}
 use Rattle.std.proofs.Math.Nat.{min-eq_left}
 use Rattle.serve_turns.specs.declared.link_threads.links.Halt.TheVariants.{Count, NetFault, Ended, Memory}
+use Rattle.serve_turns.specs.link_serving.Passage.{IsLinkAt}
 use Rattle.serve_turns.specs.link_threads.Accepted.{AreAccepted}
 
 pub none_accepted : (old : ℕ) → old + 0 < 2 ^ 64 → old ≡ old + 0
@@ -18,6 +21,37 @@ pub more_accepted : (old now new place : ℕ) → (old + place < 2 ^ 64 → now 
 more_accepted old now new place so_far one_more few =
     let still : old + place < 2 ^ 64 = omega (arith, few) in
     one_more ∙ ap (λ n. min (n + 1) (2 ^ 64 - 1)) (so_far still) ∙ raised old place few
+
+-- ---- what the peers of the links send
+
+pub none_sent : (n : ℕ) → n ≡ n + 0
+none_sent n = omega arith
+
+pub longer : (old new : List (List ℕ)) (one : List ℕ) (others place : ℕ) → new ≡ old ++ one ∷ [] → length old ≡ others + place
+    → length new ≡ others + (place + 1)
+longer old new one others place is size =
+    let more : length new ≡ length old + 1 = ap (λ (l : List (List ℕ)). length l) is ∙ length-append old (one ∷ []) in
+    omega (arith, more, size)
+
+-- further ones behind the next one
+pub sent_on : (old new more sent : List (List ℕ)) (one : List ℕ) → new ≡ old ++ one ∷ [] → sent ≡ new ++ more → sent ≡ old ++ one ∷ more
+sent_on old new more sent one next is =
+    is ∙ ap (λ (l : List (List ℕ)). l ++ more) next ∙ append_assoc old (one ∷ []) more
+
+behind_all : (old more : List (List ℕ)) (one : List ℕ) → slice_get (old ++ one ∷ more) (length old) ≡ Some one
+behind_all [] more one = refl
+behind_all (x ∷ xs) more one = behind_all xs more one
+
+-- the next link is that at its place
+pub accepted_next : {K : Type 0} (told : Type 0) (number : K → ℕ) (left : K → List ℕ) (before others place now : ℕ)
+    (old more sent : List (List ℕ)) (link : K) → (before + place < 2 ^ 64 → now ≡ before + place) → number link ≡ min (now + 1) (2 ^ 64 - 1)
+    → (told → length old ≡ others + place) → (told → sent ≡ old ++ left link ∷ more)
+    → IsLinkAt told number left before others sent place link
+accepted_next told number left before others place now old more sent link so_far is size on = record {
+  numbered = more_accepted before now (number link) place so_far is;
+  sends = λ t. subst (λ (n : ℕ). slice_get sent n ≡ Some (left link)) (size t)
+      (ap (λ (l : List (List ℕ)). slice_get l (length old)) (on t) ∙ behind_all old more (left link));
+}
 
 -- ---- why no further one is accepted
 

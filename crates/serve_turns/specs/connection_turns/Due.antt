@@ -55,9 +55,9 @@ pub record IsTakenIn {B : Type 0} (k : ℕ) (begun v : View B Turn Answer) : Typ
   pub is_made : IsThe (Accept k) made
   pub taken_in : refusal_of made.1.reply.reply ≡ None
 
-module _ {K : Type 0} (told : Type 0) (given written : K → List ℕ) where
-  -- A connection of this number goes on over a link, since a turn took it in: what came, the turns of its frames, and what was written, which
-  -- are the answers to these frames, whatever the places of a history found that these turns meet.
+module _ {K : Type 0} (told : Type 0) (given left written : K → List ℕ) where
+  -- A connection of this number goes on over a link, since a turn took it in: what came, the turns of its frames, and what was written,
+  -- which are the answers to these frames, whatever the places of a history found that these turns meet.
   pub record IsUnderWay {B : Type 0} (guid : List ℕ) (k : ℕ) (begun : View B Turn Answer) (first : K) (v : View B Turn Answer)
       (state : ConnectionState) (stream : List ℕ) (link : K) : Type 0 where
     pub made : Placed
@@ -67,17 +67,17 @@ module _ {K : Type 0} (told : Type 0) (given written : K → List ℕ) where
     pub taken_in : refusal_of made.1.reply.reply ≡ None
     pub came : List ℕ
     pub wrote : List ℕ
-    pub passed : Passed told given written first link came wrote
+    pub passed : Passed told given left written first link came wrote
     pub goes : (z : ServerSettings) (h : Course) → z.guid ≡ guid → AllMeet z h turns
         → (salt : List ℕ) × FramesGo z h k (first_server_end salt) 0 turns [] came wrote stream state
 
   module _ {S : Type 0} (shows : S → Users → model.Server → Logons → List model.Record → Type 0) (stopped : S → Option ℕ) where
-    -- The answer is due of what passed over the link since the connection began, by a seat that had no entries then, whatever the server shows
-    -- with which the history opens.
+    -- The answer is due of what passed over the link since the connection began, by a seat that had no entries then, whatever the server
+    -- shows with which the history opens.
     abbrev pub IsAnswerDue : List ℕ → ℕ → (begun : View (EventBook S) Turn Answer) → K → View (EventBook S) Turn Answer → K → List ℕ
         → Type 0
     IsAnswerDue guid k begun first v link answer =
-        begun.own ≡ [] → (came : List ℕ) × (wrote : List ℕ) × Passed told given written first link came wrote
+        begun.own ≡ [] → (came : List ℕ) × (wrote : List ℕ) × Passed told given left written first link came wrote
         × ((z : ServerSettings) (opening : EventBook S) (from : Stand) → z.guid ≡ guid → v.opening ≡ Some opening
         → GoesOn shows stopped opening z.users from.server from.logons from.records
         → AnswerIsDue shows stopped z k v.number opening from came wrote answer)

@@ -1,5 +1,5 @@
 -- The frames of one connection, each by what was given for its events.
-use Rattle.std.specs.Prelude.{◌≡◌, ◌≤◌, ℕ, true, List, [], ◌∷◌, ◌++◌, length, take, Some, None}
+use Rattle.std.specs.Prelude.{◌≡◌, ◌≤◌, ℕ, Bool, true, List, [], ◌∷◌, ◌++◌, length, take, Some, None}
 use Rattle.std.specs.Prelude.{Result, Ok, Err, slice_get, ⊤, ◌⊎◌}
 use Rattle.spec_exchange.specs.State as model
 use Rattle.spec_world.specs.Answering.{Seal}
@@ -11,7 +11,7 @@ use Rattle.spec_world.specs.Settings.{ServerSettings}
 use Rattle.conn_core.specs.declared.end.ConnEnd.{ConnEnd}
 use Rattle.conn_core.specs.declared.end.ConnEnd.TheVariants as ends
 use Rattle.conn_core.specs.declared.frame_messages.checked.Checked as code
-use Rattle.conn_core.specs.frame_messages.Checking.{ShowsGoing}
+use Rattle.conn_core.specs.frame_messages.Checking.{ShowsGoing, holds_setup}
 use Rattle.conn_core.specs.reply_sealing.Saying.{all_framed}
 use Rattle.conn_core.specs.frame_events.Shared.{asked_all, first_dealt}
 use Rattle.conn_core.specs.reply_frames.Replying.{EndsAs}
@@ -59,6 +59,17 @@ HasBytes fresh (End k) = ⊤
 abbrev pub AreAtOnce : ℕ → List ℕ → List Placed → Type 0
 AreAtOnce now fresh [] = ⊤
 AreAtOnce now fresh (x ∷ xs) = (x.1.event.now ≡ now) × HasBytes fresh x.1.event.what × AreAtOnce now fresh xs
+
+-- ---- turns for messages of a frame that holds a SESSION_SETUP, or of one that holds none
+
+abbrev pub IsOfSuch : Bool → What → Type 0
+IsOfSuch setup (Accept k) = ⊤
+IsOfSuch setup (Message a) = holds_setup a.frame.messages.items ≡ setup
+IsOfSuch setup (End k) = ⊤
+
+abbrev pub AreOfSuch : Bool → List Placed → Type 0
+AreOfSuch setup [] = ⊤
+AreOfSuch setup (x ∷ xs) = IsOfSuch setup x.1.event.what × AreOfSuch setup xs
 
 -- where the place of the first of them found a server that goes on, it stood so
 abbrev pub FindsFirst : Course → List Placed → model.Server → Logons → Type 0

@@ -1,5 +1,5 @@
 -- The messages of a checked frame in code, one after the other, each with a turn where it asks something.
-use Rattle.std.specs.Prelude.{◌≡◌, ◌⊎◌, ◌≤◌, ℕ, ◌+◌, ◌==◌, ◌&&◌, min, if◌then◌else◌, true, false, List, [], ◌∷◌, ◌++◌, length, take}
+use Rattle.std.specs.Prelude.{◌≡◌, ◌⊎◌, ◌≤◌, ℕ, ◌+◌, ◌==◌, min, if◌then◌else◌, true, false, List, [], ◌∷◌, ◌++◌, length, take}
 use Rattle.std.specs.Prelude.{Option, Some, None, Result, Ok, Err, option_map, slice_get}
 use Rattle.spec_exchange.specs.State as model
 use Rattle.spec_exchange.specs.Status.{insufficient_resources}
@@ -15,7 +15,7 @@ use Rattle.conn_core.specs.declared.end.ConnEnd.{ConnEnd}
 use Rattle.conn_core.specs.declared.end.ConnEnd.TheVariants.{Memory, Stopped}
 use Rattle.conn_core.specs.declared.frame_messages.checked.Checked.{Checked}
 use Rattle.conn_core.specs.declared.frame_messages.checked.CheckedFrame.{CheckedFrame}
-use Rattle.conn_core.specs.frame_messages.Checking.{ShowsFrame, ShowsGoing, message_in}
+use Rattle.conn_core.specs.frame_messages.Checking.{ShowsFrame, ShowsGoing, holds_setup, message_in}
 use Rattle.conn_core.specs.declared.frame_events.handing.Dealt.{Dealt}
 use Rattle.conn_core.specs.declared.requests.hearing.Told.{Told}
 use Rattle.conn_core.specs.declared.related.related.Carry.{Carry}
@@ -30,7 +30,7 @@ use Rattle.serve_turns.specs.declared.event_book.turn.Answer.{Answer}
 use Rattle.serve_turns.specs.declared.event_book.turn.Asks.{Asks}
 use Rattle.serve_turns.specs.declared.event_book.turn.Turn.{Turn}
 use Rattle.serve_turns.specs.declared.shared_book.view.View.{View}
-use Rattle.serve_turns.specs.connection_turns.Frames.{AreAtOnce, AreFor, AreGiven}
+use Rattle.serve_turns.specs.connection_turns.Frames.{AreAtOnce, AreFor, AreGiven, AreOfSuch}
 use Rattle.serve_turns.specs.connection_turns.Turning.{message_turn}
 use Rattle.serve_turns.specs.event_book.History.{AllMeet, Course, Placed}
 
@@ -39,21 +39,13 @@ use Rattle.serve_turns.specs.event_book.History.{AllMeet, Course, Placed}
 -- what the connection tells of the message at its place
 abbrev pub TellsOf : Conn → CheckedFrame → ℕ → Told → Type 0
 TellsOf conn x at t = (guid : List ℕ) (f : ServerEnd) (m : Checked) (c : hearing.Checked) → ShowsEnd conn.id guid conn f
-    → slice_get x.messages.items at ≡ Some m → ShowsGoing x.bytes.items m c → IsRequestTold f c t × (t.connection ≡ conn.id)
+    → slice_get x.messages.items at ≡ Some m → ShowsGoing x.bytes.items m c → IsRequestTold f c t
 
 -- one more SESSION_SETUP had an event, if it is one; the count stands still at the last value of its type
 abbrev pub Counts : ℕ → Checked → ℕ → Type 0
 Counts before m after = after ≡ (if m.header.command == 1 then min (before + 1) 4294967295 else before)
 
 module _ {B : Type 0} where
-  -- It asks nothing.
-  pub record AsksNothing (v : View B Turn Answer) (old : ConnectionState) (m : Checked) (new : ConnectionState) (reply : EventAnswer)
-      (w : View B Turn Answer) : Type 0 where
-    pub none : has_message_event m ≡ false
-    pub is : reply ≡ None
-    pub state : new ≡ old
-    pub same : w ≡ v
-
   -- It took one turn, in which the server was given it with what the connection tells of it.
   pub record TakesTurn (v : View B Turn Answer) (now : ℕ) (fresh : List ℕ) (old : ConnectionState) (x : CheckedFrame) (at : ℕ) (m : Checked)
       (new : ConnectionState) (reply : EventAnswer) (w : View B Turn Answer) : Type 0 where
@@ -62,6 +54,7 @@ module _ {B : Type 0} where
     pub frame : asks.frame ≡ x
     pub place : asks.at ≡ at
     pub told : TellsOf old.conn x at asks.told
+    pub connection : asks.told.connection ≡ old.conn.id
     pub fresh_is : asks.told.fresh ≡ fresh
     pub turn : Placed
     pub own : w.own ≡ v.own ++ turn ∷ []
@@ -70,19 +63,22 @@ module _ {B : Type 0} where
     pub conn : new.conn ≡ old.conn
     pub setups : Counts old.setups m new.setups
 
-  abbrev pub AnswersOne : View B Turn Answer → ℕ → List ℕ → ConnectionState → CheckedFrame → ℕ → ConnectionState → EventAnswer
-      → View B Turn Answer
-      → Type 0
-  AnswersOne v now fresh old x at new reply w = (m : Checked) → slice_get x.messages.items at ≡ Some m
-      → AsksNothing v old m new reply w ⊎ TakesTurn v now fresh old x at m new reply w
-
 -- ---- and what it hands on
 
 module _ {B : Type 0} where
+  -- It asks nothing, and takes no turn.
+  pub record AsksNothing (v : View B Turn Answer) (old : ConnectionState) (m : Checked) (bytes : List ℕ) (y : Option related.Carry)
+      (d : Dealt) (new : ConnectionState) (e : Dealt) (result : Result Carry ConnEnd) (w : View B Turn Answer) : Type 0 where
+    pub none : has_message_event m ≡ false
+    pub deals : DealsOne m bytes y None d e result
+    pub state : new ≡ old
+    pub same : w ≡ v
+
   -- A SESSION_SETUP behind as many as the server hears is refused without a turn.
   pub record RefusesLate (v : View B Turn Answer) (old : ConnectionState) (m : Checked) (bytes : List ℕ) (y : Option related.Carry)
       (d : Dealt) (new : ConnectionState) (e : Dealt) (result : Result Carry ConnEnd) (w : View B Turn Answer) : Type 0 where
-    pub late : (has_message_event m && is_past_setups old.setups m.header) ≡ true
+    pub event : has_message_event m ≡ true
+    pub late : is_past_setups old.setups m.header ≡ true
     pub refuses : RefusesOne m bytes y insufficient_resources d e result
     pub state : new ≡ old
     pub same : w ≡ v
@@ -91,16 +87,20 @@ module _ {B : Type 0} where
       (m : Checked)
       (y : Option related.Carry) (d : Dealt) (new : ConnectionState) (e : Dealt) (result : Result Carry ConnEnd) (w : View B Turn Answer)
       : Type 0 where
-    pub early : (has_message_event m && is_past_setups old.setups m.header) ≡ false
+    pub early : is_past_setups old.setups m.header ≡ false
     pub given : EventAnswer
     pub deals : DealsOne m (message_in x.bytes.items m) y given d e result
-    pub answers : AsksNothing v old m new given w ⊎ TakesTurn v now fresh old x at m new given w
+    pub takes : TakesTurn v now fresh old x at m new given w
+
+  abbrev pub DealsBy : View B Turn Answer → ℕ → List ℕ → ConnectionState → CheckedFrame → ℕ → Checked → Option related.Carry → Dealt
+      → ConnectionState → Dealt → Result Carry ConnEnd → View B Turn Answer → Type 0
+  DealsBy v now fresh old x at m y d new e result w = AsksNothing v old m (message_in x.bytes.items m) y d new e result w
+      ⊎ (RefusesLate v old m (message_in x.bytes.items m) y d new e result w ⊎ DealsInTurn v now fresh old x at m y d new e result w)
 
   abbrev pub DealsFor : View B Turn Answer → ℕ → List ℕ → ConnectionState → CheckedFrame → ℕ → Option related.Carry → Dealt
-      → ConnectionState → Dealt
-      → Result Carry ConnEnd → View B Turn Answer → Type 0
+      → ConnectionState → Dealt → Result Carry ConnEnd → View B Turn Answer → Type 0
   DealsFor v now fresh old x at y d new e result w = (m : Checked) → slice_get x.messages.items at ≡ Some m
-      → RefusesLate v old m (message_in x.bytes.items m) y d new e result w ⊎ DealsInTurn v now fresh old x at m y d new e result w
+      → DealsBy v now fresh old x at m y d new e result w
 
 -- ---- all messages of a frame: what the definitions make of them by what their turns were given
 
@@ -183,6 +183,7 @@ module _ {B : Type 0} where
     pub turns : List Placed
     pub own : w.own ≡ v.own ++ turns
     pub at_once : AreAtOnce now fresh turns
+    pub of_frame : AreOfSuch (holds_setup x.messages.items) turns
     pub conn : new.conn ≡ old.conn
     pub steps : (z : ServerSettings) (h : Course) (server : model.Server) (logons : Logons) (f : ServerEnd) (cs : List hearing.Checked)
         (before : ℕ) (former : List Placed)
@@ -196,6 +197,7 @@ module _ {B : Type 0} where
     pub turns : List Placed
     pub own : w.own ≡ v.own ++ turns
     pub at_once : AreAtOnce now fresh turns
+    pub of_frame : AreOfSuch (holds_setup x.messages.items) turns
     pub conn : new.conn ≡ old.conn
     pub kept : (y.sealed ≡ x.sealed) × (y.moment ≡ x.moment)
     pub ends : (z : ServerSettings) (h : Course) (server : model.Server) (logons : Logons) (f : ServerEnd) (F : hearing.Frame)

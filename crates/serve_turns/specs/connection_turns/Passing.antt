@@ -1,5 +1,6 @@
 -- The link of one connection: what came, which turns were taken for it, what was written, and how that ended.
-use Rattle.std.specs.Prelude.{◌≡◌, ◌≤◌, ℕ, Bool, true, List, [], ◌∷◌, ◌++◌, Option, None, Some, Result, Ok, Err, ◌⊎◌}
+use Rattle.std.specs.Prelude.{◌≡◌, ◌≤◌, ℕ, Bool, true, List, [], ◌∷◌, ◌++◌, Option, None, Some, Result, Ok, Err, Vec, ◌⊎◌}
+use Rattle.std.specs.Global.{Global}
 use Rattle.base_outside.specs.streams.Faults.{Rose}
 use Rattle.spec_crypto.specs.sessions.Nonces.{last_counter}
 use Rattle.spec_wire.specs.messages.Frames.{Waits, Whole, Breaks, Frames, front}
@@ -19,25 +20,24 @@ use Rattle.serve_turns.specs.event_book.History.{AllMeet, Course, Placed}
 use Rattle.serve_turns.specs.link_serving.Passage.{Passed}
 
 -- the link took these bytes and gave none
-module _ {K : Type 0} (told : Type 0) (given written : K → List ℕ) where
+module _ {K : Type 0} (told : Type 0) (given left written : K → List ℕ) where
   abbrev pub HasWritten : K → K → List ℕ → Type 0
-  HasWritten old new wrote = Passed told given written old new [] wrote
+  HasWritten old new wrote = Passed told given left written old new [] wrote
 
-module _ {K : Type 0} (told : Type 0) (given written : K → List ℕ) (faults : K → ℕ) where
+module _ {K : Type 0} (told : Type 0) (given left written : K → List ℕ) (faults : K → ℕ) where
   -- the link failed in the middle of an answer: its count of faults rose, and a front of the answer was written
-  pub record PutFails (old : K) (answer : Result (List ℕ) ConnEnd) (new : K) (why : ConnEnd) : Type 0 where
+  pub record PutFails (old : K) (answer : List ℕ) (new : K) (why : ConnEnd) : Type 0 where
     pub wrote : List ℕ
     pub lost : List ℕ
-    pub answer_is : answer ≡ Ok (wrote ++ lost)
-    pub passed : HasWritten told given written old new wrote
+    pub answer_is : answer ≡ wrote ++ lost
+    pub passed : HasWritten told given left written old new wrote
     pub is : why ≡ LinkFault (faults new)
     pub rose : Rose (faults old) (faults new)
 
   -- an answer was put onto a link; or the connection ends so
-  abbrev pub Puts : K → Result (List ℕ) ConnEnd → K → Option ConnEnd → Type 0
-  Puts old answer new None =
-      (bytes : List ℕ) × (answer ≡ Ok bytes) × HasWritten told given written old new bytes × (faults new ≡ faults old)
-  Puts old answer new (Some why) = PutFails old answer new why ⊎ ((answer ≡ Err why) × (new ≡ old))
+  abbrev pub Puts : K → List ℕ → K → Result Unit ConnEnd → Type 0
+  Puts old answer new (Ok x) = HasWritten told given left written old new answer × (faults new ≡ faults old)
+  Puts old answer new (Err why) = PutFails old answer new why
 
   -- why a stream could not be fed: the link failed and gave nothing, or the bytes that it gave found no memory
   abbrev pub CannotFeed : K → K → List ℕ → ConnEnd → Type 0
@@ -49,11 +49,11 @@ module _ {K : Type 0} (told : Type 0) (given written : K → List ℕ) (faults :
     -- what a link gave was put behind a stream; or the peer sends no more; or the connection ends so, and the stream stays
     abbrev pub Feeds : K → List ℕ → K → List ℕ → Result Unit (Option ConnEnd) → Type 0
     Feeds old stream new stream' (Ok x) =
-        (came : List ℕ) × Passed told given written old new came [] × (faults new ≡ faults old) × (stream' ≡ stream ++ came)
+        (came : List ℕ) × Passed told given left written old new came [] × (faults new ≡ faults old) × (stream' ≡ stream ++ came)
     Feeds old stream new stream' (Err None) =
-        Passed told given written old new [] [] × (faults new ≡ faults old) × (ended new ≡ true) × (stream' ≡ stream)
+        Passed told given left written old new [] [] × (faults new ≡ faults old) × (ended new ≡ true) × (stream' ≡ stream)
     Feeds old stream new stream' (Err (Some why)) =
-        (came : List ℕ) × Passed told given written old new came [] × (stream' ≡ stream) × CannotFeed old new came why
+        (came : List ℕ) × Passed told given left written old new came [] × (stream' ≡ stream) × CannotFeed old new came why
 
 -- what stands at the front of these bytes is no frame, or it found no memory
 abbrev pub CannotRead : List ℕ → ConnEnd → Type 0
@@ -67,15 +67,16 @@ NextFrame old new (Err why) = (new ≡ old) × CannotRead old why
 
 -- ---- one frame
 
-abbrev pub FrameComes : ServerSettings → Course → ℕ → ServerEnd → ℕ → List ℕ → List Placed → Result (List ℕ) ConnEnd → ConnectionState
-    → Type 0
-FrameComes z h k f before frame turns (Ok bytes) new = (behind : ServerEnd) × (seals : List Seal)
-    × Answers z h k f before frame turns bytes behind new.setups seals × ShowsEnd k z.guid new.conn behind × (behind.counter ≤ last_counter)
+abbrev pub FrameComes : ServerSettings → Course → ℕ → ServerEnd → ℕ → List ℕ → List Placed → Result (Vec ℕ Global) ConnEnd
+    → ConnectionState → Type 0
+FrameComes z h k f before frame turns (Ok v) new = (behind : ServerEnd) × (seals : List Seal)
+    × Answers z h k f before frame turns v.items behind new.setups seals × ShowsEnd k z.guid new.conn behind
+    × (behind.counter ≤ last_counter)
 FrameComes z h k f before frame turns (Err why) new = StopsFrame z h k f before frame turns why
 
 -- its turns, and what came of it, whatever the places of a history found that these turns meet
-pub record FrameTaken {B : Type 0} (v : View B Turn Answer) (old : ConnectionState) (frame : List ℕ) (result : Result (List ℕ) ConnEnd)
-    (new : ConnectionState) (w : View B Turn Answer) : Type 0 where
+pub record FrameTaken {B : Type 0} (v : View B Turn Answer) (old : ConnectionState) (frame : List ℕ)
+    (result : Result (Vec ℕ Global) ConnEnd) (new : ConnectionState) (w : View B Turn Answer) : Type 0 where
   pub turns : List Placed
   pub own : w.own ≡ v.own ++ turns
   pub comes : (z : ServerSettings) (h : Course) (f : ServerEnd) → AllMeet z h turns → ShowsEnd old.conn.id z.guid old.conn f
@@ -173,8 +174,8 @@ StopsBy z h k f before rest wrote said last faults faults' ended (Some BadFrame)
 StopsBy z h k f before rest wrote said last faults faults' ended (Some why) =
     WasEnded z h k f before rest wrote said last faults faults' why
 
--- Frames were answered up to where no further one was, and why. Where the link failed, each whole frame that came before was answered, or it
--- failed in the last answer.
+-- Frames were answered up to where no further one was, and why. Where the link failed, each whole frame that came before was answered, or
+-- it failed in the last answer.
 pub record FramesStop (z : ServerSettings) (h : Course) (k : ℕ) (f : ServerEnd) (before : ℕ) (turns : List Placed)
     (stream came wrote : List ℕ) (faults faults' : ℕ) (ended : Bool) (why : Option ConnEnd) (seals : List Seal) : Type 0 where
   pub answered : List Placed
@@ -193,13 +194,13 @@ pub record FramesStop (z : ServerSettings) (h : Course) (k : ℕ) (f : ServerEnd
 
 -- ---- over a link, in code
 
-module _ {B K : Type 0} (told : Type 0) (given written : K → List ℕ) (faults : K → ℕ) where
+module _ {B K : Type 0} (told : Type 0) (given left written : K → List ℕ) (faults : K → ℕ) where
   -- frames were taken and answered on a link that has not failed meanwhile
   pub record GoesOn (v : View B Turn Answer) (old : ConnectionState) (stream : List ℕ) (l : K) (w : View B Turn Answer)
       (new : ConnectionState) (rest : List ℕ) (n : K) : Type 0 where
     pub came : List ℕ
     pub wrote : List ℕ
-    pub passed : Passed told given written l n came wrote
+    pub passed : Passed told given left written l n came wrote
     pub calm : faults n ≡ faults l
     pub turns : List Placed
     pub own : w.own ≡ v.own ++ turns
@@ -212,7 +213,7 @@ module _ {B K : Type 0} (told : Type 0) (given written : K → List ℕ) (faults
         (why : Option ConnEnd) : Type 0 where
       pub came : List ℕ
       pub wrote : List ℕ
-      pub passed : Passed told given written l n came wrote
+      pub passed : Passed told given left written l n came wrote
       pub turns : List Placed
       pub own : w.own ≡ v.own ++ turns
       pub stops : (z : ServerSettings) (h : Course) (f : ServerEnd) → AllMeet z h turns → ShowsEnd old.conn.id z.guid old.conn f

@@ -114,12 +114,12 @@ module _ {B : Type 0} where
   abbrev pub LetsGo : ℕ → EventAnswer → View B Turn Answer → View B Turn Answer → Type 0
   LetsGo number first v w = LetsGoBy (has_lost first) number v w
 
-module _ {B K : Type 0} (told : Type 0) (given written : K → List ℕ) (faults : K → ℕ) (ended : K → Bool) where
+module _ {B K : Type 0} (told : Type 0) (given left written : K → List ℕ) (faults : K → ℕ) (ended : K → Bool) where
   -- the frames of a connection that was taken in; or there was no room for its state
   abbrev pub OnLinkFrames : List ℕ → ℕ → View B Turn Answer → K → Option ConnEnd → View B Turn Answer → K → Type 0
   OnLinkFrames guid number v old why w new =
       ((c : ConnectionState) × (salt : List ℕ) × ShowsEnd number guid c.conn (first_server_end salt) × (c.setups ≡ 0)
-      × Stops told given written faults ended v c [] old w new why)
+      × Stops told given left written faults ended v c [] old w new why)
       ⊎ ((why ≡ Some Memory) × (w ≡ v) × (new ≡ old))
 
   -- the same over this link: the rest of a connection that was taken in, and the whole
@@ -127,12 +127,12 @@ module _ {B K : Type 0} (told : Type 0) (given written : K → List ℕ) (faults
       : Type 0 where
     pub came : List ℕ
     pub wrote : List ℕ
-    pub passed : Passed told given written old new came wrote
+    pub passed : Passed told given left written old new came wrote
     pub rest : IsServedOn guid number v came wrote (faults old) (faults new) (ended new) end w
 
   pub record OnLink (guid : List ℕ) (number : ℕ) (v : View B Turn Answer) (old : K) (end : Ended) (w : View B Turn Answer) (new : K)
       : Type 0 where
     pub came : List ℕ
     pub wrote : List ℕ
-    pub passed : Passed told given written old new came wrote
+    pub passed : Passed told given left written old new came wrote
     pub served : IsServed guid number v came wrote (faults old) (faults new) (ended new) end w

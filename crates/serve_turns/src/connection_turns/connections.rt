@@ -36,8 +36,8 @@ impl<C: Clock, R: Rng> Connections<C, R> {
         self.clock.lock(rt).now()
     }
 
-    /// Random bytes for a challenge. They are drawn as they are used, for a frame at a time: 4,096 of them drawn before the connection
-    /// would take 32 KiB of it, and each event tells its own in the server's history all the same.
+    /// Random bytes for a challenge. They are drawn as they are used, for a frame at a time: those of 4,096 challenges, drawn before the
+    /// connection, would take 32 KiB of it, and each event tells its own in the server's history all the same.
     pub(crate) fn fresh<W: Wait>(&self, rt: &W) -> [u8; 8]
         ensures { IsDrawn R.stream 8 result }
     {
@@ -69,9 +69,9 @@ fn salt_of<R: Rng>(random: &mut R) -> [u8; 32]
 }
 
 /// Serves one connection until it ends: a turn when it is made; for each frame that the link gives, in order, one for each of its messages
-/// that asks something of the server; and a turn when it has ended, but where it was not taken in. Each answer goes onto the link before the
-/// next frame is taken. What was written are the answers, or a front of them where the link failed. Served briefly, it ends as soon as it was
-/// taken in, as where no memory was left to read into.
+/// that asks something of the server; and a turn when it has ended, but where it was not taken in. Each answer goes onto the link before
+/// the next frame is taken. What was written are the answers, or a front of them where the link failed. Served briefly, it ends as soon as
+/// it was taken in, as where no memory was left to read into.
 pub fn serve_connection<W, L, S, C, R>(
     rt: &W,
     outside: &Connections<C, R>,
@@ -89,7 +89,7 @@ where
     R: Rng,
     requires own { IsSeatOf book.now seat.old }
     ensures same { IsSameSeat seat.old seat.new }
-    ensures served { OnLink L.told L.given L.written L.faults L.ended outside.now.guid number (view_of seat.old) link.old result
+    ensures served { OnLink L.told L.given L.left L.written L.faults L.ended outside.now.guid number (view_of seat.old) link.old result
         (view_of seat.new) link.new }
 {
     serve_before(rt, outside, &Nobody, link, book, seat, number, briefly)
@@ -115,7 +115,7 @@ where
     V: Onlooker<S>,
     requires own { IsSeatOf book.now seat.old }
     ensures same { IsSameSeat seat.old seat.new }
-    ensures served { OnLink L.told L.given L.written L.faults L.ended outside.now.guid number (view_of seat.old) link.old result
+    ensures served { OnLink L.told L.given L.left L.written L.faults L.ended outside.now.guid number (view_of seat.old) link.old result
         (view_of seat.new) link.new }
 {
     let begun = Begun {
@@ -204,7 +204,8 @@ where
     requires taken { IsTakenIn begun.now.number (view_of begun.now.seat.value) (view_of seat.old) }
     requires link { link.old ≡ begun.now.link.value }
     ensures same { IsSameSeat seat.old seat.new }
-    ensures frames { OnLinkFrames L.told L.given L.written L.faults L.ended begun.now.guid begun.now.number (view_of seat.old) link.old result
+    ensures frames { OnLinkFrames L.told L.given L.left L.written L.faults L.ended begun.now.guid begun.now.number
+        (view_of seat.old) link.old result
         (view_of seat.new) link.new }
 {
     let mut state = match first_state(rt, outside, begun.number, begun.guid) {
@@ -238,7 +239,8 @@ where
     requires taken { IsTakenIn begun.now.number (view_of begun.now.seat.value) (view_of seat.old) }
     requires link { link.old ≡ begun.now.link.value }
     ensures same { IsSameSeat seat.old seat.new }
-    ensures rest { OnLinkTaken L.told L.given L.written L.faults L.ended begun.now.guid begun.now.number (view_of seat.old) link.old result
+    ensures rest { OnLinkTaken L.told L.given L.left L.written L.faults L.ended begun.now.guid begun.now.number
+        (view_of seat.old) link.old result
         (view_of seat.new) link.new }
 {
     let why = serve_frames(rt, outside, onlooker, begun, link, book, seat, briefly);

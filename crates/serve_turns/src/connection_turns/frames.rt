@@ -1,5 +1,5 @@
 //! The frames of one connection.
-ghost use Rattle.std.specs.Prelude.{◌≡◌, ◌<◌, ℕ, List, [], Ok, length, vec_len, IfOk};
+ghost use Rattle.std.specs.Prelude.{◌≡◌, ◌<◌, ℕ, List, [], length, vec_len, IfOk};
 ghost use Rattle.spec_exchange.specs.State.{Server};
 ghost use Rattle.spec_wire.specs.credits.Window.{HeldIds};
 ghost use Rattle.spec_world.specs.Answering as answering;
@@ -7,16 +7,16 @@ ghost use Rattle.spec_world.specs.Ends.{Logons, ServerEnd};
 ghost use Rattle.spec_world.specs.Hearing as hearing;
 ghost use Rattle.spec_world.specs.Settings.{ServerSettings};
 ghost use Rattle.conn_core.specs.Shown.{ShowsEnd};
-ghost use Rattle.conn_core.specs.frame_messages.Checking.{AllHaveMessages};
+ghost use Rattle.conn_core.specs.frame_messages.Checking.{AllHaveMessages, holds_setup};
 ghost use Rattle.conn_core.specs.message_replies.Replying.{AreMessagesShort};
 ghost use Rattle.conn_core.specs.reply_frames.Replying.{AreAnswers, WalkReplies, walk_replied};
 ghost use Rattle.serve_turns.specs.shared_book.Words.{view_of, IsSameSeat, IsSeatOf};
-ghost use Rattle.serve_turns.specs.connection_turns.Drawing.{HasDrawn};
+ghost use Rattle.serve_turns.specs.connection_turns.Drawing.{HasDrawn, IsDrawnIf};
 ghost use Rattle.serve_turns.specs.connection_turns.Due.{IsUnderWay};
 ghost use Rattle.serve_turns.specs.connection_turns.Passing.{Feeds, FrameTaken, NextFrame, Puts, Stops, TakesAll};
 
 use crate::connection_turns::connections::Connections;
-use crate::connection_turns::messages::take_messages;
+use crate::connection_turns::messages::{holds_setup, take_messages};
 use crate::connection_turns::news::news_of;
 use crate::connection_turns::onlooking::{Begun, Onlooker, look_on};
 use crate::connection_turns::state::ConnectionState;
@@ -24,7 +24,7 @@ use crate::connection_turns::writing::write_all;
 use crate::event_book::EventBook;
 use crate::shared_book::{BookSeat, SharedBook};
 use base_outside::{Clock, Link, News, Standing};
-use conn_core::{CheckedFrame, ConnEnd, Dealt, Serve, answer, check, dealt_for};
+use conn_core::{CheckedFrame, ConnEnd, Dealt, Moment, Serve, answer, check, dealt_for};
 use rand_core::Rng;
 use std::alloc::{AllocError, Global};
 use std::sync::Wait;
@@ -49,7 +49,7 @@ fn finish(
     state: &mut ConnectionState,
     asked: &CheckedFrame,
     dealt: &Dealt,
-) -> Result<Bytes, ConnEnd>
+) -> Result<Vec<u8>, ConnEnd>
     requires messages { AllHaveMessages asked.now }
     requires short { AreMessagesShort dealt.now.replies.items.items }
     ensures setups { state.new.setups ≡ state.old.setups }
@@ -62,8 +62,23 @@ fn finish(
     answer(&mut state.conn, asked, &dealt.replies)
 }
 
-/// Takes a frame: it is opened and checked, each message that asks something of the server has a turn, and the replies are sealed or signed.
-/// Nothing of a cipher is in a turn. The clock is read once, and random bytes are drawn once, as at most one SESSION_SETUP is heard.
+/// Random bytes for the challenge of a SESSION_SETUP in a frame. Where it holds none no bytes are drawn, since no event of it asks for any.
+fn fresh_for<W, C, R>(rt: &W, outside: &Connections<C, R>, asked: &CheckedFrame) -> [u8; 8]
+where
+    W: Wait,
+    C: Clock,
+    R: Rng,
+    ensures { IsDrawnIf R.stream (holds_setup asked.now.messages.items) result }
+{
+    if !holds_setup(asked) {
+        return [0; 8];
+    }
+    outside.fresh(rt)
+}
+
+/// Takes a frame: it is opened and checked, each message that asks something of the server has a turn, and the replies are sealed or
+/// signed. Nothing of a cipher is in a turn. The clock is read once, and random bytes are drawn once at most, as at most one SESSION_SETUP
+/// is heard.
 fn take_frame<W, S, C, R>(
     rt: &W,
     outside: &Connections<C, R>,
@@ -71,7 +86,7 @@ fn take_frame<W, S, C, R>(
     seat: &mut BookSeat<EventBook<S>>,
     state: &mut ConnectionState,
     frame: &[u8],
-) -> Result<Bytes, ConnEnd>
+) -> Result<Vec<u8>, ConnEnd>
 where
     W: Wait,
     S: Serve,
@@ -89,13 +104,14 @@ where
         Err(why) => return Err(why),
     };
     // Before the first event, so that there is a place for the answer to each one that acts.
-    let mut dealt = match dealt_for(state.conn.alloc, asked.len()) {
+    let mut dealt = match dealt_for(state.conn.alloc, asked.messages.len()) {
         Ok(dealt) => dealt,
         Err(AllocError) => return Err(ConnEnd::Memory),
     };
     // Before the first turn, so that no other lock is waited for while the server is held.
-    let fresh = outside.fresh(rt);
-    match take_messages(rt, book, seat, now, fresh, state, &mut asked, &mut dealt) {
+    let fresh = fresh_for(rt, outside, &asked);
+    let moment = Moment { time: now, fresh };
+    match take_messages(rt, book, seat, &moment, state, &mut asked, &mut dealt) {
         Ok(()) => finish(state, &asked, &dealt),
         Err(why) => Err(why),
     }
@@ -104,7 +120,8 @@ where
 /// Tells the link what a frame brought, if the server heard anything of it, and how its connection stands. Else what was told before may be
 /// out of date, as another channel's events aren't heard of here.
 fn tell<L: Link>(link: &mut L, standing: &Standing, news: &Option<News>)
-    ensures bytes { L.told → (L.given link.new ≡ L.given link.old) × (L.written link.new ≡ L.written link.old) }
+    ensures bytes { L.told → (L.left link.new ≡ L.left link.old) × (L.given link.new ≡ L.given link.old)
+        × (L.written link.new ≡ L.written link.old) }
     ensures calm { L.faults link.new ≡ L.faults link.old }
 {
     if let Some(news) = news {
@@ -112,29 +129,23 @@ fn tell<L: Link>(link: &mut L, standing: &Standing, news: &Option<News>)
     }
 }
 
-/// Puts the answer to a frame, of which who looks on was told, onto the link, which hears first what the frame brought. Else it says why
-/// the connection ends.
+/// Puts the answer to a frame, of which who looks on was told, onto the link, which hears first what the frame brought. Where the link
+/// fails, the connection ends.
 fn put_answer<L: Link, S: Serve, V: Onlooker<S>>(
     _onlooker: &V,
     link: &mut L,
     standing: &Standing,
     news: &Option<News>,
-    answer: &Result<Bytes, ConnEnd>,
-) -> Option<ConnEnd>
-    requires { (bytes : List ℕ) → answer.now ≡ Ok bytes → V.knows _onlooker.now bytes }
-    ensures { Puts L.told L.given L.written L.faults link.old answer.now link.new result }
+    answer: &[u8],
+) -> Result<(), ConnEnd>
+    requires { V.knows _onlooker.now answer.now }
+    ensures { Puts L.told L.given L.left L.written L.faults link.old answer.now link.new result }
 {
-    match answer {
-        Ok(bytes) => {
-            let text = bytes.as_slice();
-            // Before the write, so that its time-outs hold for it.
-            tell(link, standing, news);
-            match write_all(link, text) {
-                Ok(()) => None,
-                Err(_) => Some(ConnEnd::LinkFault(link.fault_count())),
-            }
-        }
-        Err(why) => Some(*why),
+    // Before the write, so that its time-outs hold for it.
+    tell(link, standing, news);
+    match write_all(link, answer) {
+        Ok(()) => Ok(()),
+        Err(_) => Err(ConnEnd::LinkFault(link.fault_count())),
     }
 }
 
@@ -155,7 +166,7 @@ fn feed_from<L: Link>(
     piece: &mut [u8],
 ) -> Result<(), Option<ConnEnd>>
     requires room { 0 < length piece.old }
-    ensures { Feeds L.told L.given L.written L.faults L.ended link.old stream.old link.new stream.new result }
+    ensures { Feeds L.told L.given L.left L.written L.faults L.ended link.old stream.old link.new stream.new result }
 {
     match link.read(piece) {
         Ok(0) => Err(None),
@@ -187,30 +198,27 @@ where
     R: Rng,
     V: Onlooker<S>,
     requires own { IsSeatOf book.now seat.old }
-    requires way { IsUnderWay L.told L.given L.written begun.now.guid begun.now.number (view_of begun.now.seat.value) begun.now.link.value
+    requires way { IsUnderWay L.told L.given L.left L.written begun.now.guid begun.now.number
+        (view_of begun.now.seat.value) begun.now.link.value
         (view_of seat.old) state.old stream.old link.old }
     ensures same { IsSameSeat seat.old seat.new }
-    ensures frames { TakesAll L.told L.given L.written L.faults L.ended (view_of seat.old) state.old stream.old link.old
+    ensures frames { TakesAll L.told L.given L.left L.written L.faults L.ended (view_of seat.old) state.old stream.old link.old
         (view_of seat.new) state.new stream.new link.new result }
 {
     for _ in rt.forever() {
-        match next_frame(stream) {
-            Ok(Some(frame)) => {
-                let message = frame.as_slice();
-                let answer = take_frame(rt, outside, book, seat, state, message);
-                look_on(onlooker, book, begun, seat, link, &answer);
-                if let Some(why) = put_answer(
-                    onlooker,
-                    link,
-                    &state.standing,
-                    &state.news,
-                    &answer,
-                ) {
-                    return Some(why);
-                }
-            }
+        let frame = match next_frame(stream) {
+            Ok(Some(frame)) => frame,
             Ok(None) => return None,
             Err(why) => return Some(why),
+        };
+        let answer = match take_frame(rt, outside, book, seat, state, frame.as_slice()) {
+            Ok(answer) => answer,
+            Err(why) => return Some(why),
+        };
+        let text = answer.as_slice();
+        look_on(onlooker, book, begun, seat, link, text);
+        if let Err(why) = put_answer(onlooker, link, &state.standing, &state.news, text) {
+            return Some(why);
         }
     }
     unreachable!()
@@ -236,10 +244,11 @@ where
     R: Rng,
     V: Onlooker<S>,
     requires own { IsSeatOf book.now seat.old }
-    requires way { IsUnderWay L.told L.given L.written begun.now.guid begun.now.number (view_of begun.now.seat.value) begun.now.link.value
+    requires way { IsUnderWay L.told L.given L.left L.written begun.now.guid begun.now.number
+        (view_of begun.now.seat.value) begun.now.link.value
         (view_of seat.old) state.old [] link.old }
     ensures same { IsSameSeat seat.old seat.new }
-    ensures frames { Stops L.told L.given L.written L.faults L.ended (view_of seat.old) state.old [] link.old (view_of seat.new)
+    ensures frames { Stops L.told L.given L.left L.written L.faults L.ended (view_of seat.old) state.old [] link.old (view_of seat.new)
         link.new result }
 {
     let mut stream = Deframer::new(outside.alloc);

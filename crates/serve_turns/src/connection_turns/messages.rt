@@ -1,20 +1,21 @@
 //! The messages of a checked frame, one after the other: each that asks something of the server in a turn of its own.
-ghost use Rattle.std.specs.Prelude.{◌≡◌, ◌≤◌, ◌<◌, ◌+◌, ◌==◌, ◌&&◌, [], false, true, length, option_map, vec_capacity};
+ghost use Rattle.std.specs.Prelude.{◌≡◌, ◌≤◌, ◌<◌, ◌+◌, ◌==◌, [], false, true, Some, length, option_map, slice_get, vec_capacity};
 ghost use Rattle.spec_world.specs.Given.{is_past_setups};
-ghost use Rattle.conn_core.specs.frame_messages.Checking.{AreDenied, AreInOrder, HasMessage};
+ghost use Rattle.conn_core.specs.declared.frame_messages.checked.Checked.{Checked};
+ghost use Rattle.conn_core.specs.frame_messages.Checking.{AreDenied, AreInOrder, HasMessage, holds_setup};
 ghost use Rattle.conn_core.specs.frame_events.Dealing.{AreShortIf};
-ghost use Rattle.conn_core.specs.message_replies.Replying.{AreMessagesShort, has_message_event};
+ghost use Rattle.conn_core.specs.message_replies.Replying.{AreMessagesShort};
 ghost use Rattle.conn_core.specs.related.Carrying.{carry_of};
 ghost use Rattle.serve_turns.specs.shared_book.Words.{view_of, IsSameSeat, IsSeatOf};
 ghost use Rattle.serve_turns.specs.event_book.Places.{is_asked};
-ghost use Rattle.serve_turns.specs.connection_turns.Messages.{AnswersOne, DealsFor, TakesMessage, TakesMessages, TellsOf};
+ghost use Rattle.serve_turns.specs.connection_turns.Messages.{DealsFor, TakesMessage, TakesMessages, TakesTurn};
 
 use crate::connection_turns::state::ConnectionState;
 use crate::connection_turns::turning::{Asked, ask_in_turn};
 use crate::event_book::{Asks, EventBook};
 use crate::shared_book::{BookSeat, SharedBook};
 use conn_core::{
-    Carry, Checked, CheckedFrame, Conn, ConnEnd, Dealt, Reply, Serve, ServeError, Told, goes,
+    Carry, Checked, CheckedFrame, ConnEnd, Dealt, Moment, Reply, Serve, ServeError, Told, goes,
     hand_on, has_event, refuse, told_of,
 };
 use std::alloc::Global;
@@ -35,11 +36,18 @@ fn is_setup(checked: &Checked) -> bool
     checked.header.command == SESSION_SETUP
 }
 
-/// Whether it is a SESSION_SETUP that would have an event, behind as many as the server hears of a connection.
-fn is_late(setups: u32, checked: &Checked) -> bool
-    ensures { result ≡ (has_message_event checked.now && is_past_setups setups checked.now.header) }
+/// Whether a frame holds a SESSION_SETUP.
+pub(crate) fn holds_setup(asked: &CheckedFrame) -> bool
+    ensures { result ≡ holds_setup asked.now.messages.items }
 {
-    has_event(checked) && is_setup(checked) && setups >= MOST_SETUPS
+    asked.messages.iter().any(|checked| is_setup(checked))
+}
+
+/// Whether it is a SESSION_SETUP behind as many as the server hears of a connection.
+fn is_late(setups: u32, checked: &Checked) -> bool
+    ensures { result ≡ is_past_setups setups checked.now.header }
+{
+    is_setup(checked) && setups >= MOST_SETUPS
 }
 
 /// What stands for a frame that is in a turn.
@@ -59,25 +67,13 @@ fn asks_of(frame: CheckedFrame, at: usize, told: Told) -> Asks
     Asks { frame, at, told }
 }
 
-/// What the connection tells of a message, with these random bytes.
-fn tells(conn: &Conn, asked: &CheckedFrame, at: usize, fresh: [u8; 8]) -> Told
-    requires { HasMessage asked.now at }
-    ensures told { TellsOf conn.now asked.now at result }
-    ensures fresh { result.fresh ≡ fresh }
-{
-    let mut told = told_of(conn, asked, at, fresh);
-    told.fresh = fresh;
-    told
-}
-
-/// Gives the server one message of a frame, where it asks something, in a turn of its own. The frame is as it was. What the turn is told of
-/// the connection is what `told_of` tells; all else of it stays outside.
+/// Gives the server a message of a frame that asks something, in a turn of its own. The frame is as it was. What the turn is told of the
+/// connection is what `told_of` tells; all else of it stays outside.
 fn answer_in_turn<W, S>(
     rt: &W,
     book: &SharedBook<EventBook<S>>,
     seat: &mut BookSeat<EventBook<S>>,
-    now: u64,
-    fresh: [u8; 8],
+    moment: &Moment,
     state: &mut ConnectionState,
     asked: &mut CheckedFrame,
     at: usize,
@@ -86,22 +82,18 @@ where
     W: Wait,
     S: Serve,
     requires own { IsSeatOf book.now seat.old }
-    requires message { HasMessage asked.old at }
-    requires denied { AreDenied asked.old }
+    requires asks { is_asked asked.old at ≡ true }
     ensures same { IsSameSeat seat.old seat.new }
     ensures frame { asked.new ≡ asked.old }
-    ensures answers { AnswersOne (view_of seat.old) now fresh state.old asked.old at state.new result (view_of seat.new) }
+    ensures takes { (m : Checked) → slice_get asked.old.messages.items at ≡ Some m
+        → TakesTurn (view_of seat.old) moment.now.time moment.now.fresh state.old asked.old at m state.new result (view_of seat.new) }
     ensures short { AreShortIf result }
 {
-    let checked = asked.checked(at);
-    if !has_event(checked) {
-        return None;
-    }
-    let setup = is_setup(checked);
-    let told = tells(&state.conn, asked, at, fresh);
+    let setup = is_setup(&asked.messages[at]);
+    let told = told_of(&state.conn, asked, at, moment.fresh);
     let frame = mem::replace(asked, hollow(state.conn.alloc));
     let asks = asks_of(frame, at, told);
-    let given = ask_in_turn(rt, book, seat, now, asks);
+    let given = ask_in_turn(rt, book, seat, moment.time, asks);
     let Asked {
         frame,
         reply,
@@ -118,8 +110,7 @@ fn deal_in_turn<W, S>(
     rt: &W,
     book: &SharedBook<EventBook<S>>,
     seat: &mut BookSeat<EventBook<S>>,
-    now: u64,
-    fresh: [u8; 8],
+    moment: &Moment,
     state: &mut ConnectionState,
     asked: &mut CheckedFrame,
     at: usize,
@@ -135,16 +126,19 @@ where
     requires room { length dealt.old.replies.items.items < vec_capacity dealt.old.replies.items }
     ensures same { IsSameSeat seat.old seat.new }
     ensures frame { asked.new ≡ asked.old }
-    ensures deals { DealsFor (view_of seat.old) now fresh state.old asked.old at (option_map carry_of carried.now) dealt.old state.new
-        dealt.new
-        result (view_of seat.new) }
+    ensures deals { DealsFor (view_of seat.old) moment.now.time moment.now.fresh state.old asked.old at (option_map carry_of carried.now)
+        dealt.old state.new dealt.new result (view_of seat.new) }
     ensures room { vec_capacity dealt.old.replies.items ≤ vec_capacity dealt.new.replies.items }
 {
-    if is_late(state.setups, asked.checked(at)) {
+    let checked = &asked.messages[at];
+    if !has_event(checked) {
+        return hand_on(asked, at, carried, dealt, None);
+    }
+    if is_late(state.setups, checked) {
         let alloc = state.conn.alloc;
         return refuse(alloc, asked, at, carried, dealt, INSUFFICIENT_RESOURCES);
     }
-    let answer = answer_in_turn(rt, book, seat, now, fresh, state, asked, at);
+    let answer = answer_in_turn(rt, book, seat, moment, state, asked, at);
     hand_on(asked, at, carried, dealt, answer)
 }
 
@@ -153,8 +147,7 @@ fn take_message<W, S>(
     rt: &W,
     book: &SharedBook<EventBook<S>>,
     seat: &mut BookSeat<EventBook<S>>,
-    now: u64,
-    fresh: [u8; 8],
+    moment: &Moment,
     state: &mut ConnectionState,
     asked: &mut CheckedFrame,
     at: usize,
@@ -170,10 +163,11 @@ where
     requires there { at < length asked.old.messages.items }
     requires room { length dealt.old.replies.items.items < vec_capacity dealt.old.replies.items }
     ensures same { IsSameSeat seat.old seat.new }
-    ensures takes { TakesMessage (view_of seat.old) now fresh state.old asked.old at (option_map carry_of carried.now) dealt.old
-        state.new asked.new dealt.new result (view_of seat.new) }
+    ensures takes { TakesMessage (view_of seat.old) moment.now.time moment.now.fresh state.old asked.old at (option_map carry_of carried.now)
+        dealt.old state.new asked.new dealt.new result (view_of seat.new) }
     ensures order { AreInOrder asked.new }
     ensures denied { AreDenied asked.new }
+    ensures setups { holds_setup asked.new.messages.items ≡ holds_setup asked.old.messages.items }
     ensures kept { (length asked.new.messages.items ≡ length asked.old.messages.items) × (asked.new.sealed ≡ asked.old.sealed)
         × (asked.new.moment ≡ asked.old.moment) }
     ensures room { (vec_capacity dealt.old.replies.items ≤ vec_capacity dealt.new.replies.items)
@@ -183,7 +177,7 @@ where
     if !goes(asked, at, carried) {
         return Ok(*carried);
     }
-    match deal_in_turn(rt, book, seat, now, fresh, state, asked, at, carried, dealt) {
+    match deal_in_turn(rt, book, seat, moment, state, asked, at, carried, dealt) {
         Ok(behind) => Ok(Some(behind)),
         Err(why) => Err(why),
     }
@@ -194,8 +188,7 @@ pub(crate) fn take_messages<W, S>(
     rt: &W,
     book: &SharedBook<EventBook<S>>,
     seat: &mut BookSeat<EventBook<S>>,
-    now: u64,
-    fresh: [u8; 8],
+    moment: &Moment,
     state: &mut ConnectionState,
     asked: &mut CheckedFrame,
     dealt: &mut Dealt,
@@ -209,16 +202,14 @@ where
     requires none { (dealt.old.replies.items.items ≡ []) × (dealt.old.took ≡ false) }
     requires room { length asked.old.messages.items ≤ vec_capacity dealt.old.replies.items }
     ensures same { IsSameSeat seat.old seat.new }
-    ensures takes { TakesMessages (view_of seat.old) now fresh state.old asked.old state.new asked.new dealt.new result
-        (view_of seat.new) }
+    ensures takes { TakesMessages (view_of seat.old) moment.now.time moment.now.fresh state.old asked.old state.new asked.new dealt.new
+        result (view_of seat.new) }
     ensures order { AreInOrder asked.new }
     ensures short { AreMessagesShort dealt.new.replies.items.items }
 {
     let mut carried: Option<Carry> = None;
-    for at in 0..asked.len() {
-        match take_message(
-            rt, book, seat, now, fresh, state, asked, at, &carried, dealt,
-        ) {
+    for at in 0..asked.messages.len() {
+        match take_message(rt, book, seat, moment, state, asked, at, &carried, dealt) {
             Ok(behind) => carried = behind,
             Err(why) => return Err(why),
         }

@@ -155,7 +155,7 @@ pub(crate) fn news_of(asked: &CheckedFrame, replies: &Replies) -> Option<News> {
     let mut place: usize = 0;
     for checked in asked.messages.as_slice() {
         let asks = has_event(checked);
-        if let Some(status) = answered(checked, asks, replies.as_slice().get(place)) {
+        if let Some(status) = answered(checked, asks, replies.items.get(place)) {
             news = Some(first_of(news, message_news(asked.bytes.as_slice(), checked, status)));
         }
         if asks {

@@ -1,5 +1,5 @@
 //! Who looks on before an answer goes out.
-ghost use Rattle.std.specs.Prelude.{◌≡◌, ℕ, List, Ok};
+ghost use Rattle.std.specs.Prelude.{◌≡◌, ℕ, List};
 ghost use Rattle.serve_turns.specs.shared_book.Seats.{IsHistory};
 ghost use Rattle.serve_turns.specs.shared_book.Words.{view_of, IsSameSeat, IsSeatOf};
 ghost use Rattle.serve_turns.specs.connection_turns.Due.{IsAnswerDue};
@@ -8,9 +8,8 @@ ghost use Rattle.serve_turns.specs.event_book.Steps.{EventSteps};
 use crate::event_book::EventBook;
 use crate::shared_book::{BookSeat, SharedBook};
 use base_outside::Link;
-use conn_core::{ConnEnd, Serve};
+use conn_core::Serve;
 use std::snapshot::Snapshot;
-use wire_bytes::Bytes;
 
 /// A connection as it began: the server's guid and its number, and what its seat knew and its link had passed then.
 #[derive(Drop)]
@@ -35,7 +34,7 @@ pub trait Onlooker<S: Serve> {
         link: &L,
         answer: &[u8],
     )
-        requires { IsAnswerDue L.told L.given L.written S.shows S.stopped begun.now.guid begun.now.number
+        requires { IsAnswerDue L.told L.given L.left L.written S.shows S.stopped begun.now.guid begun.now.number
             (view_of begun.now.seat.value) begun.now.link.value (view_of seat.now) link.now answer.now }
         ensures { knows self.now answer.now };
 }
@@ -57,26 +56,24 @@ impl<S: Serve> Onlooker<S> for Nobody {
     ) {}
 }
 
-/// Tells who looks on of the answer to a frame, before any of its bytes goes out.
+/// Tells who looks on of an answer, before any of its bytes goes out.
 pub(crate) fn look_on<L: Link, S: Serve, V: Onlooker<S>>(
     onlooker: &V,
     book: &SharedBook<EventBook<S>>,
     begun: &Begun<S, L>,
     seat: &mut BookSeat<EventBook<S>>,
     link: &L,
-    answer: &Result<Bytes, ConnEnd>,
+    answer: &[u8],
 )
     requires own { IsSeatOf book.now seat.old }
-    requires due { (bytes : List ℕ) → answer.now ≡ Ok bytes → IsHistory (EventSteps S.shows S.stopped) (view_of seat.old)
-        → IsAnswerDue L.told L.given L.written S.shows S.stopped begun.now.guid begun.now.number (view_of begun.now.seat.value)
-        begun.now.link.value (view_of seat.old) link.now bytes }
+    requires due { IsHistory (EventSteps S.shows S.stopped) (view_of seat.old)
+        → IsAnswerDue L.told L.given L.left L.written S.shows S.stopped begun.now.guid begun.now.number (view_of begun.now.seat.value)
+        begun.now.link.value (view_of seat.old) link.now answer.now }
     ensures same { IsSameSeat seat.old seat.new }
     ensures own { (view_of seat.new).own ≡ (view_of seat.old).own }
-    ensures told { (bytes : List ℕ) → answer.now ≡ Ok bytes → V.knows onlooker.now bytes }
+    ensures told { V.knows onlooker.now answer.now }
 {
-    if let Ok(bytes) = answer {
-        // What the seat knows is looked up in the book, in no turn.
-        book.peek(seat);
-        onlooker.before_write(begun, seat, link, bytes.as_slice());
-    }
+    // What the seat knows is looked up in the book, in no turn.
+    book.peek(seat);
+    onlooker.before_write(begun, seat, link, answer);
 }

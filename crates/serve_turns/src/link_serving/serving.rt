@@ -3,8 +3,8 @@ ghost use Rattle.std.specs.Prelude.{◌≡◌, ◌+◌, ◌<◌, ◌≤◌, ◌^
 ghost use Rattle.serve_turns.specs.declared.shared_book.view.View.{View};
 ghost use Rattle.serve_turns.specs.shared_book.Turns.{rejoined, with_made};
 ghost use Rattle.serve_turns.specs.shared_book.Words.{lasting, view_of, IsSameSeat, IsSeatAt, IsSeatOf};
-ghost use Rattle.serve_turns.specs.link_serving.Passage.{IsNewLink, IsOfLink, Passage, ServesOn, ServesOver};
-ghost use Rattle.serve_turns.specs.link_serving.Serving.{AreServed, IsNewSeat, Leaves, Link};
+ghost use Rattle.serve_turns.specs.link_serving.Passage.{IsLinkAt, IsNewLink, Passage, ServesOn};
+ghost use Rattle.serve_turns.specs.link_serving.Serving.{IsNewSeat, Leaves, Link, LinksServed};
 
 use crate::shared_book::{Book, BookSeat, SharedBook};
 use base_outside::Link;
@@ -32,13 +32,14 @@ pub trait Service<B: Book>: Sync {
     ) -> Self::End
         requires own { IsSeatOf book.now seat.old }
         ensures same { IsSameSeat seat.old seat.new }
-        ensures serves { ServesOn L.told L.given L.written L.faults L.ended (serves self.now) number (view_of seat.old) link.old result
+        ensures serves { ServesOn L.told L.given L.left L.written L.faults L.ended (serves self.now) number
+            (view_of seat.old) link.old result
             (view_of seat.new) link.new };
 
     /// Lets a link go that the book hears nothing of, whatever its number, where it can't be served.
     fn turn_away<L: Link>(&self, link: &mut L) -> Self::End
         ensures { (number : ℕ) (view : View B B.Event B.Reply)
-            → ServesOn L.told L.given L.written L.faults L.ended (serves self.now) number view link.old result view link.new };
+            → ServesOn L.told L.given L.left L.written L.faults L.ended (serves self.now) number view link.old result view link.new };
 
     /// Whether no further link is to be accepted behind one that ended so.
     fn halts(&self, end: &Self::End) -> bool
@@ -75,13 +76,18 @@ pub fn entered<B: Book, S: Service<B>, L: Link>(
     seat: BookSeat<B>,
 ) -> bool
     requires own { IsSeatOf book.now roll.old.seat × IsSeatOf book.now seat }
-    requires by { (from : View B B.Event B.Reply) × IsNewSeat (view_of roll.old.seat).opening from
-        × (lasting (view_of seat) ≡ lasting from)
-        × ServesOver (IsOfLink L.told L.given L.written L.faults L.ended) (S.serves service.now) (place + 1) from end (view_of seat) }
     ensures same { IsSeatAt roll.old.seat roll.new.seat }
-    ensures served { (running rest : List Link) (count : ℕ) → Leaves (place, (view_of seat).number) running rest
-        → AreServed (ServesOver (IsOfLink L.told L.given L.written L.faults L.ended) (S.serves service.now)) running count roll.old.ends.items (view_of roll.old.seat)
-        → AreServed (ServesOver (IsOfLink L.told L.given L.written L.faults L.ended) (S.serves service.now)) rest count roll.new.ends.items (view_of roll.new.seat) }
+    ensures served { (from : View B B.Event B.Reply) (link link' : L) → IsNewSeat (view_of roll.old.seat).opening from
+        → lasting (view_of seat) ≡ lasting from → IsNewLink L.told L.given L.left L.written L.faults L.ended link
+        → ServesOn L.told L.given L.left L.written L.faults L.ended (S.serves service.now) (place + 1) from link end (view_of seat) link'
+        → (before others : ℕ) (sent : List (List ℕ)) (running rest : List (Link L)) (count : ℕ)
+        → Leaves (place, (view_of seat).number, link) running rest
+        → LinksServed L.told L.given L.left L.written L.faults L.ended L.number
+        (S.serves service.now) before others sent running count roll.old.ends.items
+        (view_of roll.old.seat)
+        → LinksServed L.told L.given L.left L.written L.faults L.ended L.number
+        (S.serves service.now) before others sent rest count roll.new.ends.items
+        (view_of roll.new.seat) }
     ensures rejoins { view_of roll.new.seat ≡ rejoined (view_of roll.old.seat) (view_of seat) }
     ensures halts { result ≡ S.stops service.now end }
     ensures told { place < length roll.old.ends.items → get_or roll.new.ends.items place None ≡ Some end }
@@ -106,11 +112,17 @@ pub fn serve_briefly<W: Wait, L: Link, B: Book, S: Service<B>>(
 ) -> bool
     requires own { IsSeatOf book.now roll.old.seat }
     requires few { place + 1 < 2 ^ 64 }
-    requires fresh { IsNewLink L.told L.given L.written L.faults L.ended link.old }
+    requires fresh { IsNewLink L.told L.given L.left L.written L.faults L.ended link.old }
     ensures same { IsSeatAt roll.old.seat roll.new.seat }
     ensures opening { (view_of roll.new.seat).opening ≡ (view_of roll.old.seat).opening }
-    ensures served { (running : List Link) → AreServed (ServesOver (IsOfLink L.told L.given L.written L.faults L.ended) (S.serves service.now)) running place roll.old.ends.items (view_of roll.old.seat)
-        → AreServed (ServesOver (IsOfLink L.told L.given L.written L.faults L.ended) (S.serves service.now)) running (place + 1) roll.new.ends.items (view_of roll.new.seat) }
+    ensures served { (before others : ℕ) (sent : List (List ℕ)) (running : List (Link L))
+        → IsLinkAt L.told L.number L.left before others sent place link.old
+        → LinksServed L.told L.given L.left L.written L.faults L.ended L.number
+        (S.serves service.now) before others sent running place roll.old.ends.items
+        (view_of roll.old.seat)
+        → LinksServed L.told L.given L.left L.written L.faults L.ended L.number (S.serves service.now) before others sent running
+        (place + 1) roll.new.ends.items
+        (view_of roll.new.seat) }
     ensures rejoins { (number : ℕ) × (ended : View B B.Event B.Reply)
         × (view_of roll.new.seat ≡ rejoined (with_made number (view_of roll.old.seat)) ended) }
     ensures told { (end : S.End) × (result ≡ S.stops service.now end)

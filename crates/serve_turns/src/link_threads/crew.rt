@@ -1,9 +1,9 @@
 //! The threads that run, and what is left of those that have ended.
-ghost use Rattle.std.specs.Prelude.{◌≡◌, ◌+◌, ◌<◌, ◌≤◌, ◌^◌, ℕ, [], length, map, IfSome, OnErr, OnOk};
+ghost use Rattle.std.specs.Prelude.{◌≡◌, ◌+◌, ◌<◌, ◌≤◌, ◌^◌, ℕ, List, [], length, map, IfSome, OnErr, OnOk};
 ghost use Rattle.std.specs.List.{All};
 ghost use Rattle.serve_turns.specs.shared_book.Words.{view_of, IsSeatOf};
-ghost use Rattle.serve_turns.specs.link_serving.Passage.{IsNewLink, IsOfLink, ServesOver};
-ghost use Rattle.serve_turns.specs.link_serving.Serving.{AreServed, IsNewSeat};
+ghost use Rattle.serve_turns.specs.link_serving.Passage.{IsLinkAt, IsNewLink};
+ghost use Rattle.serve_turns.specs.link_serving.Serving.{IsNewSeat, LinksServed};
 ghost use Rattle.serve_turns.specs.link_threads.Covering.{AreCovered, HaveEnds};
 
 use crate::link_serving::{Roll, Service, entered, serve_briefly};
@@ -54,9 +54,12 @@ fn join_one<B: Book, S: Service<B>, L: Link, R: Threads>(
         × IsNewSeat (view_of crew.old.roll.seat).opening (view_of c.handle.promise.seat.value)) crew.old.running.items }
     ensures own { IsSeatOf book.now crew.new.roll.seat }
     ensures opening { (view_of crew.new.roll.seat).opening ≡ (view_of crew.old.roll.seat).opening }
-    ensures served { (n : ℕ) → AreServed (ServesOver (IsOfLink L.told L.given L.written L.faults L.ended) (S.serves service.now)) (map (λ c. (c.place, (view_of c.handle.promise.seat.value).number)) crew.old.running.items)
+    ensures served { (before others : ℕ) (sent : List (List ℕ)) (n : ℕ)
+        → LinksServed L.told L.given L.left L.written L.faults L.ended L.number (S.serves service.now) before others sent
+        (map (λ c. (c.place, (view_of c.handle.promise.seat.value).number, c.handle.promise.link.value)) crew.old.running.items)
         n crew.old.roll.ends.items (view_of crew.old.roll.seat)
-        → AreServed (ServesOver (IsOfLink L.told L.given L.written L.faults L.ended) (S.serves service.now)) (map (λ c. (c.place, (view_of c.handle.promise.seat.value).number)) crew.new.running.items)
+        → LinksServed L.told L.given L.left L.written L.faults L.ended L.number (S.serves service.now) before others sent
+        (map (λ c. (c.place, (view_of c.handle.promise.seat.value).number, c.handle.promise.link.value)) crew.new.running.items)
         n crew.new.roll.ends.items (view_of crew.new.roll.seat) }
     ensures running { All (λ c. IsSeatOf book.now c.handle.promise.seat.value
         × (c.handle.promise.service.value ≡ service.now)
@@ -85,9 +88,12 @@ pub(crate) fn join_ended<B: Book, S: Service<B>, L: Link, R: Threads + Wait>(
         × IsNewSeat (view_of crew.old.roll.seat).opening (view_of c.handle.promise.seat.value)) crew.old.running.items }
     ensures own { IsSeatOf book.now crew.new.roll.seat }
     ensures opening { (view_of crew.new.roll.seat).opening ≡ (view_of crew.old.roll.seat).opening }
-    ensures served { (n : ℕ) → AreServed (ServesOver (IsOfLink L.told L.given L.written L.faults L.ended) (S.serves service.now)) (map (λ c. (c.place, (view_of c.handle.promise.seat.value).number)) crew.old.running.items)
+    ensures served { (before others : ℕ) (sent : List (List ℕ)) (n : ℕ)
+        → LinksServed L.told L.given L.left L.written L.faults L.ended L.number (S.serves service.now) before others sent
+        (map (λ c. (c.place, (view_of c.handle.promise.seat.value).number, c.handle.promise.link.value)) crew.old.running.items)
         n crew.old.roll.ends.items (view_of crew.old.roll.seat)
-        → AreServed (ServesOver (IsOfLink L.told L.given L.written L.faults L.ended) (S.serves service.now)) (map (λ c. (c.place, (view_of c.handle.promise.seat.value).number)) crew.new.running.items)
+        → LinksServed L.told L.given L.left L.written L.faults L.ended L.number (S.serves service.now) before others sent
+        (map (λ c. (c.place, (view_of c.handle.promise.seat.value).number, c.handle.promise.link.value)) crew.new.running.items)
         n crew.new.roll.ends.items (view_of crew.new.roll.seat) }
     ensures running { All (λ c. IsSeatOf book.now c.handle.promise.seat.value
         × (c.handle.promise.service.value ≡ service.now)
@@ -118,9 +124,12 @@ pub(crate) fn join_all<B: Book, S: Service<B>, L: Link, R: Threads>(
         × IsNewSeat (view_of crew.old.roll.seat).opening (view_of c.handle.promise.seat.value)) crew.old.running.items }
     ensures own { IsSeatOf book.now crew.new.roll.seat }
     ensures opening { (view_of crew.new.roll.seat).opening ≡ (view_of crew.old.roll.seat).opening }
-    ensures served { (n : ℕ) → AreServed (ServesOver (IsOfLink L.told L.given L.written L.faults L.ended) (S.serves service.now)) (map (λ c. (c.place, (view_of c.handle.promise.seat.value).number)) crew.old.running.items)
+    ensures served { (before others : ℕ) (sent : List (List ℕ)) (n : ℕ)
+        → LinksServed L.told L.given L.left L.written L.faults L.ended L.number (S.serves service.now) before others sent
+        (map (λ c. (c.place, (view_of c.handle.promise.seat.value).number, c.handle.promise.link.value)) crew.old.running.items)
         n crew.old.roll.ends.items (view_of crew.old.roll.seat)
-        → AreServed (ServesOver (IsOfLink L.told L.given L.written L.faults L.ended) (S.serves service.now)) [] n crew.new.roll.ends.items (view_of crew.new.roll.seat) }
+        → LinksServed L.told L.given L.left L.written L.faults L.ended L.number
+        (S.serves service.now) before others sent [] n crew.new.roll.ends.items (view_of crew.new.roll.seat) }
     ensures running { All (λ c. IsSeatOf book.now c.handle.promise.seat.value
         × (c.handle.promise.service.value ≡ service.now)
         × IsNewSeat (view_of crew.old.roll.seat).opening (view_of c.handle.promise.seat.value)) crew.new.running.items }
@@ -154,24 +163,27 @@ where
     B::Event: Send + 's,
     B::Reply: Send + 's,
     requires few { place + 1 < 2 ^ 64 }
-    requires fresh { IsNewLink L.told L.given L.written L.faults L.ended link }
+    requires fresh { IsNewLink L.told L.given L.left L.written L.faults L.ended link }
     requires own { IsSeatOf book.now crew.old.roll.seat }
     requires running { All (λ c. IsSeatOf book.now c.handle.promise.seat.value
         × (c.handle.promise.service.value ≡ service.now)
         × IsNewSeat (view_of crew.old.roll.seat).opening (view_of c.handle.promise.seat.value)) crew.old.running.items }
     ensures own { IsSeatOf book.now crew.new.roll.seat }
     ensures opening { (view_of crew.new.roll.seat).opening ≡ (view_of crew.old.roll.seat).opening }
-    ensures served { OnOk result (AreServed (ServesOver (IsOfLink L.told L.given L.written L.faults L.ended) (S.serves service.now))
-        (map (λ c. (c.place, (view_of c.handle.promise.seat.value).number)) crew.old.running.items)
+    ensures served { OnOk result ((before others : ℕ) (sent : List (List ℕ))
+        → IsLinkAt L.told L.number L.left before others sent place link
+        → LinksServed L.told L.given L.left L.written L.faults L.ended L.number (S.serves service.now) before others sent
+        (map (λ c. (c.place, (view_of c.handle.promise.seat.value).number, c.handle.promise.link.value)) crew.old.running.items)
         place crew.old.roll.ends.items (view_of crew.old.roll.seat)
-        → AreServed (ServesOver (IsOfLink L.told L.given L.written L.faults L.ended) (S.serves service.now))
-        (map (λ c. (c.place, (view_of c.handle.promise.seat.value).number)) crew.new.running.items)
+        → LinksServed L.told L.given L.left L.written L.faults L.ended L.number (S.serves service.now) before others sent
+        (map (λ c. (c.place, (view_of c.handle.promise.seat.value).number, c.handle.promise.link.value)) crew.new.running.items)
         (place + 1) crew.new.roll.ends.items (view_of crew.new.roll.seat)) }
-    ensures let_go { OnErr result (AreServed (ServesOver (IsOfLink L.told L.given L.written L.faults L.ended) (S.serves service.now))
-        (map (λ c. (c.place, (view_of c.handle.promise.seat.value).number)) crew.old.running.items)
+    ensures let_go { OnErr result ((before others : ℕ) (sent : List (List ℕ))
+        → LinksServed L.told L.given L.left L.written L.faults L.ended L.number (S.serves service.now) before others sent
+        (map (λ c. (c.place, (view_of c.handle.promise.seat.value).number, c.handle.promise.link.value)) crew.old.running.items)
         place crew.old.roll.ends.items (view_of crew.old.roll.seat)
-        → AreServed (ServesOver (IsOfLink L.told L.given L.written L.faults L.ended) (S.serves service.now))
-        (map (λ c. (c.place, (view_of c.handle.promise.seat.value).number)) crew.new.running.items)
+        → LinksServed L.told L.given L.left L.written L.faults L.ended L.number (S.serves service.now) before others sent
+        (map (λ c. (c.place, (view_of c.handle.promise.seat.value).number, c.handle.promise.link.value)) crew.new.running.items)
         place crew.new.roll.ends.items (view_of crew.new.roll.seat)) }
     ensures running { All (λ c. IsSeatOf book.now c.handle.promise.seat.value
         × (c.handle.promise.service.value ≡ service.now)

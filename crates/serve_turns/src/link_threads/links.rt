@@ -3,8 +3,7 @@ ghost use Rattle.std.specs.Prelude.{◌≡◌, ◌+◌, ◌<◌, ◌≤◌, ◌^
 ghost use Rattle.std.specs.List.{All};
 ghost use Rattle.serve_turns.specs.shared_book.Words.{view_of, IsSeatOf};
 ghost use Rattle.base_outside.specs.streams.Faults.{Rose};
-ghost use Rattle.serve_turns.specs.link_serving.Passage.{IsOfLink, ServesOver};
-ghost use Rattle.serve_turns.specs.link_serving.Serving.{AreServed, IsNewSeat};
+ghost use Rattle.serve_turns.specs.link_serving.Serving.{AnyLinksServed, IsNewSeat, LinksServed};
 ghost use Rattle.serve_turns.specs.link_threads.Accepted.{AreAccepted};
 ghost use Rattle.serve_turns.specs.link_threads.Covering.{AreCovered, HaveEnds};
 ghost use Rattle.serve_turns.specs.declared.link_threads.links.Halt.TheVariants as halts;
@@ -60,7 +59,9 @@ where
     B::Event: Send + 's,
     B::Reply: Send + 's,
     requires own { IsSeatOf book.now crew.old.roll.seat }
-    requires served { AreServed (ServesOver (IsOfLink N.L.told N.L.given N.L.written N.L.faults N.L.ended) (S.serves service.now)) (map (λ c. (c.place, (view_of c.handle.promise.seat.value).number)) crew.old.running.items)
+    requires served { AnyLinksServed N.L.told N.L.given N.L.left N.L.written N.L.faults N.L.ended N.L.number
+        (S.serves service.now)
+        (map (λ c. (c.place, (view_of c.handle.promise.seat.value).number, c.handle.promise.link.value)) crew.old.running.items)
         0 crew.old.roll.ends.items (view_of crew.old.roll.seat) }
     requires running { All (λ c. IsSeatOf book.now c.handle.promise.seat.value
         × (c.handle.promise.service.value ≡ service.now)
@@ -68,8 +69,9 @@ where
     ensures own { IsSeatOf book.now crew.new.roll.seat }
     ensures opening { (view_of crew.new.roll.seat).opening ≡ (view_of crew.old.roll.seat).opening }
     ensures served { (served : ℕ) × AreAccepted count served result (N.accepted net.old) (N.accepted net.new)
-        × AreServed (ServesOver (IsOfLink N.L.told N.L.given N.L.written N.L.faults N.L.ended) (S.serves service.now))
-        (map (λ c. (c.place, (view_of c.handle.promise.seat.value).number)) crew.new.running.items)
+        × LinksServed N.L.told N.L.given N.L.left N.L.written N.L.faults N.L.ended N.L.number (S.serves service.now) (N.accepted net.old)
+        (length (N.sent net.old)) (N.sent net.new)
+        (map (λ c. (c.place, (view_of c.handle.promise.seat.value).number, c.handle.promise.link.value)) crew.new.running.items)
         served crew.new.roll.ends.items (view_of crew.new.roll.seat) }
     ensures running { All (λ c. IsSeatOf book.now c.handle.promise.seat.value
         × (c.handle.promise.service.value ≡ service.now)
@@ -120,7 +122,9 @@ where
     B::Event: Send + 's,
     B::Reply: Send + 's,
     requires own { IsSeatOf book.now crew.roll.seat }
-    requires served { AreServed (ServesOver (IsOfLink N.L.told N.L.given N.L.written N.L.faults N.L.ended) (S.serves service.now)) (map (λ c. (c.place, (view_of c.handle.promise.seat.value).number)) crew.running.items)
+    requires served { AnyLinksServed N.L.told N.L.given N.L.left N.L.written N.L.faults N.L.ended N.L.number
+        (S.serves service.now)
+        (map (λ c. (c.place, (view_of c.handle.promise.seat.value).number, c.handle.promise.link.value)) crew.running.items)
         0 crew.roll.ends.items (view_of crew.roll.seat) }
     requires running { All (λ c. IsSeatOf book.now c.handle.promise.seat.value
         × (c.handle.promise.service.value ≡ service.now)
@@ -128,7 +132,8 @@ where
     ensures own { IsSeatOf book.now result.roll.seat }
     ensures opening { (view_of result.roll.seat).opening ≡ (view_of crew.roll.seat).opening }
     ensures served { (served : ℕ) × AreAccepted count served result.halt (N.accepted net) (N.accepted result.net)
-        × AreServed (ServesOver (IsOfLink N.L.told N.L.given N.L.written N.L.faults N.L.ended) (S.serves service.now)) [] served
+        × LinksServed N.L.told N.L.given N.L.left N.L.written N.L.faults N.L.ended N.L.number (S.serves service.now) (N.accepted net)
+        (length (N.sent net)) (N.sent result.net) [] served
         result.roll.ends.items (view_of result.roll.seat) }
     ensures count { length result.roll.ends.items ≡ length crew.roll.ends.items }
     ensures ends { result.halt ≡ halts.Count → HaveEnds count result.roll.ends.items }
@@ -163,11 +168,13 @@ where
     B::Event: Send,
     B::Reply: Send,
     requires own { IsSeatOf book.now roll.seat }
-    requires served { AreServed (ServesOver (IsOfLink N.L.told N.L.given N.L.written N.L.faults N.L.ended) (S.serves service.now)) [] 0 roll.ends.items (view_of roll.seat) }
+    requires served { AnyLinksServed N.L.told N.L.given N.L.left N.L.written N.L.faults N.L.ended N.L.number
+        (S.serves service.now) [] 0 roll.ends.items (view_of roll.seat) }
     ensures own { IsSeatOf book.now result.roll.seat }
     ensures opening { (view_of result.roll.seat).opening ≡ (view_of roll.seat).opening }
     ensures served { (served : ℕ) × AreAccepted count served result.halt (N.accepted net) (N.accepted result.net)
-        × AreServed (ServesOver (IsOfLink N.L.told N.L.given N.L.written N.L.faults N.L.ended) (S.serves service.now)) [] served
+        × LinksServed N.L.told N.L.given N.L.left N.L.written N.L.faults N.L.ended N.L.number (S.serves service.now) (N.accepted net)
+        (length (N.sent net)) (N.sent result.net) [] served
         result.roll.ends.items (view_of result.roll.seat) }
     ensures count { length result.roll.ends.items ≡ length roll.ends.items }
     ensures ends { result.halt ≡ halts.Count → HaveEnds count result.roll.ends.items }
@@ -185,9 +192,10 @@ where
         rt,
         move |scope| -> Served<B, S::End, N>
             requires { IsSeatOf book.now crew.roll.seat
-                × AreServed (ServesOver (IsOfLink N.L.told N.L.given N.L.written N.L.faults N.L.ended) (S.serves service.now))
-                (map (λ c. (c.place, (view_of c.handle.promise.seat.value).number)) crew.running.items)
-                0 crew.roll.ends.items (view_of crew.roll.seat)
+                × (AnyLinksServed N.L.told N.L.given N.L.left N.L.written N.L.faults N.L.ended N.L.number
+                (S.serves service.now)
+                (map (λ c. (c.place, (view_of c.handle.promise.seat.value).number, c.handle.promise.link.value)) crew.running.items)
+                0 crew.roll.ends.items (view_of crew.roll.seat))
                 × All (λ c. IsSeatOf book.now c.handle.promise.seat.value
                 × (c.handle.promise.service.value ≡ service.now)
                 × IsNewSeat (view_of crew.roll.seat).opening (view_of c.handle.promise.seat.value)) crew.running.items }
@@ -196,8 +204,9 @@ where
                 × (length result.roll.ends.items ≡ length crew.roll.ends.items)
                 × (result.halt ≡ halts.Count → HaveEnds count result.roll.ends.items)
                 × ((served : ℕ) × AreAccepted count served result.halt (N.accepted net) (N.accepted result.net)
-                × AreServed (ServesOver (IsOfLink N.L.told N.L.given N.L.written N.L.faults N.L.ended) (S.serves service.entry.now)) []
-                served
+                × LinksServed N.L.told N.L.given N.L.left N.L.written N.L.faults N.L.ended N.L.number (S.serves service.entry.now)
+                (N.accepted net) (length (N.sent net))
+                (N.sent result.net) [] served
                 result.roll.ends.items (view_of result.roll.seat))
                 × (result.halt ≡ halts.NetFault → Rose (N.faults net) (N.faults result.net))
                 × (N.listens_at result.net ≡ N.listens_at net) }

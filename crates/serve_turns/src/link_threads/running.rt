@@ -1,35 +1,37 @@
 //! A thread that serves one link.
 ghost use Rattle.std.specs.Prelude.{◌≡◌, ◌+◌, ◌<◌, ◌≤◌, ◌^◌, ℕ, List, None, Some, length, get_or, IfOk, IfErr};
 ghost use Rattle.serve_turns.specs.shared_book.Words.{lasting, view_of, AreOfOneBook, IsSeatAt, IsSeatOf};
-ghost use Rattle.serve_turns.specs.link_serving.Passage.{IsNewLink, IsOfLink, ServesOver};
-ghost use Rattle.serve_turns.specs.link_serving.Serving.{AreServed, IsNewSeat, Leaves, Link};
+ghost use Rattle.serve_turns.specs.link_serving.Passage.{IsNewLink, ServesOn};
+ghost use Rattle.serve_turns.specs.link_serving.Serving.{IsNewSeat, Leaves, Link, LinksServed};
 
 use crate::link_serving::{Roll, Service, entered};
 use crate::link_threads::ended_list::EndedList;
 use crate::shared_book::{Book, BookSeat, SharedBook};
 use base_outside::Link;
-use std::marker::PhantomData;
 use std::snapshot::Snapshot;
 use std::sync::Wait;
 use std::thread::{Promise, PromisedHandle, Scope, SpawnError, Threads};
 
-/// What a thread promises that serves a link, which was new: how it ended, as the service says of what passed over it, and its seat, which is
-/// of the same book, took in no other seat and made none.
+/// What a thread promises that serves a link, which was new: how this very link ended, as the service says of what passed over it, and its
+/// seat, which is of the same book, took in no other seat and made none.
 #[derive(Drop)]
 pub(crate) struct ServesLink<B: Book, S: Service<B>, L: Link> {
     service: Snapshot<S>,
     seat: Snapshot<BookSeat<B>>,
     place: usize,
-    link: PhantomData<L>,
+    link: Snapshot<L>,
 }
 
 impl<B: Book, S: Service<B>, L: Link> Promise<(S::End, BookSeat<B>)> for ServesLink<B, S, L> {
     ghost use Rattle.std.specs.Prelude.{◌+◌};
-    ghost use Rattle.serve_turns.specs.link_serving.Passage.{IsOfLink, ServesOver};
+    ghost use Rattle.serve_turns.specs.link_serving.Passage.{IsNewLink, ServesOn};
     ghost use Rattle.serve_turns.specs.shared_book.Words.{lasting, view_of, AreOfOneBook};
 
     ghost kept_by = { λ p r. AreOfOneBook p.seat.value r.1 × (lasting (view_of r.1) ≡ lasting (view_of p.seat.value))
-        × ServesOver (IsOfLink L.told L.given L.written L.faults L.ended) (S.serves p.service.value) (p.place + 1) (view_of p.seat.value) r.0 (view_of r.1) };
+        × IsNewLink L.told L.given L.left L.written L.faults L.ended p.link.value
+        × ((link' : L) × ServesOn L.told L.given L.left L.written L.faults L.ended (S.serves p.service.value) (p.place + 1)
+        (view_of p.seat.value)
+        p.link.value r.0 (view_of r.1) link') };
 }
 
 /// Serves a link that it owns, and notes that it has ended. One that was turned away is let go.
@@ -44,10 +46,11 @@ fn served<B: Book, S: Service<B>, W: Wait, L: Link + Drop>(
 ) -> (S::End, BookSeat<B>)
     requires own { IsSeatOf book.now seat }
     requires few { place + 1 < 2 ^ 64 }
-    requires fresh { IsNewLink L.told L.given L.written L.faults L.ended link }
     ensures own { AreOfOneBook seat result.1 }
     ensures lasts { lasting (view_of result.1) ≡ lasting (view_of seat) }
-    ensures serves { ServesOver (IsOfLink L.told L.given L.written L.faults L.ended) (S.serves service.now) (place + 1) (view_of seat) result.0 (view_of result.1) }
+    ensures serves { (link' : L) × ServesOn L.told L.given L.left L.written L.faults L.ended (S.serves service.now) (place + 1)
+        (view_of seat) link
+        result.0 (view_of result.1) link' }
 {
     let turned_away = ended.is_turned_away(rt, place);
     if turned_away {
@@ -90,26 +93,32 @@ where
     B::Reply: Send + 's,
     requires own { IsSeatOf book.now seat }
     requires few { place + 1 < 2 ^ 64 }
-    requires fresh { IsNewLink L.told L.given L.written L.faults L.ended link }
+    requires fresh { IsNewLink L.told L.given L.left L.written L.faults L.ended link }
     ensures runs { IfOk result (λ r. IsSeatOf book.now r.handle.promise.seat.value
         × (r.handle.promise.service.value ≡ service.now)) }
     ensures place { IfOk result (λ r. r.place ≡ place) }
     ensures seat { IfOk result (λ r. view_of r.handle.promise.seat.value ≡ view_of seat) }
+    ensures link { IfOk result (λ r. r.handle.promise.link.value ≡ link) }
     ensures done { IfErr result (λ d. IsSeatOf book.now d.1 × (lasting (view_of d.1) ≡ lasting (view_of seat))
-        × ServesOver (IsOfLink L.told L.given L.written L.faults L.ended) (S.serves service.now) (place + 1) (view_of seat) d.0 (view_of d.1)) }
+        × ((link' : L) × ServesOn L.told L.given L.left L.written L.faults L.ended (S.serves service.now) (place + 1)
+        (view_of seat) link d.0
+        (view_of d.1) link')) }
 {
     let promise = ServesLink {
         service: Snapshot::of(service),
         seat: Snapshot::of(&seat),
         place,
-        link: PhantomData,
+        link: Snapshot::of(&link),
     };
     let child = scope.spawn_with(
         promise,
         move || -> (S::End, BookSeat<B>)
-            requires { IsSeatOf book.now seat × (place + 1 < 2 ^ 64) × IsNewLink L.told L.given L.written L.faults L.ended link }
+            requires { IsSeatOf book.now seat × (place + 1 < 2 ^ 64) × IsNewLink L.told L.given L.left L.written L.faults L.ended link }
             ensures { AreOfOneBook seat result.1 × (lasting (view_of result.1) ≡ lasting (view_of seat))
-                × ServesOver (IsOfLink L.told L.given L.written L.faults L.ended) (S.serves service.entry.now) (place + 1) (view_of seat) result.0 (view_of result.1) }
+                × IsNewLink L.told L.given L.left L.written L.faults L.ended link
+                × ((link' : L) × ServesOn L.told L.given L.left L.written L.faults L.ended (S.serves service.entry.now) (place + 1)
+                (view_of seat)
+                link result.0 (view_of result.1) link') }
         { served(rt, service, link, book, seat, place, ended) },
     );
     match child {
@@ -135,10 +144,14 @@ pub(crate) fn finished<B: Book, S: Service<B>, L: Link, R: Threads>(
         × (child.handle.promise.service.value ≡ service.now)
         × IsNewSeat (view_of roll.old.seat).opening (view_of child.handle.promise.seat.value) }
     ensures same { IsSeatAt roll.old.seat roll.new.seat }
-    ensures served { (running rest : List Link) (count : ℕ)
-        → Leaves (child.place, (view_of child.handle.promise.seat.value).number) running rest
-        → AreServed (ServesOver (IsOfLink L.told L.given L.written L.faults L.ended) (S.serves service.now)) running count roll.old.ends.items (view_of roll.old.seat)
-        → AreServed (ServesOver (IsOfLink L.told L.given L.written L.faults L.ended) (S.serves service.now)) rest count roll.new.ends.items (view_of roll.new.seat) }
+    ensures served { (before others : ℕ) (sent : List (List ℕ)) (running rest : List (Link L)) (count : ℕ)
+        → Leaves (child.place, (view_of child.handle.promise.seat.value).number, child.handle.promise.link.value) running rest
+        → LinksServed L.told L.given L.left L.written L.faults L.ended L.number
+        (S.serves service.now) before others sent running count roll.old.ends.items
+        (view_of roll.old.seat)
+        → LinksServed L.told L.given L.left L.written L.faults L.ended L.number
+        (S.serves service.now) before others sent rest count roll.new.ends.items
+        (view_of roll.new.seat) }
     ensures told { child.place < length roll.old.ends.items
         → (end : S.End) × (get_or roll.new.ends.items child.place None ≡ Some end) }
     ensures others { (at : ℕ) → (at ≡ child.place → ⊥) → get_or roll.new.ends.items at None ≡ get_or roll.old.ends.items at None }

@@ -7,17 +7,21 @@ use Rattle.serve_command.specs.declared.ending.Ending.{Ending}
 use Rattle.smb311.specs.command.Top.{Serves}
 
 module _ {D N : Type 0} (told : Type 0) (seen : D → List ℕ) (may_leave : D → List ℕ → Type 0) (faults : D → ℕ)
-    (listens_at : N → Option Address) (links : N → ℕ) (net_faults : N → ℕ) (over : Passage → Type 0) (disk : D) (net : N) (disk' : Option D) (net' : N)
+    (listens_at : N → Option Address) (links : N → ℕ) (net_faults : N → ℕ) (link_told : Type 0) (sent : N → List (List ℕ))
+    (over : (net net' : N) → ℕ → Passage → Type 0) (disk : D) (net : N) (disk' : Option D) (net' : N)
     (left left' : Option (List ℕ)) (source source' : ℕ) (written written' : Option (List ℕ)) (sink sink' : ℕ) where
   pub as_said : (o p : Option Said) (ending : Ending) → o ≡ p
-      → Serves told seen may_leave faults listens_at links net_faults over disk net disk' net' left left' source source' written
+      → Serves told seen may_leave faults listens_at links net_faults link_told sent over disk net disk' net' left left' source source'
+      written
       written' sink sink' o ending
-      → Serves told seen may_leave faults listens_at links net_faults over disk net disk' net' left left' source source' written
+      → Serves told seen may_leave faults listens_at links net_faults link_told sent over disk net disk' net' left left' source source'
+      written
       written' sink sink' p ending
   as_said o p ending same h =
       subst
       (λ (q : Option Said).
-      Serves told seen may_leave faults listens_at links net_faults over disk net disk' net' left left' source source' written written' sink sink' q ending)
+      Serves told seen may_leave faults listens_at links net_faults link_told sent over disk net disk' net' left left' source source'
+      written written' sink sink' q ending)
       same
       h
 

@@ -28,14 +28,17 @@ serve_status Memory = 8
 serve_status NoJournal = 9
 serve_status JournalFull = 10
 
--- Of source and sink it is told how often they had failed, before and behind, of a source also what it had left, of a sink what it held, and of
--- net and disk what is left of them; and what holds of all that passed over a link which the net accepted.
+-- Of source and sink it is told how often they had failed, before and behind, of a source also what it had left, of a sink what it held,
+-- and of net and disk what is left of them; of the net also what the peers of its links send, if links of its kind tell that, and of two of
+-- its states what is all that passed over the link of a number that it accepted between them.
 module _ {D N : Type 0} (told : Type 0) (seen : D → List ℕ) (may_leave : D → List ℕ → Type 0) (faults : D → ℕ)
-    (listens_at : N → Option Address) (links : N → ℕ) (net_faults : N → ℕ) (over : Passage → Type 0) (disk : D) (net : N) (disk' : Option D) (net' : N)
+    (listens_at : N → Option Address) (links : N → ℕ) (net_faults : N → ℕ) (link_told : Type 0) (sent : N → List (List ℕ))
+    (over : (net net' : N) → ℕ → Passage → Type 0) (disk : D) (net : N) (disk' : Option D) (net' : N)
     (left left' : Option (List ℕ)) (source source' : ℕ) (written written' : Option (List ℕ)) (sink sink' : ℕ) where
   -- by what the words say: where that is nothing, the usage is printed, and source, net and disk are as they were
   abbrev pub Serves : Option Said → Ending → Type 0
   Serves None ending = (left' ≡ left) × (source' ≡ source) × (net' ≡ net) × (disk' ≡ Some disk)
       × Prints written written' sink sink' usage_line Usage ending
-  Serves (Some said) ending = ServingEnds told seen may_leave faults listens_at links net_faults over said disk left left' source source'
+  Serves (Some said) ending = ServingEnds told seen may_leave faults listens_at links net_faults link_told sent over said disk left left'
+      source source'
       written written' sink sink' net net' disk' ending

@@ -2,7 +2,7 @@
 ghost use Rattle.std.specs.Prelude.{◌≡◌, map, None};
 ghost use Rattle.std.specs.String.{string_bytes};
 ghost use Rattle.serve_command.specs.server_settings.Words.{said};
-ghost use Rattle.serve_turns.specs.link_serving.Passage.{IsOfLink};
+ghost use Rattle.serve_turns.specs.link_serving.Passage.{IsOfNet};
 ghost use Rattle.serve_command.specs.declared.ending.Ending.{Ending};
 ghost use Rattle.smb311.specs.command.Top.{Serves, serve_status};
 
@@ -42,7 +42,9 @@ where
     C: Clock + Drop + Send,
     R: Rng + Drop + Send,
     ensures ends { (ending : Ending) × (result.status ≡ serve_status ending)
-        × Serves D.told D.seen D.may_leave D.faults N.listens_at N.accepted N.faults (IsOfLink N.L.told N.L.given N.L.written N.L.faults N.L.ended) disk net result.disk result.net (S.left source.old)
+        × Serves D.told D.seen D.may_leave D.faults N.listens_at N.accepted N.faults N.L.told N.sent
+        (IsOfNet N.L.told N.L.given N.L.left N.L.written N.L.faults N.L.ended N.L.number N.accepted N.sent) disk net result.disk result.net
+        (S.left source.old)
         (S.left source.new) (S.faults source.old) (S.faults source.new) (O.written sink.old) (O.written sink.new) (O.faults sink.old)
         (O.faults sink.new) (said (map string_bytes words.now)) ending }
     ensures words_first { said (map string_bytes words.now) ≡ None → source.new ≡ source.old }
@@ -75,7 +77,8 @@ where
     N: Net + Drop,
     C: Clock + Drop + Send,
     R: Rng + Drop + Send,
-    ensures ends { Serves D.told D.seen D.may_leave D.faults N.listens_at N.accepted N.faults (IsOfLink N.L.told N.L.given N.L.written N.L.faults N.L.ended) disk net result.disk result.net
+    ensures ends { Serves D.told D.seen D.may_leave D.faults N.listens_at N.accepted N.faults N.L.told N.sent
+        (IsOfNet N.L.told N.L.given N.L.left N.L.written N.L.faults N.L.ended N.L.number N.accepted N.sent) disk net result.disk result.net
         (S.left source.old) (S.left source.new)
         (S.faults source.old) (S.faults source.new) (O.written sink.old) (O.written sink.new) (O.faults sink.old) (O.faults sink.new)
         (said (map string_bytes words.now)) result.ending }

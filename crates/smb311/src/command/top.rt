@@ -3,7 +3,7 @@ ghost use Rattle.std.specs.Prelude.{◌≡◌, map, true, false, None, Some};
 ghost use Rattle.std.specs.String.{string_bytes};
 ghost use Rattle.rand_core.specs.Stream.{fill_bytes};
 ghost use Rattle.serve_command.specs.server_settings.Words.{said};
-ghost use Rattle.serve_turns.specs.link_serving.Passage.{IsOfLink};
+ghost use Rattle.serve_turns.specs.link_serving.Passage.{IsOfNet};
 ghost use Rattle.serve_command.specs.declared.ending.Ending.{Ending as ServeEnding};
 ghost use Rattle.drill_command.specs.Asking.{asked_in};
 ghost use Rattle.drill_command.specs.TopCall.{CommandEnds, command_reads, status_of};
@@ -47,7 +47,9 @@ where
     R: Rng + Drop + Send,
     // The first word is `serve`: the status is that of an ending of the server's command, and what that ending says holds.
     ensures serves { asks_server (map string_bytes words.now) ≡ true → (ending : ServeEnding) × (result.status ≡ serve_status ending)
-        × Serves D.told D.seen D.may_leave D.faults N.listens_at N.accepted N.faults (IsOfLink N.L.told N.L.given N.L.written N.L.faults N.L.ended) disk net result.disk result.net (S.left source.old)
+        × Serves D.told D.seen D.may_leave D.faults N.listens_at N.accepted N.faults N.L.told N.sent
+        (IsOfNet N.L.told N.L.given N.L.left N.L.written N.L.faults N.L.ended N.L.number N.accepted N.sent) disk net result.disk result.net
+        (S.left source.old)
         (S.left source.new) (S.faults source.old) (S.faults source.new) (O.written sink.old) (O.written sink.new) (O.faults sink.old)
         (O.faults sink.new) (said (map string_bytes words.now)) ending }
     // Another or none: the same of `drill` and `gen`, whose run draws from these bytes.

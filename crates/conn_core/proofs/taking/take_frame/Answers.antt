@@ -12,7 +12,8 @@ pub serve-requires-clause-none : goal.serve-requires-clause-none
 serve-requires-clause-none g c = c.in-Ok-dealt_for.ensures.none
 
 pub serve-requires-clause-room : goal.serve-requires-clause-room
-serve-requires-clause-room g c = (let few = c.in-Ok-dealt_for.ensures.room in let long = c.len.ensures in omega (arith, few, long))
+serve-requires-clause-room g c = (let few = c.in-Ok-dealt_for.ensures.room in let long = c.len.ensures in
+    let count = c.in-Ok.asked.messages.ok.0 in omega (arith, few, long, count))
 
 pub returns-in-Err-clause-takes : goal.returns-in-Err-clause-takes
 returns-in-Err-clause-takes g c = λ z s L records f state shows bound.

@@ -9,6 +9,7 @@ returns-in-Ok g c = λ from begins. inr (
   c.ready.ensures.place ∙ c.in-Ok.ensures.place,
   c.ready.ensures.accepted ∙ c.in-Ok.ensures.accepted,
   c.ready.ensures.calm ∙ c.in-Ok.ensures.cause,
+  (λ told. c.ready.ensures.sent told ∙ c.listen.ensures.sent told),
   c.serve_on.ensures from begins,
 )
 
@@ -19,5 +20,6 @@ returns-in-Err g c = λ from begins.
       (refl, (refl, Keeps-refl _)),
       c.in-Err.ensures.failed,
       c.listen.ensures.accepted,
+      c.listen.ensures.sent,
       ap Some c.stop.ensures,
     )

@@ -12,7 +12,8 @@ returns-in-Ok g c = (let begins = c.in-Ok.ensures.holds in
       c.in-Ok.server,
       begins,
       c.in-Ok.ensures.config,
-      serves_still _ _ _ _ _ _ _ _ _ _ _ _ _ _ _ _ _ _ _ _ _ _ c.watch.ensures.place c.watch.ensures.accepted c.watch.ensures.calm
+      serves_still _ _ _ _ _ _ _ _ _ _ _ _ _ _ _ _ _ _ _ _ _ _ _ _ c.watch.ensures.place c.watch.ensures.accepted c.watch.ensures.calm
+          c.watch.ensures.sent
           (rw c.fault_count-before.ensures at served),
     ))
 
@@ -21,6 +22,6 @@ returns-in-Err g c = inl (
   c.in-Err.error,
   c.in-Err.ensures.refused,
   c.unbegun-ending.ensures,
-  (c.watch.ensures.place, c.watch.ensures.accepted, c.watch.ensures.calm),
+  (c.watch.ensures.place, c.watch.ensures.accepted, c.watch.ensures.calm, c.watch.ensures.sent),
   refl,
 )

@@ -25,9 +25,9 @@ returns-clause-gives g c = λ z before s L records f m k shows conn here going g
     let on : replying.has_message_event m ≡ true =
     ap (λ (q : Checked). replying.has_message_event q) (sym e) ∙ (sym c.has_event.ensures ∙ c.if-not-has_event.false) in
     let t = c.told_of-told.result in
-    let told = c.told_of-told.ensures z.guid f m k conn here going in
+    let told = c.told_of-told.ensures.told z.guid f m k conn here going in
     let now = c.args.moment.now.time in
     let shown = Onward (g.S.Serve.shows c.ask.new.server z.users) before (g.S.Serve.stopped c.ask.new.server) in
-    subst (λ (n : ℕ). GivesFor shown z n now c.args.moment.now.fresh s L records f k c.ask.result) told.1
-    (subst (λ (random : List ℕ). GivesFor shown z t.connection now random s L records f k c.ask.result) told.2
-    (c.ask.ensures.gives z before s L records f m k shows told.0 here going on))
+    subst (λ (n : ℕ). GivesFor shown z n now c.args.moment.now.fresh s L records f k c.ask.result) c.told_of-told.ensures.connection
+    (subst (λ (random : List ℕ). GivesFor shown z t.connection now random s L records f k c.ask.result) c.told_of-told.ensures.fresh
+    (c.ask.ensures.gives z before s L records f m k shows told here going on))

@@ -65,7 +65,8 @@ returns-clause-deals g c = λ z s L records f F shows conn frame alone.
     let q = inv.7 z s L records f F shows conn frame alone in
     let count : length c.args.asked.now.messages.items ≡ length F.messages =
     same_long c.args.asked.now.bytes.items c.args.asked.now.messages.items F.messages frame.messages in
-    let past : length F.messages ≤ c.loop-at.at = omega (arith, count, c.loop-at-test.false, c.len-at-end.ensures) in
+    let past : length F.messages ≤ c.loop-at.at =
+    omega (arith, count, c.loop-at-test.false, c.len-at-end.ensures, c.args.asked.now.messages.ok.0) in
     last (Onward (g.S.Serve.shows c.loop-at.server z.users) (g.S.Serve.stopped c.args.server.now)
     (g.S.Serve.stopped c.loop-at.server)) z c.args.conn.now.id c.args.moment.now.time c.args.moment.now.fresh s L
     records f

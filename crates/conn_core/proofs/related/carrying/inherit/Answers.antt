@@ -1,11 +1,12 @@
-use Rattle.std.proofs.Common.{◌<◌, false, true, Bool, length, subst, ◌∙◌}
+use Rattle.std.proofs.Common.{◌<◌, false, true, Bool, length, ap, subst, ◌∙◌}
 use Rattle.std.proofs.lemmas.Option.{slice_get_within}
+use Rattle.spec_wire.specs.declared.messages.header.Header.{Header}
 use Rattle.spec_world.specs.Related.{with_file}
 use Rattle.conn_core.specs.frame_messages.Checking.{bytes_of}
 use Rattle.conn_core.specs.related.Carrying.{TakesOver}
 use Rattle.conn_core.proofs.related.Denied.{set_denied}
 use Rattle.conn_core.proofs.related.Inherited.{nothing, changed, put_into, ends_apart, ends_failed, ends_well}
-use Rattle.conn_core.proofs.related.Inherited.{stays_there, stays_same, others_of, order_of, inside_of}
+use Rattle.conn_core.proofs.related.Inherited.{stays_there, stays_same, others_of, order_of, inside_of, set_setups}
 use Rattle.conn_core.proofs.related.carrying.inherit.Goals as goal
 
 pub put_message-requires : goal.put_message-requires
@@ -153,3 +154,15 @@ returns-clause-denied c =
     set_denied c.args.frame.now.messages.items c.put_file_in.new.frame.messages.items c.args.at c.checked.result.now
     c.take_over-goes.new.checked c.checked.ensures (c.put_file_in.ensures.rest.0 ∙ c.put_message.ensures.list)
     c.take_over-goes.ensures.fault
+
+pub returns-then-not-goes-clause-setups : goal.returns-then-not-goes-clause-setups
+returns-then-not-goes-clause-setups c =
+    set_setups c.args.frame.now.messages.items c.put_message.new.frame.messages.items c.args.at c.checked.result.now
+    c.take_over-goes.new.checked c.checked.ensures c.put_message.ensures.list
+    (ap (λ (h : Header). h.command) c.take_over-goes.ensures.header)
+
+pub returns-clause-setups : goal.returns-clause-setups
+returns-clause-setups c =
+    set_setups c.args.frame.now.messages.items c.put_file_in.new.frame.messages.items c.args.at c.checked.result.now
+    c.take_over-goes.new.checked c.checked.ensures (c.put_file_in.ensures.rest.0 ∙ c.put_message.ensures.list)
+    (ap (λ (h : Header). h.command) c.take_over-goes.ensures.header)

@@ -10,7 +10,8 @@ loop-at-init c = over_first c.args.answers.now c.args.conn.now c.args.joining.no
 
 pub add_next-requires-clause-message : goal.add_next-requires-clause-message
 add_next-requires-clause-message c =
-    c.requires.messages c.loop-at.at (let a = c.loop-at-test.true in let b = c.len-at-end.ensures in omega (arith, a, b))
+    c.requires.messages c.loop-at.at (let a = c.loop-at-test.true in let b = c.len-at-end.ensures in
+    let k = c.args.answers.now.asked.now.messages.ok.0 in omega (arith, a, b, k))
 
 pub add_next-requires-clause-place : goal.add_next-requires-clause-place
 add_next-requires-clause-place c = (c.loop-at.invariant.place, (let a = c.loop-at-test.true in omega (arith, a)))
@@ -52,6 +53,7 @@ returns-clause-walks c = λ z first counted f g all w s.
     let a = c.loop-at.auto.at-end in
     let b = c.loop-at-test.false in
     let long = c.len-at-end.ensures in
-    let is : c.loop-at.at ≡ length c.args.answers.now.asked.now.messages.items = omega (arith, a, b, long) in
+    let k = c.args.answers.now.asked.now.messages.ok.0 in
+    let is : c.loop-at.at ≡ length c.args.answers.now.asked.now.messages.items = omega (arith, a, b, long, k) in
     subst (λ (n : ℕ). WalksBy z first counted f g all w c.args.answers.now n c.loop-at.conn c.loop-at.joining (Ok c.loop-at.walk)) is
     (c.loop-at.invariant.walks z first counted f g all w s)

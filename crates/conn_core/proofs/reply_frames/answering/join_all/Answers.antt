@@ -30,8 +30,8 @@ returns-in-Ok c = λ z s L f cs ss w shows a hello.
       frames = c.new.result;
       behind = record { logon = conn.logon; channel = None };
     }) shows a hello refl) in
-    goes_with z s L f cs ss w answers conn c.finish.new.conn done.frames mid.nonces done.behind c.finish.result.bytes
-    c.finish.result.status shows a
+    goes_with z s L f cs ss w answers conn c.finish.new.conn done.frames mid.nonces done.behind c.finish.result
+    shows a
     (joined f sealed ss w conn.nonces done.frames mid.nonces done.behind shows.channel shows.counter told.joins)
     (goes_of conn mid c.finish.new.conn done.behind w c.add_all.ensures.alike told.window c.finish.ensures.same c.finish.ensures.nonces)
     c.finish.ensures.told.0 (c.finish.ensures.told.1 ∙ told.status_is)

@@ -14,6 +14,7 @@ pub read_frames-requires-clause-way : goal.read_frames-requires-clause-way
 read_frames-requires-clause-way g c =
     let begun = c.args.begun.now in
     let b = c.in-Ok.ensures in
-    way_begins g.L.Link.told g.L.Link.given g.L.Link.written g.L.Link.faults begun.guid begun.number (view_of begun.seat.value)
+    way_begins g.L.Link.told g.L.Link.given g.L.Link.left g.L.Link.written g.L.Link.faults begun.guid begun.number
+    (view_of begun.seat.value)
     (view_of c.args.seat.now) c.in-Ok.state b.salt begun.link.value c.args.link.now c.requires.taken c.requires.link b.shows b.none
     (first_bound b.salt)

@@ -1,8 +1,10 @@
-use Rattle.std.proofs.Common.{[], None, inl, inr, refl, sym, subst, append-nil, arith}
+use Rattle.std.proofs.Common.{[], None, refl, sym, subst, append-nil, arith}
 use Rattle.conn_core.specs.Shown.{ShowsEnd}
 use Rattle.conn_core.specs.declared.conn.Conn.{Conn}
+use Rattle.conn_core.specs.frame_messages.Checking.{holds_setup}
 use Rattle.conn_core.proofs.frame_messages.Places.{each_has}
 use Rattle.serve_turns.specs.shared_book.Words.{view_of}
+use Rattle.serve_turns.proofs.connection_turns.Drawn.{told_drawn}
 use Rattle.serve_turns.proofs.connection_turns.Framing.{checked_so, first_found, frame_comes, frame_fails, frame_lacks, frame_stops}
 use Rattle.serve_turns.proofs.connection_turns.frames.take_frame.Goals as goal
 
@@ -16,7 +18,8 @@ pub take_messages-requires-clause-none : goal.take_messages-requires-clause-none
 take_messages-requires-clause-none g c = c.in-Ok-dealt_for.ensures.none
 
 pub take_messages-requires-clause-room : goal.take_messages-requires-clause-room
-take_messages-requires-clause-room g c = (let few = c.in-Ok-dealt_for.ensures.room in let long = c.len.ensures in omega (arith, few, long))
+take_messages-requires-clause-room g c = (let few = c.in-Ok-dealt_for.ensures.room in let long = c.len.ensures in
+    let count = c.in-Ok.asked.messages.ok.0 in omega (arith, few, long, count))
 
 pub finish-requires-clause-messages : goal.finish-requires-clause-messages
 finish-requires-clause-messages g c = each_has c.take_messages.new.asked c.take_messages.ensures.order
@@ -51,7 +54,7 @@ returns-clause-takes g c =
           let q = checked_so z k c.now-now.result f c.args.frame.now c.check.new.conn c.in-Ok.asked shows.heard bound
           (c.in-Ok.ensures.checks k z.guid f shows) in
           let st = first_found h takes.turns in
-          frame_stops z h k f c.args.state.now.setups c.args.frame.now takes.turns q.F q.heard c.now-now.result c.fresh-fresh.result
+          frame_stops z h k f c.args.state.now.setups c.args.frame.now takes.turns q.F q.heard c.now-now.result c.fresh_for-fresh.result
           st.stand.server st.stand.logons takes.at_once st.is c.check.new.conn.id
           (record c.args.state.now { conn = c.check.new.conn; news = None })
           c.take_messages.new.state c.take_messages.new.asked c.take_messages.new.dealt c.in-Err-take_messages.why q.shows.number refl
@@ -70,7 +73,7 @@ returns-in-Ok-take_messages-clause-takes g c =
           let q = checked_so z k c.now-now.result f c.args.frame.now c.check.new.conn c.in-Ok.asked shows.heard bound
           (c.in-Ok.ensures.checks k z.guid f shows) in
           let st = first_found h takes.turns in
-          frame_comes z h k f c.args.state.now.setups c.args.frame.now takes.turns q.F q.heard c.now-now.result c.fresh-fresh.result
+          frame_comes z h k f c.args.state.now.setups c.args.frame.now takes.turns q.F q.heard c.now-now.result c.fresh_for-fresh.result
           st.stand.server st.stand.logons takes.at_once st.is c.check.new.conn.id
           (record c.args.state.now { conn = c.check.new.conn; news = None })
           c.take_messages.new.state c.finish.new.state c.in-Ok.asked c.take_messages.new.asked c.take_messages.new.dealt c.finish.result
@@ -88,7 +91,7 @@ returns-in-Err-clause-draws g c = record {
   now = 0;
   fresh = [];
   at_once = tt;
-  drawn = inl refl;
+  drawn = tt;
 }
 
 pub returns-in-Err-dealt_for-clause-draws : goal.returns-in-Err-dealt_for-clause-draws
@@ -98,7 +101,7 @@ returns-in-Err-dealt_for-clause-draws g c = record {
   now = 0;
   fresh = [];
   at_once = tt;
-  drawn = inl refl;
+  drawn = tt;
 }
 
 pub returns-clause-draws : goal.returns-clause-draws
@@ -108,9 +111,10 @@ returns-clause-draws g c =
       turns = takes.turns;
       own = takes.own;
       now = c.now-now.result;
-      fresh = c.fresh-fresh.result;
+      fresh = c.fresh_for-fresh.result;
       at_once = takes.at_once;
-      drawn = inr c.fresh-fresh.ensures;
+      drawn = told_drawn g.R.Rng.stream (holds_setup c.in-Ok.asked.messages.items) c.now-now.result c.fresh_for-fresh.result takes.turns
+          c.fresh_for-fresh.ensures takes.at_once takes.of_frame;
     }
 
 pub returns-in-Ok-take_messages-clause-draws : goal.returns-in-Ok-take_messages-clause-draws
@@ -120,7 +124,8 @@ returns-in-Ok-take_messages-clause-draws g c =
       turns = takes.turns;
       own = takes.own;
       now = c.now-now.result;
-      fresh = c.fresh-fresh.result;
+      fresh = c.fresh_for-fresh.result;
       at_once = takes.at_once;
-      drawn = inr c.fresh-fresh.ensures;
+      drawn = told_drawn g.R.Rng.stream (holds_setup c.in-Ok.asked.messages.items) c.now-now.result c.fresh_for-fresh.result takes.turns
+          c.fresh_for-fresh.ensures takes.at_once takes.of_frame;
     }

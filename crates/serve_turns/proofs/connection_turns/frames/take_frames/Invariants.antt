@@ -5,6 +5,6 @@ use Rattle.serve_turns.proofs.connection_turns.frames.take_frames.Given as goal
 abbrev pub invariant-loop : goal.invariant-loop
 invariant-loop g l = record {
   same : IsSameSeat l.initial.seat l.seat;
-  on : GoesOn g.L.Link.told g.L.Link.given g.L.Link.written g.L.Link.faults
+  on : GoesOn g.L.Link.told g.L.Link.given g.L.Link.left g.L.Link.written g.L.Link.faults
       (view_of l.initial.seat) l.initial.state l.initial.stream l.initial.link (view_of l.seat) l.state l.stream l.link;
 }

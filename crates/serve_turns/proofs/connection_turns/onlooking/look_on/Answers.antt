@@ -5,7 +5,6 @@ use Rattle.serve_turns.proofs.connection_turns.onlooking.look_on.Goals as goal
 pub before_write-requires : goal.before_write-requires
 before_write-requires g c =
     let begun = c.args.begun.now in
-    looked g.L.Link.told g.L.Link.given g.L.Link.written g.S.Serve.shows g.S.Serve.stopped begun.guid begun.number
+    looked g.L.Link.told g.L.Link.given g.L.Link.left g.L.Link.written g.S.Serve.shows g.S.Serve.stopped begun.guid begun.number
     (view_of begun.seat.value) (view_of c.args.seat.now) (view_of c.peek.new.seat) begun.link.value c.args.link.now c.peek.result
-    c.in-Ok.bytes c.as_slice.result.now c.peek.ensures.front c.peek.ensures.history (c.requires.due c.in-Ok.bytes c.in-Ok.is)
-    c.as_slice.ensures
+    c.args.answer.now c.peek.ensures.front c.peek.ensures.history c.requires.due

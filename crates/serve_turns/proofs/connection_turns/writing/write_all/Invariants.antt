@@ -5,7 +5,7 @@ use Rattle.serve_turns.proofs.connection_turns.writing.write_all.Given as goal
 abbrev pub invariant-loop-at : goal.invariant-loop-at
 invariant-loop-at g l = record {
   within : l.at ≤ length l.bytes;
-  written : HasWritten g.L.Link.told g.L.Link.given g.L.Link.written l.initial.link l.link (take l.at l.bytes);
+  written : HasWritten g.L.Link.told g.L.Link.given g.L.Link.left g.L.Link.written l.initial.link l.link (take l.at l.bytes);
   same : g.L.Link.faults l.link ≡ g.L.Link.faults l.initial.link;
 }
 

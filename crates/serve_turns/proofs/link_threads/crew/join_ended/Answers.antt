@@ -12,7 +12,7 @@ loop-preserved g c =
       j.opening ∙ i.1,
       j.count ∙ i.2,
       (λ n was. j.covered n (i.3 n was)),
-      (λ n was. j.served n (i.4 n was)),
+      (λ before others sent n was. j.served before others sent n (i.4 before others sent n was)),
       subst (λ o. All (λ r. IsSeatOf c.args.book.now r.handle.promise.seat.value × (r.handle.promise.service.value ≡ c.args.service.now)
           × IsNewSeat o (view_of r.handle.promise.seat.value)) c.join_one.new.crew.running.items) (sym j.opening) j.running,
     )
