@@ -17,7 +17,7 @@ pub fn push_digits(said: &mut String, bytes: &[u8]) -> Result<(), AllocError> {
 }
 
 /// `EPOCH.COUNTER`, or 0.
-fn push_id(said: &mut String, id: u64) -> Result<(), AllocError> {
+fn push_id(said: &mut String, id: u128) -> Result<(), AllocError> {
     if id == 0 {
         return said.push_str("0");
     }
@@ -128,7 +128,7 @@ fn push_reply(
     said.push_str(if acted { " acts" } else { "" })?;
     if reply.session_id != around.session {
         said.push_str(" session ")?;
-        push_id(said, reply.session_id)?;
+        push_id(said, reply.session_id as u128)?;
     }
     if reply.tree_id != around.tree {
         write!(said, " tree {}", reply.tree_id)?;

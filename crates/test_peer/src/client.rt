@@ -6,7 +6,7 @@ use client_ends::line_calls::hear;
 use client_ends::{ClientConfig, Dialog, Fresh, Heading, Heard, Line, request_of, send, start};
 use std::alloc::{AllocError, Global};
 use wire_bytes::{Bytes, Numbers, Request, Text};
-use wire_commands::{Body, Command, CreateRequest, Reply, reply_of};
+use wire_commands::{Body, ClientCommand, ClientCreate, Reply, reply_of};
 
 /// The longest body of a request.
 const LONGEST_BODY: usize = 1_113_996;
@@ -72,8 +72,8 @@ fn sent(line: &mut Line, request: &Request) -> Option<Bytes> {
 }
 
 /// A CREATE for reading and writing.
-fn create_request(alloc: Global, path: &str, disposition: u32) -> Option<CreateRequest> {
-    Some(CreateRequest {
+fn create_request(alloc: Global, path: &str, disposition: u32) -> Option<ClientCreate> {
+    Some(ClientCreate {
         path: Text::from_str(alloc, path).ok()?,
         access: READ_AND_WRITE,
         share: 0,
@@ -122,7 +122,7 @@ impl<L: Link + Drop> Client<L> {
     }
 
     /// What a command is answered.
-    pub fn asked(&mut self, command: &Command<'_>) -> Option<Reply> {
+    pub fn asked(&mut self, command: &ClientCommand<'_>) -> Option<Reply> {
         let heading = Heading {
             session: self.session,
             tree: self.tree,
@@ -146,17 +146,17 @@ impl<L: Link + Drop> Client<L> {
     }
 
     /// Opens a file for reading and writing, by a CreateDisposition (MS-SMB2 2.2.13), and gives its open's id.
-    pub fn create(&mut self, path: &str, disposition: u32) -> Option<u64> {
+    pub fn create(&mut self, path: &str, disposition: u32) -> Option<u128> {
         let request = create_request(self.alloc, path, disposition)?;
-        match self.asked(&Command::Create(request))?.body {
+        match self.asked(&ClientCommand::Create(request))?.body {
             Body::Created(created) => Some(created.id),
             _ => None,
         }
     }
 
     /// How many bytes are written into an open from a place on.
-    pub fn write(&mut self, file: u64, at: u64, bytes: &[u8]) -> Option<u32> {
-        let command = Command::Write {
+    pub fn write(&mut self, file: u128, at: u64, bytes: &[u8]) -> Option<u32> {
+        let command = ClientCommand::Write {
             file,
             at,
             bytes,
@@ -169,8 +169,8 @@ impl<L: Link + Drop> Client<L> {
     }
 
     /// At most so many bytes of an open from a place on.
-    pub fn read(&mut self, file: u64, at: u64, size: u32) -> Option<Bytes> {
-        let command = Command::Read {
+    pub fn read(&mut self, file: u128, at: u64, size: u32) -> Option<Bytes> {
+        let command = ClientCommand::Read {
             file,
             at,
             size,

@@ -1,16 +1,18 @@
 //! Requests and replies of commands, from bytes to values and back: what is answered to a row. Bytes are hexadecimal digits, `-` for none.
 
 mod bodies;
+mod sending;
 
 use crate::words::{Fault, Words, push_digits};
 use bodies::body_in;
+use sending::{push_given_back, sent_by_client};
 use spec_wire::Header;
 use std::alloc::{AllocError, Global};
 use std::fmt::Write;
-use wire_bytes::split_compound;
+use wire_bytes::{Bytes, split_compound};
 use wire_commands::{
-    Body, Command, Element, Reply, Request, SetupRequest, Shows, Unjoined, body_of, elements_bytes,
-    join_messages, reply_body, reply_of, request_of,
+    Body, ClientCommand, Command, Element, Reply, Request, SetupRequest, Shows, Unjoined, body_of,
+    elements_bytes, join_messages, reply_body, reply_of, request_of,
 };
 
 /// Puts what is answered to the words of a row.
@@ -18,6 +20,7 @@ pub fn push_answer(said: &mut String, alloc: Global, words: &mut Words<'_>) -> R
     let kind = words.next();
     match kind {
         "elements" => push_elements(said, alloc, words),
+        "given" => push_given_back(said, alloc, words),
         "joined" => push_joined(said, alloc, words),
         "logon" => push_logon(said, alloc, words),
         _ => push_request(said, alloc, kind, words),
@@ -25,7 +28,8 @@ pub fn push_answer(said: &mut String, alloc: Global, words: &mut Words<'_>) -> R
 }
 
 // `written COMMAND BODY`: a request that the client writes, `same` where its command is written so again. `heard COMMAND BODY`: which kind
-// of request it is. `told COMMAND REQUEST STATUS BODY ..`: the bytes of a reply.
+// of request it is. `opens 9 BODY`: the open that a WRITE names to the server, 0 for none. `told COMMAND REQUEST STATUS BODY ..`: the bytes
+// of a reply.
 fn push_request(
     said: &mut String,
     alloc: Global,
@@ -39,8 +43,9 @@ fn push_request(
     match request_of(alloc, &header, &message)? {
         Some(Request::Command(command)) => match kind {
             "heard" => Ok(said.push_str("command")?),
-            "written" => push_written(said, alloc, &command, &body),
-            _ => push_told(said, alloc, &[], &command, &header, words),
+            "opens" => Ok(push_open(said, &command)?),
+            "written" => push_written(said, alloc, command, &body),
+            _ => push_told(said, alloc, &Bytes::new(alloc), command, &header, words),
         },
         Some(Request::Negotiate) => Ok(said.push_str("negotiate")?),
         Some(Request::Echo { .. }) => Ok(said.push_str("echo")?),
@@ -49,25 +54,36 @@ fn push_request(
     }
 }
 
+fn push_open(said: &mut String, command: &Command<'_>) -> Result<(), AllocError> {
+    match command {
+        Command::Write { file, .. } => write!(said, "{file}"),
+        _ => said.push_str("no WRITE"),
+    }
+}
+
 fn push_written(
     said: &mut String,
     alloc: Global,
-    command: &Command<'_>,
+    command: Command<'_>,
     body: &[u8],
 ) -> Result<(), Fault> {
-    match body_of(alloc, command) {
+    let Some(sent) = sent_by_client(command) else {
+        return Err(Fault::Other("no client sends it"));
+    };
+    match body_of(alloc, &sent) {
         Ok(again) if again.as_slice() == body => Ok(said.push_str("same")?),
         Ok(again) => Ok(push_digits(said, again.as_slice())?),
         Err(_) => Err(Fault::Other("it isn't written")),
     }
 }
 
-// The digits of a reply in tree 2 of session 3, whose body the words tell, and which is heard with the header's status and session.
+// The digits of a reply in tree 2 of session 3, whose body the words tell, and which a client hears with the header's status and session,
+// where it sends such a command.
 fn push_told(
     said: &mut String,
     alloc: Global,
-    token: &[u8],
-    command: &Command<'_>,
+    token: &Bytes,
+    command: Command<'_>,
     header: &Header,
     words: &mut Words<'_>,
 ) -> Result<(), Fault> {
@@ -78,8 +94,11 @@ fn push_told(
         tree_id: header.tree,
         body,
     };
-    match reply_body(alloc, token, command, &reply) {
-        Ok(written) => push_heard(said, alloc, command, header, written.as_slice()),
+    match reply_body(alloc, token, &command, &reply) {
+        Ok(written) => match sent_by_client(command) {
+            Some(sent) => push_heard(said, alloc, &sent, header, written.as_slice()),
+            None => Ok(push_digits(said, written.as_slice())?),
+        },
         Err(_) => Err(Fault::Other("it isn't written")),
     }
 }
@@ -87,7 +106,7 @@ fn push_told(
 fn push_heard(
     said: &mut String,
     alloc: Global,
-    command: &Command<'_>,
+    command: &ClientCommand<'_>,
     header: &Header,
     written: &[u8],
 ) -> Result<(), Fault> {
@@ -101,7 +120,7 @@ fn push_heard(
 
 // `logon TOKEN`: the bytes of the reply to a SESSION_SETUP that begins.
 fn push_logon(said: &mut String, alloc: Global, words: &mut Words<'_>) -> Result<(), Fault> {
-    let token = words.bytes(alloc)?;
+    let token = Bytes::from_vec(words.bytes(alloc)?);
     let setup = Command::Setup(SetupRequest {
         readable: true,
         binding: false,
@@ -116,7 +135,7 @@ fn push_logon(said: &mut String, alloc: Global, words: &mut Words<'_>) -> Result
         said,
         alloc,
         &token,
-        &setup,
+        setup,
         &header_of(1, 0),
         &mut Words::new("setup"),
     )
@@ -172,14 +191,14 @@ fn push_spans(said: &mut String, alloc: Global, frame: &[u8]) -> Result<(), Faul
 }
 
 // A message of a header, which no body looks at, and a body.
-fn message_of(alloc: Global, body: &[u8]) -> Result<Vec<u8>, AllocError> {
+pub(crate) fn message_of(alloc: Global, body: &[u8]) -> Result<Vec<u8>, AllocError> {
     let mut message = Vec::from_slice(alloc, &[0; 64])?;
     message.extend_from_slice(body)?;
     Ok(message)
 }
 
 // The header of message 4 in tree 2 of session 3.
-fn header_of(command: u16, status: u32) -> Header {
+pub(crate) fn header_of(command: u16, status: u32) -> Header {
     Header {
         charge: 1,
         status,

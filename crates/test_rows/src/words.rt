@@ -78,6 +78,11 @@ impl<'a> Words<'a> {
         self.next().parse::<u64>().unwrap_or(0)
     }
 
+    /// A number below 2^128.
+    pub fn wide(&mut self) -> u128 {
+        self.next().parse::<u128>().unwrap_or(0)
+    }
+
     pub fn small(&mut self) -> u32 {
         (self.number() & 0xffff_ffff) as u32
     }

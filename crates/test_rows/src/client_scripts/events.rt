@@ -70,7 +70,7 @@ fn body_of(alloc: Global, status: u32, words: &mut Words<'_>) -> Result<Body, Fa
         "done" => Ok(Body::Empty),
         "action" => Ok(Body::Created(CreateReply {
             action: words.small(),
-            id: words.number(),
+            id: words.wide(),
             info: info_of(0),
             timeout: None,
             maximal: false,

@@ -5,7 +5,7 @@ use client_events::{Act, Event, Played};
 use client_steps::Head;
 use client_tables::Table;
 use std::alloc::{AllocError, Global};
-use wire_commands::Command;
+use wire_commands::ClientCommand;
 
 const REFUSED: Fault = Fault::Other("no memory, or no such event");
 
@@ -25,7 +25,7 @@ pub trait Plays: Drop {
         index: usize,
         asking: bool,
         salt: u64,
-    ) -> Result<Command<'_>, Fault>;
+    ) -> Result<ClientCommand<'_>, Fault>;
 }
 
 impl Plays for Played {
@@ -57,7 +57,7 @@ impl Plays for Played {
         index: usize,
         asking: bool,
         salt: u64,
-    ) -> Result<Command<'_>, Fault> {
+    ) -> Result<ClientCommand<'_>, Fault> {
         match self.request(alloc, index, asking, salt) {
             Ok(command) => Ok(command),
             Err(_) => Err(REFUSED),

@@ -5,7 +5,7 @@ use client_events::Act;
 use client_steps::Head;
 use std::alloc::{AllocError, Global};
 use std::fmt::Write;
-use wire_commands::Command;
+use wire_commands::ClientCommand;
 
 /// The random bytes of a run, of which no row tells.
 const SALT: u64 = 7;
@@ -54,20 +54,24 @@ fn push_command<P: Plays>(
 }
 
 // The FileId that a request names, the ChannelSequence, and the lock slot. A create names no open; a request to attach one does.
-fn push_named(said: &mut String, command: &Command<'_>, head: Head) -> Result<(), AllocError> {
+fn push_named(
+    said: &mut String,
+    command: &ClientCommand<'_>,
+    head: Head,
+) -> Result<(), AllocError> {
     match command {
-        Command::Create(request) => match &request.reconnect {
+        ClientCommand::Create(request) => match &request.reconnect {
             Some(reconnect) => push_file(said, reconnect.file, head),
             None => write!(said, " sequence {}", head.sequence),
         },
-        Command::Write { file, .. }
-        | Command::Read { file, .. }
-        | Command::SetInfo { file, .. }
-        | Command::Flush { file }
-        | Command::QueryFile { file, .. }
-        | Command::ListDirectory { file, .. }
-        | Command::Close { file, .. } => push_file(said, *file, head),
-        Command::Lock {
+        ClientCommand::Write { file, .. }
+        | ClientCommand::Read { file, .. }
+        | ClientCommand::SetInfo { file, .. }
+        | ClientCommand::Flush { file }
+        | ClientCommand::QueryFile { file, .. }
+        | ClientCommand::ListDirectory { file, .. }
+        | ClientCommand::Close { file, .. } => push_file(said, *file, head),
+        ClientCommand::Lock {
             file,
             index,
             number,
@@ -81,6 +85,6 @@ fn push_named(said: &mut String, command: &Command<'_>, head: Head) -> Result<()
     }
 }
 
-fn push_file(said: &mut String, file: u64, head: Head) -> Result<(), AllocError> {
+fn push_file(said: &mut String, file: u128, head: Head) -> Result<(), AllocError> {
     write!(said, " file {file} sequence {}", head.sequence)
 }

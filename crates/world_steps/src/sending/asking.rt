@@ -1,7 +1,7 @@
 // The request of what goes out.
 ghost use Rattle.std.specs.Prelude.{◌≡◌, ◌<◌, ◌≤◌, false, length, MatchResult};
 ghost use Rattle.client_steps.specs.whole_client.Shown.{ShowsClient};
-ghost use Rattle.wire_commands.specs.values.Meaning.{command_of};
+ghost use Rattle.wire_commands.specs.values.Meaning.{client_command_of};
 ghost use Rattle.spec_exchange.specs.Client.{Client as Model};
 ghost use Rattle.client_ends.specs.ends.Shown.{token_of as meant_by};
 ghost use Rattle.world_steps.specs.sending.Sending.{SendingAsks, Heads, IsSendingCommandFor, IsHeadFor, IsSendingShort};
@@ -13,7 +13,7 @@ use client_ends::{Heading, request_of};
 use client_steps::Head;
 use std::alloc::Global;
 use wire_bytes::Request;
-use wire_commands::Command;
+use wire_commands::ClientCommand;
 
 /// The longest body that a sealed frame has room for.
 const LONGEST_BODY: usize = 1_113_996;
@@ -91,8 +91,8 @@ fn command_for(
     salt: u64,
     number: u32,
     asking: bool,
-) -> Result<Command<'_>, WorldError>
-    ensures { MatchResult result (λ q. IsSendingCommandFor client.now salt number asking (command_of q)) (λ e. IsWorldMemory e) }
+) -> Result<ClientCommand<'_>, WorldError>
+    ensures { MatchResult result (λ q. IsSendingCommandFor client.now salt number asking (client_command_of q)) (λ e. IsWorldMemory e) }
 {
     match client.request(alloc, number as usize, asking, salt) {
         Ok(command) => Ok(command),
@@ -115,9 +115,9 @@ fn if_short(request: Request) -> Result<Request, WorldError>
 fn request_with(
     alloc: Global,
     heading: &Heading,
-    command: &Command<'_>,
+    command: &ClientCommand<'_>,
 ) -> Result<Request, WorldError>
-    ensures { MatchResult result (λ r. IsSendingShort heading.now (command_of command.now) r) (λ e. IsWorldMemory e) }
+    ensures { MatchResult result (λ r. IsSendingShort heading.now (client_command_of command.now) r) (λ e. IsWorldMemory e) }
 {
     match request_of(alloc, heading, command) {
         Ok(request) => if_short(request),

@@ -1,17 +1,21 @@
 // What a response says to its operation.
 ghost use Rattle.std.specs.Prelude.{◌≡◌, MatchResult};
 ghost use Rattle.spec_commands.specs.ReplyOf.{reply_of as read_as};
-ghost use Rattle.wire_commands.specs.values.Meaning.{command_of, reply_of as meant_by};
+ghost use Rattle.wire_commands.specs.values.Meaning.{client_command_of, reply_of as meant_by};
 ghost use Rattle.world_steps.specs.Parts.{IsWorldMemory};
 ghost use Rattle.world_steps.specs.taking.Replies.{IsTakeCommandFor, TakeReads};
 
 use crate::sending::{Played, WorldError};
 use crate::taking::hearing::Response;
 use std::alloc::Global;
-use wire_commands::{Command, Reply, reply_of};
+use wire_commands::{ClientCommand, Reply, reply_of};
 
-fn read(alloc: Global, command: &Command<'_>, response: &Response) -> Result<Reply, WorldError>
-    ensures { MatchResult result (λ r. meant_by r ≡ read_as (command_of command.now) response.now.header response.now.message)
+fn read(
+    alloc: Global,
+    command: &ClientCommand<'_>,
+    response: &Response,
+) -> Result<Reply, WorldError>
+    ensures { MatchResult result (λ r. meant_by r ≡ read_as (client_command_of command.now) response.now.header response.now.message)
         (λ e. IsWorldMemory e) }
 {
     match reply_of(
@@ -30,8 +34,8 @@ fn command_for<'a>(
     alloc: Global,
     salt: u64,
     response: &Response,
-) -> Result<Command<'a>, WorldError>
-    ensures { MatchResult result (λ q. IsTakeCommandFor client.now salt response.now (command_of q)) (λ e. IsWorldMemory e) }
+) -> Result<ClientCommand<'a>, WorldError>
+    ensures { MatchResult result (λ q. IsTakeCommandFor client.now salt response.now (client_command_of q)) (λ e. IsWorldMemory e) }
 {
     match client.request(alloc, response.number as usize, response.asking, salt) {
         Ok(command) => Ok(command),
