@@ -13,7 +13,7 @@ mod read;
 mod recovery;
 mod start;
 
-pub use journal::{Journal, JournalError};
+pub use journal::{Journal, JournalError, RefusedStart};
 pub use laws::{broken_means_nothing, one_break, one_meaning};
 pub use list::BytesList;
 pub use read::Found;

@@ -7,8 +7,8 @@ pub mod record_bodies;
 pub mod record_bytes;
 
 pub use disk_journal::{
-    BytesList, Found, Journal, JournalError, broken_means_nothing, one_break, one_meaning, prepare,
-    repair,
+    BytesList, Found, Journal, JournalError, RefusedStart, broken_means_nothing, one_break,
+    one_meaning, prepare, repair,
 };
 pub use record_bodies::{body_law, elements_of, guid_of, spelled};
 pub use record_bytes::{

@@ -19,7 +19,7 @@ abbrev pub in_front : {B : Type 0} → B → (ℕ → B) → ℕ → B
 in_front b f zero = b
 in_front b f (suc n) = f n
 
-module _ {S : Type 0} (shows : S → Users → model.Server → Logons → List model.Record → Type 0) (stopped : S → Option ℕ)
+module _ {S : Type 0} (shows : S → Users → model.Server → Logons → List model.Record → Type 0) (stopped : S → Option ℕ) (faults : S → ℕ)
     (z : ServerSettings) where
   -- from a book that stands somewhere on: the history's course, and one chain of books, each of which stands where its place found it
   pub record Booked (from : Standing) (opening : EventBook S) (log : List (Entry Turn Answer)) (last : EventBook S) : Type 0 where
@@ -29,24 +29,26 @@ module _ {S : Type 0} (shows : S → Users → model.Server → Logons → List 
     pub books : ℕ → EventBook S
     pub begins : books 0 ≡ opening
     pub ends : books (length log) ≡ last
-    pub steps : (i : ℕ) (e : Entry Turn Answer) → slice_get log i ≡ Some e → EventSteps shows stopped (books i) e.event e.reply (books (i + 1))
-    pub stands : (i : ℕ) → i ≤ length log → ShowsStanding shows stopped z.users (books i) (found_by z from log all to runs i)
+    pub steps : (i : ℕ) (e : Entry Turn Answer) → slice_get log i ≡ Some e
+        → EventSteps shows stopped faults (books i) e.event e.reply (books (i + 1))
+    pub stands : (i : ℕ) → i ≤ length log → ShowsStanding shows stopped faults z.users (books i) (found_by z from log all to runs i)
 
   none_there : {X : Type 0} (i : ℕ) (x : X) → slice_get [] i ≡ Some x → ⊥
   none_there zero x here = absurd (let q : None ≡ Some x = here in cc)
   none_there (suc i) x here = absurd (let q : None ≡ Some x = here in cc)
 
   step_more : (opening next : EventBook S) (e : Entry Turn Answer) (es : List (Entry Turn Answer)) (books : ℕ → EventBook S)
-      → EventSteps shows stopped opening e.event e.reply next → books 0 ≡ next
-      → ((i : ℕ) (x : Entry Turn Answer) → slice_get es i ≡ Some x → EventSteps shows stopped (books i) x.event x.reply (books (i + 1)))
+      → EventSteps shows stopped faults opening e.event e.reply next → books 0 ≡ next
+      → ((i : ℕ) (x : Entry Turn Answer) → slice_get es i ≡ Some x → EventSteps shows stopped faults (books i) x.event x.reply
+      (books (i + 1)))
       → (i : ℕ) (x : Entry Turn Answer) → slice_get (e ∷ es) i ≡ Some x
-      → EventSteps shows stopped (in_front opening books i) x.event x.reply (in_front opening books (i + 1))
+      → EventSteps shows stopped faults (in_front opening books i) x.event x.reply (in_front opening books (i + 1))
   step_more opening next e es books step begins steps zero x here =
       let same : e ≡ x = (let q : Some e ≡ Some x = here in cc) in
-      subst (λ (v : Entry Turn Answer). EventSteps shows stopped opening v.event v.reply (books 0)) same
-      (subst (λ (b : EventBook S). EventSteps shows stopped opening e.event e.reply b) (sym begins) step)
+      subst (λ (v : Entry Turn Answer). EventSteps shows stopped faults opening v.event v.reply (books 0)) same
+      (subst (λ (b : EventBook S). EventSteps shows stopped faults opening e.event e.reply b) (sym begins) step)
   step_more opening next e es books step begins steps (suc i) x here =
-      subst (λ (n : ℕ). EventSteps shows stopped (books i) x.event x.reply (in_front opening books n))
+      subst (λ (n : ℕ). EventSteps shows stopped faults (books i) x.event x.reply (in_front opening books n))
       (let q : suc (i + 1) ≡ suc i + 1 = omega arith in q) (steps i x here)
 
   unfoldable runs_on : (from next to : Standing) (e : Entry Turn Answer) (es : List (Entry Turn Answer)) (g : Option Given)
@@ -56,16 +58,17 @@ module _ {S : Type 0} (shows : S → Users → model.Server → Logons → List 
 
   stand_more : (from : Standing) (opening : EventBook S) (e : Entry Turn Answer) (es : List (Entry Turn Answer)) (all : List (Option Given))
       (g : Option Given) (to next : Standing) (told : Meets z from e g next) (runs : Runs z next es all to) (books : ℕ → EventBook S)
-      → ShowsStanding shows stopped z.users opening from
-      → ((i : ℕ) → i ≤ length es → ShowsStanding shows stopped z.users (books i) (found_by z next es all to runs i)) → (i : ℕ)
+      → ShowsStanding shows stopped faults z.users opening from
+      → ((i : ℕ) → i ≤ length es → ShowsStanding shows stopped faults z.users (books i) (found_by z next es all to runs i)) → (i : ℕ)
       → i ≤ length (e ∷ es)
-      → ShowsStanding shows stopped z.users (in_front opening books i) (found_by z from (e ∷ es) (g ∷ all) to (runs_on from next to e es g all told runs) i)
+      → ShowsStanding shows stopped faults z.users (in_front opening books i)
+      (found_by z from (e ∷ es) (g ∷ all) to (runs_on from next to e es g all told runs) i)
   unfolding Runs found_by runs_on
   stand_more from opening e es all g to next told runs books stands more zero within = stands
   stand_more from opening e es all g to next told runs books stands more (suc i) within = more i (omega (arith, within))
 
   pub booked : (from : Standing) (opening last : EventBook S) (log : List (Entry Turn Answer))
-      → Replays (EventSteps shows stopped) opening log last → ShowsStanding shows stopped z.users opening from
+      → Replays (EventSteps shows stopped faults) opening log last → ShowsStanding shows stopped faults z.users opening from
       → Booked from opening log last
   unfolding Runs found_by
   booked from opening last [] replays stands = record {
@@ -79,7 +82,7 @@ module _ {S : Type 0} (shows : S → Users → model.Server → Logons → List 
     stands = λ i within. stands;
   }
   booked from opening last (e ∷ es) replays stands =
-      let one = event_settles shows stopped z from opening replays.0 e replays.1 stands in
+      let one = event_settles shows stopped faults z from opening replays.0 e replays.1 stands in
       let rest = booked one.to replays.0 last es replays.2 one.stands in
       record {
         all = one.given ∷ rest.all;

@@ -8,3 +8,4 @@ pub mod Books
 pub mod Connections
 pub mod Wholes
 pub mod Alones
+mod Stopping

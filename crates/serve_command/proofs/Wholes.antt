@@ -1,5 +1,5 @@
 -- A server that was served, from what its book, its seats and its first state tell.
-use Rattle.std.proofs.Common.{◌≡◌, ◌⊎◌, inl, inr, ℕ, ◌+◌, true, false, List, [], length, slice_get, Option, Some}
+use Rattle.std.proofs.Common.{◌≡◌, ◌⊎◌, ◌<◌, inl, inr, ℕ, zero, suc, ◌+◌, true, false, List, [], ◌∷◌, length, slice_get, Option, Some}
 use Rattle.std.proofs.Common.{refl, sym, ap, subst, ◌∙◌, arith}
 use Rattle.law_nonces.specs.event_nonces.Events.{NonceTables}
 use Rattle.law_records.proofs.recovery.Restarts.{bare_fold}
@@ -25,23 +25,33 @@ use Rattle.serve_turns.specs.link_serving.Passage.{Passage}
 use Rattle.serve_turns.specs.shared_book.Histories.{Replays, entries_of}
 use Rattle.serve_turns.specs.shared_book.Numbers.{IsOneOf, IsWhole, numbers_in, numbers_of}
 use Rattle.serve_turns.specs.shared_book.Seats.{Closes}
+use Rattle.serve_turns.proofs.event_book.Faults.{at_fault}
 use Rattle.serve_turns.proofs.event_book.Courses.{course_of, found_by, own_meet, runs_by}
 use Rattle.serve_command.specs.Serving.{AreServedBy, ServingOpens}
-use Rattle.serve_command.specs.Steps.{ServerBook, server_shows, server_steps, server_stopped}
-use Rattle.serve_command.specs.Whole.{BeginsAt, DiskStands, IsOnDisk, OnDiskAt, WasServedWhole, first_stand, settings_of}
+use Rattle.serve_command.specs.Steps.{ServerBook, server_faults, server_shows, server_steps, server_stopped}
+use Rattle.serve_command.specs.Whole.{BeginsAt, DiskStands, IsOnDisk, OnDiskAt, WasServedWhole, first_stand, number_of, settings_of}
 use Rattle.serve_command.proofs.Books.{Booked, booked}
 use Rattle.serve_command.proofs.Connections.{Connected, connected, no_entry}
+use Rattle.serve_command.proofs.Stopping.{served_off}
 use Rattle.serve_command.proofs.nonces.Once.{are_once}
 
 all_many : (n m count : ℕ) → n ≡ m → 0 + m ≡ count → n ≡ count
 all_many n m count same all = omega (arith, same, all)
 
-module _ {D : Type 0} (told : Type 0) (seen : D → List ℕ) (may_leave : D → List ℕ → Type 0) where
+entry_at : (log : List (Entry Turn Answer)) (i : ℕ) → i < length log → (e : Entry Turn Answer) × (slice_get log i ≡ Some e)
+entry_at [] i within = absurd (omega (arith, within))
+entry_at (e ∷ es) zero within = (e, refl)
+entry_at (e ∷ es) (suc i) within = entry_at es i (omega (arith, within))
+
+module _ {D : Type 0} (told : Type 0) (seen : D → List ℕ) (may_leave : D → List ℕ → Type 0) (faults : D → ℕ) where
   abbrev shows : Book D → Users → model.Server → Logons → List model.Record → Type 0
   shows = server_shows told seen may_leave
 
   abbrev stopped : Book D → Option ℕ
   stopped = server_stopped
+
+  abbrev counts : Book D → ℕ
+  counts = server_faults faults
 
   -- ---- a server that has just begun
 
@@ -58,10 +68,10 @@ module _ {D : Type 0} (told : Type 0) (seen : D → List ℕ) (may_leave : D →
     named = λ x there. absurd (let h = b.bare.absent x in let q : true ≡ false = sym there ∙ h in cc);
   }
 
-  pub begins_at : (faults : D → ℕ) (config : Config) (disk : D) (server : Server D)
+  pub begins_at : (config : Config) (disk : D) (server : Server D)
       (b : ServerBegins told seen may_leave faults config disk (state_of server))
       → BeginsAt told seen may_leave server (first_stand config b.2 b.3)
-  begins_at faults config disk server b = record {
+  begins_at config disk server b = record {
     holds = b.4 no_logons;
     goes_on = b.0;
     bare = bare_fold (b.3 ++ recovery_records b.3);
@@ -86,8 +96,8 @@ module _ {D : Type 0} (told : Type 0) (seen : D → List ℕ) (may_leave : D →
         });
       }
 
-  on_at : (users : Users) (book : ServerBook D) (s : Standing) → ShowsStanding shows stopped users book s
-      → OnDiskAt told seen may_leave book s
+  on_at : (users : Users) (book : ServerBook D) (s : Standing) → ShowsStanding shows stopped counts users book s
+      → OnDiskAt told seen may_leave faults book s
   on_at users book (On s) g = record {
     holds = g.0.1;
     goes_on = g.1;
@@ -98,15 +108,16 @@ module _ {D : Type 0} (told : Type 0) (seen : D → List ℕ) (may_leave : D →
   -- ---- the whole
 
   first_shows : (server : Server D) (opening : ServerBook D) (from : Stand) → opening.server.server ≡ server
-      → BeginsAt told seen may_leave server from → ShowsStanding shows stopped (settings_of opening.server.server).users opening (On from)
+      → BeginsAt told seen may_leave server from → ShowsStanding shows stopped counts (settings_of opening.server.server).users opening
+      (On from)
   first_shows server opening from is b = (
     (refl, subst (λ (x : Server D). HoldsServer told seen may_leave x from.server from.logons from.records) (sym is) b.holds),
     ap (λ (x : Server D). stopped_of x) is ∙ b.goes_on,
   )
 
   on_disk_by : (opening last : ServerBook D) (from : Stand) (log : List (Entry Turn Answer))
-      (k : Booked shows stopped (settings_of opening.server.server) (On from) opening log last)
-      → IsOnDisk told seen may_leave opening log (course_of (settings_of opening.server.server) (On from) log k.all k.to k.runs) last
+      (k : Booked shows stopped counts (settings_of opening.server.server) (On from) opening log last)
+      → IsOnDisk told seen may_leave faults opening log (course_of (settings_of opening.server.server) (On from) log k.all k.to k.runs) last
   unfolding course_of
   on_disk_by opening last from log k = record {
     books = k.books;
@@ -115,6 +126,13 @@ module _ {D : Type 0} (told : Type 0) (seen : D → List ℕ) (may_leave : D →
     steps = k.steps;
     stands = λ i within. on_at (settings_of opening.server.server).users (k.books i)
         (found_by (settings_of opening.server.server) (On from) log k.all k.to k.runs i) (k.stands i within);
+    rose = λ i s count within on off.
+        (let z = settings_of opening.server.server in
+        let at = entry_at log i within in
+        (at_fault shows stopped counts z s (k.books i) (k.books (i + 1)) at.0.event at.0.reply at.0.event.what count (k.steps i at.0 at.1)
+        (subst (λ (x : Standing). ShowsStanding shows stopped counts z.users (k.books i) x) on (k.stands i (omega (arith, within))))
+        (subst (λ (x : Standing). ShowsStanding shows stopped counts z.users (k.books (i + 1)) x) off
+        (k.stands (i + 1) (omega (arith, within)))).0).0);
   }
 
   -- each that was made has ended, and the first seat has the first number
@@ -135,11 +153,11 @@ module _ {D : Type 0} (told : Type 0) (seen : D → List ℕ) (may_leave : D →
   whole_by : (over : ℕ → Passage → Type 0) (count : ℕ) (from : Stand) (v : View (ServerBook D) Turn Answer) (ends : List (Option Ended))
       (opening last : ServerBook D)
       (log : List (Entry Turn Answer)) (to : Standing) (h : Course) (s : AreServedBy over count v ends)
-      → Replays (server_steps told seen may_leave) opening log last → RunsBy (settings_of opening.server.server) (On from) log h to
-      → NonceTables from.server from.logons (λ x. 0) → IsOnDisk told seen may_leave opening log h last
+      → Replays (server_steps told seen may_leave faults) opening log last → RunsBy (settings_of opening.server.server) (On from) log h to
+      → NonceTables from.server from.logons (λ x. 0) → IsOnDisk told seen may_leave faults opening log h last
       → Connected (settings_of opening.server.server) h log count s.links v.ended over → entries_of v.number 0 log ≡ []
       → (IsWhole v → (i : ℕ) (e : Entry Turn Answer) → slice_get log i ≡ Some e → IsOneOf e.seat (numbers_of v))
-      → WasServedWhole told seen may_leave over count opening from ends last
+      → WasServedWhole told seen may_leave faults over count opening from ends last
   whole_by over count from v ends opening last log to h s replays runs first on_disk c none none_else = record {
     log = log;
     h = h;
@@ -156,21 +174,27 @@ module _ {D : Type 0} (told : Type 0) (seen : D → List ℕ) (may_leave : D →
     nothing_else = λ i e here. c.seated e.seat (entry_of_one v log i e here none (none_else (whole_seat over count v ends s) i e here));
     told_are = λ i end there. c.told i end (s.told i end there);
     on_disk = on_disk;
+    stops_told = λ i x count here is.
+        (let off = served_off (settings_of opening.server.server) h log (On from) to runs (number_of x) x.seat x.passage.came
+        x.passage.wrote x.passage.faults x.passage.faults' x.passage.ended x.end x.seals count (c.each i x here) is in
+        subst (λ (s : Standing). OnDiskAt told seen may_leave faults last s) (runs.ends ∙ off)
+        (subst (λ (b : ServerBook D). OnDiskAt told seen may_leave faults b (h.found (length log))) on_disk.ends
+        (on_disk.stands (length log) (omega arith))));
     once = are_once (settings_of opening.server.server) h log from to runs first c.all c.each c.apart;
   }
 
   pub whole_of : (over : ℕ → Passage → Type 0) (count : ℕ) (server : Server D) (from : Stand) (v : View (ServerBook D) Turn Answer)
       (ends : List (Option Ended))
       (last : ServerBook D) (opens : ServingOpens server v) → AreServedBy over count v ends → Closes
-      (server_steps told seen may_leave) v last
-      → BeginsAt told seen may_leave server from → WasServedWhole told seen may_leave over count opens.opening from ends last
+      (server_steps told seen may_leave faults) v last
+      → BeginsAt told seen may_leave server from → WasServedWhole told seen may_leave faults over count opens.opening from ends last
   whole_of over count server from v ends last opens s closes b =
       let opening = opens.opening in
       let q : Some closes.opening ≡ Some opening = sym closes.opens ∙ opens.is in
       let same : closes.opening ≡ opening = cc in
-      let replays : Replays (server_steps told seen may_leave) opening closes.log last =
-      subst (λ (o : ServerBook D). Replays (server_steps told seen may_leave) o closes.log last) same closes.replays in
-      let k = booked shows stopped (settings_of opening.server.server) (On from) opening last closes.log replays
+      let replays : Replays (server_steps told seen may_leave faults) opening closes.log last =
+      subst (λ (o : ServerBook D). Replays (server_steps told seen may_leave faults) o closes.log last) same closes.replays in
+      let k = booked shows stopped counts (settings_of opening.server.server) (On from) opening last closes.log replays
       (first_shows server opening from opens.begins b) in
       let h = course_of (settings_of opening.server.server) (On from) closes.log k.all k.to k.runs in
       whole_by over count from v ends opening last closes.log k.to h s replays

@@ -19,7 +19,6 @@ use Rattle.server_core.specs.server_start.Begun.{ServerBegins}
 use Rattle.server_checks.specs.declared.tables.Config.{Config}
 use Rattle.server_core.specs.Shown.{config_of, disk_of, state_of, stopped_of}
 use Rattle.server_core.specs.declared.server.Server.{Server}
-use Rattle.server_core.specs.restart_tables.Restart.{RestartRefused}
 use Rattle.serve_turns.specs.link_serving.Lines.{ended_lines}
 use Rattle.serve_turns.specs.link_serving.Passage.{Passage, ServesOver}
 use Rattle.serve_turns.specs.link_serving.Serving.{AreAllServed}
@@ -131,13 +130,13 @@ module _ {D N : Type 0} (told : Type 0) (seen : D → List ℕ) (may_leave : D �
     pub links_served : ℕ
     pub accepted : AreAccepted (serving_accepted bound) links_served halt (links net) (links net')
     pub served : AreServedBy (over net net') links_served view ends
-    pub closes : Closes (server_steps told seen may_leave) view last
+    pub closes : Closes (server_steps told seen may_leave faults) view last
     pub disk_is : disk' ≡ Some (disk_of last.server.server)
     pub rose : (has_stopped last && has_risen before (faults (disk_of last.server.server))) ≡ true
         → Rose before (faults (disk_of last.server.server))
     pub counted : ending ≡ Done → AllEnded bound ends (links net) (links net')
     pub goes_on : ending ≡ Done → stopped_of last.server.server ≡ None
-    pub whole : WasServedWhole told seen may_leave (over net net') links_served opens.opening from ends last
+    pub whole : WasServedWhole told seen may_leave faults (over net net') links_served opens.opening from ends last
     pub tells : Behind written written' sink sink' bound halt ends (has_stopped last)
         (has_risen before (faults (disk_of last.server.server))) ending
 
@@ -162,19 +161,25 @@ module _ {D N : Type 0} (told : Type 0) (seen : D → List ℕ) (may_leave : D �
       × (link_told → sent ready ≡ sent net)
       × ServesOn before bound server from written written' sink sink' ready net' disk' ending)
 
+module _ {N : Type 0} (listens_at : N → Option Address) (links : N → ℕ) (net_faults : N → ℕ) (link_told : Type 0)
+    (sent : N → List (List ℕ)) where
   -- it was told at most what no count and no place of a net shows
   abbrev pub IsNetUnused : (net net' : N) → Type 0
   IsNetUnused net net' = (listens_at net' ≡ listens_at net) × (links net' ≡ links net) × (net_faults net' ≡ net_faults net)
       × (link_told → sent net' ≡ sent net)
 
-  -- The disk refuses, by its cause, and is given up, and the net isn't used; or a server began on what the disk holds, with this
+-- Of a disk it is told why a start on it is refused, and how that leaves it.
+module _ {D N : Type 0} (told : Type 0) (seen : D → List ℕ) (may_leave : D → List ℕ → Type 0) (faults : D → ℕ)
+    (listens_at : N → Option Address) (links : N → ℕ) (net_faults : N → ℕ) (link_told : Type 0) (sent : N → List (List ℕ))
+    (over : (net net' : N) → ℕ → Passage → Type 0) (refuses : (disk left : D) → JournalError → Type 0) where
+  -- The disk refuses, by its cause, and is given back, and the net isn't used; or a server began on what the disk holds, with this
   -- configuration.
   abbrev pub Starts : Said → Config → D → (written written' : Option (List ℕ)) → (sink sink' : ℕ) → (net net' : N) → Option D → Ending
       → Type 0
   Starts said config disk written written' sink sink' net net' disk' ending =
-      ((error : JournalError) × RestartRefused told seen faults disk error × IsUnbegun written written' sink sink' error ending
-      × IsNetUnused net net' × (disk' ≡ None))
+      ((error : JournalError) × (left : D) × refuses disk left error × IsUnbegun written written' sink sink' error ending
+      × IsNetUnused listens_at links net_faults link_told sent net net' × (disk' ≡ Some left))
       ⊎ ((server : Server D) × (begins : ServerBegins told seen may_leave faults config disk (state_of server))
       × (config_of server ≡ config)
-      × Serves (faults disk) said.address said.bound server
+      × Serves told seen may_leave faults listens_at links net_faults link_told sent over (faults disk) said.address said.bound server
       (first_stand config begins.2 begins.3) written written' sink sink' net net' disk' ending)

@@ -4,6 +4,7 @@ use Rattle.law_records.specs.recovery.Restarted.{Bare}
 use Rattle.spec_exchange.specs.Fold.{recovered, recovery_records}
 use Rattle.spec_exchange.specs.State as model
 use Rattle.std.specs.Prelude.{◌++◌}
+use Rattle.base_outside.specs.streams.Faults.{Rose}
 use Rattle.spec_wire.specs.journal.Grammar.{StandsFor}
 use Rattle.spec_world.specs.Answering.{Seal}
 use Rattle.spec_world.specs.Ends.{no_logons}
@@ -17,7 +18,9 @@ use Rattle.server_core.specs.Shown.{HoldsServer, config_of, disk_of, stopped_of}
 use Rattle.serve_turns.specs.connection_turns.Serving.{WasServedBy}
 use Rattle.serve_turns.specs.declared.event_book.turn.Answer.{Answer}
 use Rattle.serve_turns.specs.declared.event_book.turn.Turn.{Turn}
+use Rattle.serve_turns.specs.declared.link_serving.ended.ConnEnd.TheVariants as tells
 use Rattle.serve_turns.specs.declared.link_serving.ended.Ended.{Ended}
+use Rattle.serve_turns.specs.declared.link_serving.ended.Ended.TheVariants.{By}
 use Rattle.serve_turns.specs.declared.shared_book.view.Entry.{Entry}
 use Rattle.serve_turns.specs.event_book.History.{Course, Off, On, RunsBy, Stand, Standing}
 use Rattle.serve_turns.specs.link_serving.Passage.{Passage}
@@ -124,33 +127,43 @@ module _ {D : Type 0} (told : Type 0) (seen : D → List ℕ) (may_leave : D →
     pub stays : (bytes : List ℕ) → may_leave disk bytes → StandsFor bytes bodies
 
   -- A server that goes on shows what its place found, and its disk, where it tells its bytes, stands for the records of all events up to
-  -- there: a reply that stands in the history stands on the disk. One whose disk failed has stopped.
+  -- there: a reply that stands in the history stands on the disk.
   pub record OnDisk (book : ServerBook D) (s : Stand) : Type 0 where
     pub holds : HoldsServer told seen may_leave book.server.server s.server s.logons s.records
     pub goes_on : stopped_of book.server.server ≡ None
     pub disk : told → DiskStands (disk_of book.server.server) s.records
 
+module _ {D : Type 0} (told : Type 0) (seen : D → List ℕ) (may_leave : D → List ℕ → Type 0) (faults : D → ℕ) where
+  -- a server stops at its disk's own count of faults
   abbrev pub OnDiskAt : ServerBook D → Standing → Type 0
-  OnDiskAt book (On s) = OnDisk book s
-  OnDiskAt book (Off count) = stopped_of book.server.server ≡ Some count
+  OnDiskAt book (On s) = OnDisk told seen may_leave book s
+  OnDiskAt book (Off count) = (stopped_of book.server.server ≡ Some count) × (count ≡ faults (disk_of book.server.server))
 
   -- The server at each place of the history, from the one that began to the one that was there in the end. Each step is the event's at its
-  -- place, with its reply, and at each place the disk is as the place found it.
+  -- place, with its reply, and at each place the disk is as the place found it. The server stops in an event in which the disk's count of
+  -- faults rose.
   pub record IsOnDisk (opening : ServerBook D) (log : List (Entry Turn Answer)) (h : Course) (last : ServerBook D) : Type 0 where
     pub books : ℕ → ServerBook D
     pub begins : books 0 ≡ opening
     pub ends : books (length log) ≡ last
     pub steps : (i : ℕ) (e : Entry Turn Answer) → slice_get log i ≡ Some e
-        → server_steps told seen may_leave (books i) e.event e.reply (books (i + 1))
+        → server_steps told seen may_leave faults (books i) e.event e.reply (books (i + 1))
     pub stands : (i : ℕ) → i ≤ length log → OnDiskAt (books i) (h.found i)
+    pub rose : (i : ℕ) (s : Stand) (count : ℕ) → i < length log → h.found i ≡ On s → h.found (i + 1) ≡ Off count
+        → Rose (faults (disk_of (books i).server.server)) count
+
+  -- whoever is told that the server stopped is told the count of faults that its disk has in the end
+  abbrev pub StopsAreTold : ServerBook D → List EndedConnection → Type 0
+  StopsAreTold last xs = (i : ℕ) (x : EndedConnection) (count : ℕ) → slice_get xs i ≡ Some x → x.end ≡ By (tells.Stopped count)
+      → OnDiskAt last (Off count)
 
   -- ---- the whole
 
   -- Of the server that began, the history, the connections, and the server that was there in the end: the history runs in the model; each
   -- connection's turns are its seat's entries, and what it wrote are the answers to what came, and that is all that passed over the link of
   -- its number; no entry is anybody else's; there are as many connections as links, each of one of the links; links, seats and numbers are
-  -- each one connection's own; of which it is told how they ended, they ended so; the disk stands for the records at each place; and no
-  -- nonce came twice.
+  -- each one connection's own; of which it is told how they ended, they ended so; the disk stands for the records at each place; a server
+  -- that stopped is told by its disk's count of faults; and no nonce came twice.
   pub record WasServedWhole (over : ℕ → Passage → Type 0) (count : ℕ) (opening : ServerBook D) (from : Stand) (ends : List (Option Ended))
       (last : ServerBook D)
       : Type 0 where
@@ -158,7 +171,7 @@ module _ {D : Type 0} (told : Type 0) (seen : D → List ℕ) (may_leave : D →
     pub h : Course
     pub to : Standing
     pub connections : List EndedConnection
-    pub replays : Replays (server_steps told seen may_leave) opening log last
+    pub replays : Replays (server_steps told seen may_leave faults) opening log last
     pub runs : RunsBy (settings_of opening.server.server) (On from) log h to
     pub each : AllServed (settings_of opening.server.server) h log connections
     pub passed : AllPassed over connections
@@ -169,4 +182,5 @@ module _ {D : Type 0} (told : Type 0) (seen : D → List ℕ) (may_leave : D →
     pub nothing_else : AreAll log connections
     pub told_are : AreTold ends connections
     pub on_disk : IsOnDisk opening log h last
+    pub stops_told : StopsAreTold last connections
     pub once : AreOnce connections

@@ -9,6 +9,7 @@ ghost use Rattle.serve_command.specs.Whole.{BeginsAt};
 ghost use Rattle.serve_turns.specs.event_book.History.{Stand};
 ghost use Rattle.serve_command.specs.Ends.{ServingEnds};
 ghost use Rattle.server_core.specs.declared.server.Server.{Server};
+ghost use Rattle.server_core.specs.restart_tables.Restart.{StartRefused};
 ghost use Rattle.serve_command.specs.Serving.{HasServed, ServingOpens, Serves, ServesOn, Starts, serves_link};
 ghost use Rattle.serve_command.specs.Serving.{serving_accepted, serving_listed};
 
@@ -17,6 +18,7 @@ use crate::ending::Ending;
 use crate::opening::{settled, unbegun};
 use crate::server_settings::{Bound, Said, Setup};
 use base_outside::{Clock, Disk, Failed, Net, Sink, Source};
+use journal::RefusedStart;
 use rand_core::Rng;
 use serve_turns::{BookSeat, Connections, Ended, EventBook, Roll, Served, SharedBook, serve_links};
 use server_core::{Book, Server};
@@ -65,8 +67,8 @@ where
     C: Clock + Drop + Send,
     R: Rng + Drop + Send,
     ensures { ServingEnds D.told D.seen D.may_leave D.faults N.listens_at N.accepted N.faults N.L.told N.sent
-        (IsOfNet N.L.told N.L.given N.L.left N.L.written N.L.faults N.L.ended N.L.number N.accepted N.sent) said.now disk
-        (S.left source.old)
+        (IsOfNet N.L.told N.L.given N.L.left N.L.written N.L.faults N.L.ended N.L.number N.accepted N.sent)
+        (StartRefused D.told D.seen D.may_leave D.moment D.left_since D.faults) said.now disk (S.left source.old)
         (S.left source.new) (S.faults source.old) (S.faults source.new) (O.written sink.old) (O.written sink.new) (O.faults sink.old)
         (O.faults sink.new) net result.net result.disk result.ending }
 {
@@ -100,8 +102,8 @@ where
     C: Clock + Drop + Send,
     R: Rng + Drop + Send,
     ensures { Starts D.told D.seen D.may_leave D.faults N.listens_at N.accepted N.faults N.L.told N.sent
-        (IsOfNet N.L.told N.L.given N.L.left N.L.written N.L.faults N.L.ended N.L.number N.accepted N.sent) said.now setup.config disk
-        (O.written sink.old)
+        (IsOfNet N.L.told N.L.given N.L.left N.L.written N.L.faults N.L.ended N.L.number N.accepted N.sent)
+        (StartRefused D.told D.seen D.may_leave D.moment D.left_since D.faults) said.now setup.config disk (O.written sink.old)
         (O.written sink.new) (O.faults sink.old) (O.faults sink.new) net result.net result.disk result.ending }
 {
     let Setup { config, watch } = setup;
@@ -111,12 +113,13 @@ where
     // Before it listens, so that nobody connects to a server that can't begin.
     match Server::recover(alloc, disk, config) {
         Ok(server) => serve_at(rt, alloc, said, sink, server, before, net, clock, random),
-        Err(error) => {
-            let ending = unbegun(alloc, sink, error);
+        Err(refused) => {
+            let RefusedStart { cause, disk } = refused;
+            let ending = unbegun(alloc, sink, cause);
             Finished {
                 ending,
                 net,
-                disk: None,
+                disk: Some(disk),
             }
         }
     }
@@ -145,7 +148,7 @@ fn closed<W: Wait, D: Disk>(
     seat: BookSeat<ServerBook<D>>,
 ) -> ServerBook<D>
     requires { IsSeatOf book seat }
-    ensures { Closes (server_steps D.told D.seen D.may_leave) (view_of seat) result }
+    ensures { Closes (server_steps D.told D.seen D.may_leave D.faults) (view_of seat) result }
 {
     book.close(rt, seat)
 }

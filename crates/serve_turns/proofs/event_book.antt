@@ -3,3 +3,4 @@ pub mod Settling
 pub mod Running
 pub mod Courses
 pub mod Answering
+pub mod Faults

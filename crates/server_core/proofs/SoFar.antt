@@ -210,10 +210,10 @@ module _ {D : Type 0} (told : Type 0) (seen : D → List ℕ) (may_leave : D →
 
   by_answers : (old now new : JournalState D) (begun d : Durable) (x : JournalError) → SoFar old begun now d
       → old.stopped ≡ None → JournalNextAnswers faults now (Err x) new → ReadRefused faults old.disk x new
-  by_answers old now new begun d Memory was on k = tt
+  by_answers old now new begun d Memory was on k = k.2.1 ∙ was.gathered.advances.1
   by_answers old now new begun d (DiskFault n) was on k =
       (subst (λ (m : ℕ). Rose m n) was.gathered.advances.1 k.0.1, k.0.2)
-  by_answers old now new begun d (NotAJournal at) was on k = tt
+  by_answers old now new begun d (NotAJournal at) was on k = k.3.1 ∙ was.gathered.advances.1
   by_answers old now new begun d (Full would limit) was on k = k
   by_answers old now new begun d (Stopped n) was on k =
       let goes_on : now.stopped ≡ None = ap (λ (j : JournalState D). j.stopped) was.gathered.advances.0 ∙ on in
@@ -229,17 +229,23 @@ module _ {D : Type 0} (told : Type 0) (seen : D → List ℕ) (may_leave : D →
 
   -- ---- a body was refused
 
-  by_cause : (old new : JournalState D) (gate : ℕ) (x : JournalError) → BodyCause gate x → ReadRefused faults old.disk x new
-  by_cause old new gate Memory h = tt
-  by_cause old new gate (DiskFault n) h = absurd h
-  by_cause old new gate (NotAJournal at) h = tt
-  by_cause old new gate (Full would limit) h = h
-  by_cause old new gate (Stopped n) h = h
+  by_cause : (old new : JournalState D) (gate : ℕ) (x : JournalError) → faults new.disk ≡ faults old.disk → BodyCause gate x
+      → ReadRefused faults old.disk x new
+  by_cause old new gate Memory same h = same
+  by_cause old new gate (DiskFault n) same h = absurd h
+  by_cause old new gate (NotAJournal at) same h = same
+  by_cause old new gate (Full would limit) same h = h
+  by_cause old new gate (Stopped n) same h = h
 
-  pub unfolded_cause : (old new : JournalState D) (gate : ℕ) (q : Result Unit JournalError) (x : JournalError) → q ≡ Err x
+  pub unfolded_cause : (old now new : JournalState D) (begun d : Durable) (gate : ℕ) (body : List ℕ) (o : Option (List ℕ))
+      (r : Result (Option (List ℕ)) JournalError) (q : Result Unit JournalError) (x : JournalError) → SoFar old begun now d
+      → r ≡ Ok o → o ≡ Some body → JournalNextAnswers faults now r new → q ≡ Err x
       → IfErr q (λ y. BodyCause gate y) → ReadRefused faults old.disk x new
-  unfolded_cause old new gate q x is h =
-      by_cause old new gate x (subst (λ (z : Result Unit JournalError). IfErr z (λ y. BodyCause gate y)) is h)
+  unfolded_cause old now new begun d gate body o r q x was is some answers refused h =
+      let k : JournalNextAnswers faults now (Ok (Some body)) new =
+      subst (λ (y : Result (Option (List ℕ)) JournalError). JournalNextAnswers faults now y new) (some_of r o (Some body) is some) answers in
+      by_cause old new gate x (k.3 ∙ was.gathered.advances.1)
+      (subst (λ (z : Result Unit JournalError). IfErr z (λ y. BodyCause gate y)) refused h)
 
   broken_at : (old now new : JournalState D) (begun d : Durable) (gate : ℕ) (body : List ℕ) (at : ℕ) → SoFar old begun now d
       → old.taken ≡ 0 → gate ≡ now.next → Hands now (Ok (Some body)) new → at ≡ gate

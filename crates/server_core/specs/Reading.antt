@@ -86,10 +86,10 @@ BodyRefused version body (causes.DiskFault n) = ⊤
 BodyRefused version body (causes.Full would limit) = ⊤
 BodyRefused version body (causes.Stopped n) = ⊤
 
--- what reading answers of any disk
+-- what reading answers of any disk: its count of faults rises exactly where it is told
 abbrev pub ReadRefused : {D : Type 0} → (D → ℕ) → D → JournalError → JournalState D → Type 0
-ReadRefused faults disk causes.Memory new = ⊤
+ReadRefused faults disk causes.Memory new = faults new.disk ≡ faults disk
 ReadRefused faults disk (causes.DiskFault n) new = Rose (faults disk) n × (n ≡ faults new.disk)
-ReadRefused faults disk (causes.NotAJournal at) new = ⊤
+ReadRefused faults disk (causes.NotAJournal at) new = faults new.disk ≡ faults disk
 ReadRefused faults disk (causes.Full would limit) new = ⊥
 ReadRefused faults disk (causes.Stopped n) new = ⊥

@@ -1,5 +1,5 @@
 //! The server's step over its tables and its journal.
-ghost use Rattle.std.specs.Prelude.{◌≡◌, ℕ, Err, IfOk, List, MatchResult, None, Some, false, if◌then◌else◌, true, ⊤};
+ghost use Rattle.std.specs.Prelude.{◌≡◌, ℕ, Err, IfErr, IfOk, List, MatchResult, None, Some, false, if◌then◌else◌, true};
 ghost use Rattle.spec_exchange.specs.State as model;
 ghost use Rattle.spec_exchange.specs.Step.{due, step, with_deadlines};
 ghost use Rattle.store_files.specs.file_tree.Stored.{AreFiles};
@@ -14,7 +14,7 @@ ghost use Rattle.server_core.specs.journaled_tables.Holds.{EventLeavesBodies, Ev
 ghost use Rattle.server_core.specs.journaled_tables.Shown.{ServerShown};
 ghost use Rattle.server_checks.specs.setups.Setups.{progress_of};
 ghost use Rattle.server_checks.specs.declared.setups.error.EventError.TheVariants as errors;
-ghost use Rattle.server_core.specs.restart_tables.Restart.{RestartLeaves, RestartRefused};
+ghost use Rattle.server_core.specs.restart_tables.Restart.{RestartLeaves, StartRefused};
 ghost use Rattle.spec_world.specs.Ends.{Logons};
 
 use crate::event_step::answer_event;
@@ -23,7 +23,7 @@ use crate::server_start::recover_state;
 use crate::signing::signer_of;
 use crate::standing::standing_of;
 use base_outside::{Disk, Standing};
-use journal::JournalError;
+use journal::RefusedStart;
 use server_checks::{Config, EventError, ServerEvent};
 use server_effects::Answer;
 use spec_crypto::Signer;
@@ -44,19 +44,18 @@ impl<D: Disk> Server<D> {
     ///
     /// `NotAJournal` has the place where the bytes are no journal, or the gate of the first body that no server writes; `Full` what the
     /// journal would use with the epoch, and its limit; `DiskFault` the count of faults, which rose; `Memory` may come at any read.
-    /// Where it refuses, the disk is dropped.
-    pub fn recover(alloc: Global, disk: D, config: Config) -> Result<Server<D>, JournalError>
-    where
-        D: Drop,
+    /// Where it refuses, it hands back the disk: as it was where its bytes are no journal, and else with the bodies that it stood for,
+    /// where it failed maybe with the epoch's behind them.
+    pub fn recover(alloc: Global, disk: D, config: Config) -> Result<Server<D>, RefusedStart<D>>
         ensures holds { IfOk result (λ c. ServerBegins D.told D.seen D.may_leave D.faults config disk (state_of c)) }
-        ensures refused { MatchResult result (λ _. ⊤) (λ x. RestartRefused D.told D.seen D.faults disk x) }
+        ensures refused { IfErr result (λ r. StartRefused D.told D.seen D.may_leave D.moment D.left_since D.faults disk r.disk r.cause) }
         ensures any_moment { IfOk result (λ c. D.told → (all : List (List ℕ)) → StandsFor (D.seen disk) all
             → LeavesOnly D.moment D.left_since disk (disk_of c) (RestartLeaves (D.may_leave disk) all)) }
         ensures config { IfOk result (λ c. config_of c ≡ config) }
     {
         match recover_state(alloc, disk, config) {
             Ok(state) => Ok(Server { state }),
-            Err(error) => Err(error),
+            Err(refused) => Err(refused),
         }
     }
 

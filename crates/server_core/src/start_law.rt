@@ -29,9 +29,9 @@ pub fn begun_law<D: Disk>()
     ensures anew { D.told → (disk : D) (config : Config) (new : ServerState D) (L : Logons) → length (D.seen disk) ≤ 9
         → ServerBegins D.told D.seen D.may_leave D.faults config disk new
         → JournaledHolds D.told D.seen D.may_leave new (recovered (configuration_of config) 9 []) L (recovery_records []) }
-    ensures full { D.told → (disk : D) (config : Config) (new : ServerState D) (would limit at : ℕ) → IsFull (D.seen disk) would limit
+    ensures full { D.told → (disk left : D) (config : Config) (new : ServerState D) (would limit at : ℕ) → IsFull (D.seen disk) would limit
         → (ServerBegins D.told D.seen D.may_leave D.faults config disk new → ⊥)
-        × (RestartRefused D.told D.seen D.faults disk (causes.NotAJournal at) → ⊥) }
+        × (RestartRefused D.told D.seen D.faults disk left (causes.NotAJournal at) → ⊥) }
 {
     one_meaning();
     restart_law();

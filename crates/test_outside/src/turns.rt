@@ -99,6 +99,8 @@ impl Serve for Counting {
 
     ghost stopped = { λ server. None };
 
+    ghost faults = { λ server. 0 };
+
     fn event(&mut self, _now: u64, event: ServerEvent<'_>) -> Result<Reply, ServeError> {
         let (status, progress) = self.count(&event);
         Ok(Reply {

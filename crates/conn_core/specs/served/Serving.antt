@@ -1,5 +1,6 @@
 -- What a server in code answers, over the model's state and the logons that its tables show.
 use Rattle.std.specs.Prelude.{◌≡◌, ◌⊎◌, ℕ, ◌≤◌, nat_le, Bool, ◌&&◌, if◌then◌else◌, List, [], ◌++◌, length, Option, Some, None, Result, Ok, Err, ⊤}
+use Rattle.base_outside.specs.streams.Faults.{Rose}
 use Rattle.spec_crypto.specs.declared.sessions.material.Signer.{Signer}
 use Rattle.spec_crypto.specs.sessions.Signing.{verifies}
 use Rattle.spec_crypto.specs.tokens.Tokens.{Users}
@@ -170,6 +171,10 @@ ServerServes shown users s L records now event (Err (Stopped count)) = ⊤
 abbrev pub Halts : Option ℕ → Option ℕ → Result Reply ServeError → Type 0
 Halts old new (Err (Stopped count)) = (new ≡ Some count) × ((n : ℕ) → old ≡ Some n → count ≡ n)
 Halts old new _ = (old ≡ None) × (new ≡ None)
+
+-- in the call in which it stops: of its disk's faults, whose count rose, it tells just the count behind the call
+abbrev pub StopsAtFault : (faults faults' count : ℕ) → Type 0
+StopsAtFault faults faults' count = Rose faults count × (count ≡ faults')
 
 -- it shows a state, and hasn't stopped but where it had before
 abbrev pub Onward : Showing → Option ℕ → Option ℕ → Showing

@@ -1,12 +1,13 @@
 //! The event of a message, where its connection isn't at hand.
-ghost use Rattle.std.specs.Prelude.{◌≡◌, ℕ, List, Option, Some, slice_get, true};
+ghost use Rattle.std.specs.Prelude.{◌≡◌, ℕ, List, None, Option, Some, slice_get, true};
+ghost use Rattle.spec_crypto.specs.tokens.Tokens.{Users};
 ghost use Rattle.spec_exchange.specs.State.{Record, Server};
 ghost use Rattle.spec_world.specs.Settings.{ServerSettings};
 ghost use Rattle.spec_world.specs.Ends.{Logons, ServerEnd};
 ghost use Rattle.spec_world.specs.Hearing as hearing;
 ghost use Rattle.conn_core.specs.declared.frame_messages.checked.Checked.{Checked};
 ghost use Rattle.conn_core.specs.frame_messages.Checking.{HasMessage, IsDenied, ShowsGoing};
-ghost use Rattle.conn_core.specs.served.Serving.{Onward};
+ghost use Rattle.conn_core.specs.served.Serving.{Onward, StopsAtFault};
 ghost use Rattle.conn_core.specs.message_replies.Replying.{has_message_event};
 ghost use Rattle.conn_core.specs.requests.Asking.{IsRequestTold};
 ghost use Rattle.conn_core.specs.frame_events.Dealing.{AreShortIf, GivesFor, stop_in};
@@ -40,6 +41,9 @@ pub fn ask<S: Serve>(
         s L records f c result }
     ensures short { AreShortIf result }
     ensures stops { (count : ℕ) → stop_in result ≡ Some count → S.stopped server.new ≡ Some count }
+    ensures fault { (users : Users) (s : Server) (L : Logons) (records : List Record) → S.shows server.old users s L records
+        → S.stopped server.old ≡ None → (count : ℕ) → stop_in result ≡ Some count
+        → StopsAtFault (S.faults server.old) (S.faults server.new) count }
 {
     match event(frame, alloc, at, told) {
         Err(AllocError) => Some(Err(ServeError::Memory)),

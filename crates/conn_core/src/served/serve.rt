@@ -48,11 +48,11 @@ impl Reply {
 
 /// A server that takes one event at a time.
 pub trait Serve {
-    ghost use Rattle.std.specs.Prelude.{◌≡◌, ℕ, List, Option, Some, Err, IfOk};
+    ghost use Rattle.std.specs.Prelude.{◌≡◌, ℕ, List, Option, None, Some, Err, IfOk};
     ghost use Rattle.spec_crypto.specs.tokens.Tokens.{Users};
     ghost use Rattle.spec_exchange.specs.State.{Record, Server};
     ghost use Rattle.spec_world.specs.Ends.{Logons};
-    ghost use Rattle.conn_core.specs.served.Serving.{Halts, IsServerServed, IsServerShort, ServerServes};
+    ghost use Rattle.conn_core.specs.served.Serving.{Halts, IsServerServed, IsServerShort, ServerServes, StopsAtFault};
     ghost use Rattle.conn_core.specs.declared.served.error.ServeError.TheVariants as errors;
 
     /// With these users it shows a state of the model, logons, and the records that were written.
@@ -61,9 +61,13 @@ pub trait Serve {
     /// The count of the disk's faults at which it stopped.
     ghost stopped: { Self → Option ℕ };
 
+    /// The count of its disk's faults.
+    ghost faults: { Self → ℕ };
+
     /// Answers a message, or a connection that is made or lost, at a moment in units of 100 nanoseconds since 1601. At
-    /// `Memory` nothing has changed but that one open may have expired; at `Unanswered` the event stands. A server stops
-    /// where its disk fails; from then on each event answers `Stopped` with that count, and of what it shows nothing is told.
+    /// `Memory` nothing has changed but that one open may have expired; at `Unanswered` the event stands. A server stops only
+    /// where its disk fails, at its count of faults then, which rose; from then on each event answers `Stopped` with that count and
+    /// leaves the disk alone, and of what it shows nothing is told.
     fn event(&mut self, now: u64, event: ServerEvent<'_>) -> Result<Reply, ServeError>
         ensures short { IfOk result (λ r. IsServerShort r) }
         ensures serves { (users : Users) (s : Server) (L : Logons) (records : List Record)
@@ -72,7 +76,10 @@ pub trait Serve {
         ensures halts { (users : Users) (s : Server) (L : Logons) (records : List Record)
             → shows self.old users s L records → Halts (stopped self.old) (stopped self.new) result }
         ensures halted { (count : ℕ) → stopped self.old ≡ Some count
-            → (result ≡ Err (errors.Stopped count)) × (stopped self.new ≡ Some count) }
+            → (result ≡ Err (errors.Stopped count)) × (stopped self.new ≡ Some count) × (faults self.new ≡ faults self.old) }
+        ensures fault { (users : Users) (s : Server) (L : Logons) (records : List Record)
+            → shows self.old users s L records → stopped self.old ≡ None → (count : ℕ) → result ≡ Err (errors.Stopped count)
+            → StopsAtFault (faults self.old) (faults self.new) count }
         ensures stops { (count : ℕ) → result ≡ Err (errors.Stopped count) → stopped self.new ≡ Some count };
 
     /// The count of the disk's faults at which it stopped.

@@ -3,7 +3,7 @@ use Rattle.std.proofs.Common.{◌≡◌, ◌⊎◌, inl, inr, ℕ, ◌+◌, ◌-
 use Rattle.std.proofs.Common.{ap, subst, arith, append_assoc, length-append, Option, Some, None}
 use Rattle.std.proofs.lemmas.List.{take_at}
 use Rattle.base_outside.specs.streams.Disk.{CutShort, Follows, Only, Elapses}
-use Rattle.spec_wire.specs.journal.Grammar.{front, StandsFor}
+use Rattle.spec_wire.specs.journal.Grammar.{BreaksAt, front, StandsFor}
 use Rattle.spec_wire.specs.journal.Moments.{LeavesOnly, Quiet}
 use Rattle.journal.specs.disk_journal.Entry.{StaysClosed}
 use Rattle.journal.specs.disk_journal.Read.{EndsWith}
@@ -12,7 +12,7 @@ use Rattle.journal.specs.declared.disk_journal.read.Found.{Found}
 use Rattle.journal.specs.declared.disk_journal.read.Found.TheVariants.{Behind}
 use Rattle.journal.proofs.disk_journal.Grown.{stands}
 use Rattle.journal.proofs.disk_journal.Lists.{take_past}
-use Rattle.journal.proofs.disk_journal.Meaning.{stands_for_one}
+use Rattle.journal.proofs.disk_journal.Meaning.{breaks_for_none, stands_for_one}
 use Rattle.journal.proofs.disk_journal.Moments.{started, goes_on, joined, weakened}
 
 module _ (front rest : List ℕ) (gate shut : ℕ) (bytes : List ℕ) (at_gate : ClosedAt gate front shut rest bytes) where
@@ -83,12 +83,26 @@ module _ {D : Type 0} (told : Type 0) (seen : D → List ℕ) (may_leave : D →
       (Same old bodies) (λ c was. inl was) quiet.any_moment) (weakened moment left_since mid new P (Same old bodies)
       (λ c here. inr (says c here)) run)
 
+  -- what a read gives behind a run is one of the things that a crash during it leaves
+  pub reads_left : (counts_now : (d : D) (t : ℕ) (c : List ℕ) → t ≤ moment d → may_leave d c → left_since d t c)
+      → (seen_may_stay : (d : D) → told → may_leave d (seen d)) → (old new : D) (P : List ℕ → Type 0)
+      → LeavesOnly moment left_since old new P → told → P (seen new)
+  reads_left counts_now seen_may_stay old new P run t =
+      run.each (seen new) (counts_now new (moment old) (seen new) run.later (seen_may_stay new t))
+
 -- bytes of at most nine stand for no bodies
 pub none_in_short : (bytes : List ℕ) (bodies : List (List ℕ)) → length bytes ≤ 9 → StandsFor bytes bodies → bodies ≡ []
 none_in_short bytes bodies short stands = stands_for_one bytes bodies [] stands (inl (short, refl))
 
 pub held : (bytes : List ℕ) (gate count : ℕ) (e : EndsWith bytes gate count) → StandsFor bytes e.bodies
 held bytes gate count e = inr (record { gate = e.shut; rest = e.rest; spelled = e.spelled; closed = e.closed; fit = e.fit })
+
+-- nor do bytes break the grammar that are at most nine, or hold bodies
+pub short_unbroken : (bytes : List ℕ) (at : ℕ) → length bytes ≤ 9 → BreaksAt bytes at → ⊥
+short_unbroken bytes at short breaks = omega (arith, breaks.0)
+
+pub held_unbroken : (bytes : List ℕ) (gate count at : ℕ) → EndsWith bytes gate count → BreaksAt bytes at → ⊥
+held_unbroken bytes gate count at e breaks = breaks_for_none bytes e.bodies at (held bytes gate count e) breaks
 
 pub closed_at : (bytes there : List ℕ) (gate count : ℕ) (e : EndsWith bytes gate count) → there ≡ bytes
     → ClosedAt gate (front e.bodies) e.shut e.rest there

@@ -6,6 +6,7 @@ use Rattle.base_outside.specs.streams.Faults.{Rose}
 use Rattle.spec_wire.specs.journal.Grammar.{IsClosed, front, AllFit, StandsFor, BreaksAt}
 use Rattle.journal.specs.declared.disk_journal.journal.JournalError.{JournalError}
 use Rattle.journal.specs.declared.disk_journal.journal.JournalError.TheVariants as errors
+use Rattle.journal.specs.declared.disk_journal.journal.RefusedStart.{RefusedStart}
 
 -- A journal: its disk, how many bytes it uses with the gate at the end, how many bodies stand in it, how
 -- many of them were handed out and where the next one's gate stands, at which count of faults it stopped,
@@ -90,32 +91,43 @@ Reserves old size epoch (Err (errors.Full would limit)) new = (old.stopped ≡ N
     × (would ≡ journal_capped (old.used + 5 + size)) × (limit ≡ limit_of epoch) × (limit < would) × (new ≡ old)
 Reserves old size epoch (Err (errors.Stopped n)) new = (old.stopped ≡ Some n) × (new ≡ old)
 
--- A disk failed in a call that then dropped it, at this count of faults. Generic code has no such disk but by a call that failed.
-pub record FailedAt {D : Type 0} (faults : D → ℕ) (disk : D) (n : ℕ) : Type 0 where
-  pub dropped : D
-  pub count : n ≡ faults dropped
-  pub rose : Rose (faults disk) n
+-- A disk failed in a call, which left it so and tells this count of faults.
+abbrev pub FailedAt : {D : Type 0} → (D → ℕ) → (disk left : D) → ℕ → Type 0
+FailedAt faults disk left n = (n ≡ faults left) × Rose (faults disk) n
+
+-- the disk behind a call that makes a journal of one: that of the journal, or the one that is handed back
+abbrev pub disk_behind : {D : Type 0} → Result (JournalState D) (RefusedStart D) → D
+disk_behind (Ok journal) = journal.disk
+disk_behind (Err refused) = refused.disk
+
+-- Why `create` refuses a disk: only since it failed.
+abbrev pub CreateRefused : {D : Type 0} → (D → ℕ) → (disk left : D) → JournalError → Type 0
+CreateRefused faults disk left errors.Memory = ⊥
+CreateRefused faults disk left (errors.DiskFault n) = FailedAt faults disk left n
+CreateRefused faults disk left (errors.NotAJournal at) = ⊥
+CreateRefused faults disk left (errors.Full would limit) = ⊥
+CreateRefused faults disk left (errors.Stopped n) = ⊥
 
 -- What `create` answers of a disk.
-abbrev pub JournalCreates : {D : Type 0} → (D → ℕ) → D → Result (JournalState D) JournalError → Type 0
+abbrev pub JournalCreates : {D : Type 0} → (D → ℕ) → D → Result (JournalState D) (RefusedStart D) → Type 0
 JournalCreates faults disk (Ok journal) = (faults journal.disk ≡ faults disk) × (journal.used ≡ 9) × (journal.count ≡ 0)
     × (journal.taken ≡ 0) × (journal.stopped ≡ None)
-JournalCreates faults disk (Err errors.Memory) = ⊥
-JournalCreates faults disk (Err (errors.DiskFault n)) = FailedAt faults disk n
-JournalCreates faults disk (Err (errors.NotAJournal at)) = ⊥
-JournalCreates faults disk (Err (errors.Full would limit)) = ⊥
-JournalCreates faults disk (Err (errors.Stopped n)) = ⊥
+JournalCreates faults disk (Err refused) = CreateRefused faults disk refused.disk refused.cause
 
--- What `recover` answers of a disk: a journal of the bodies that its bytes stand for, or where they break the grammar.
-abbrev pub JournalRecovers : {D : Type 0} → Type 0 → (D → List ℕ) → (D → ℕ) → D → Result (JournalState D) JournalError → Type 0
+-- Why `recover` refuses a disk: it failed, or its bytes break the grammar there, and then no call of it failed.
+abbrev pub RecoverRefused : {D : Type 0} → Type 0 → (D → List ℕ) → (D → ℕ) → (disk left : D) → JournalError → Type 0
+RecoverRefused told seen faults disk left errors.Memory = ⊥
+RecoverRefused told seen faults disk left (errors.DiskFault n) = FailedAt faults disk left n
+RecoverRefused told seen faults disk left (errors.NotAJournal at) = (faults left ≡ faults disk) × (told → BreaksAt (seen disk) at)
+RecoverRefused told seen faults disk left (errors.Full would limit) = ⊥
+RecoverRefused told seen faults disk left (errors.Stopped n) = ⊥
+
+-- What `recover` answers of a disk: a journal of the bodies that its bytes stand for, or why there is none.
+abbrev pub JournalRecovers : {D : Type 0} → Type 0 → (D → List ℕ) → (D → ℕ) → D → Result (JournalState D) (RefusedStart D) → Type 0
 JournalRecovers told seen faults disk (Ok journal) = (faults journal.disk ≡ faults disk) × (journal.taken ≡ 0)
     × (journal.stopped ≡ None) × (told → (bodies : List (List ℕ)) × StandsFor (seen disk) bodies
     × (journal.used ≡ length (front bodies) + 1) × (journal.count ≡ length bodies))
-JournalRecovers told seen faults disk (Err errors.Memory) = ⊥
-JournalRecovers told seen faults disk (Err (errors.DiskFault n)) = FailedAt faults disk n
-JournalRecovers told seen faults disk (Err (errors.NotAJournal at)) = told → BreaksAt (seen disk) at
-JournalRecovers told seen faults disk (Err (errors.Full would limit)) = ⊥
-JournalRecovers told seen faults disk (Err (errors.Stopped n)) = ⊥
+JournalRecovers told seen faults disk (Err refused) = RecoverRefused told seen faults disk refused.disk refused.cause
 
 -- What `next_body` hands out of a journal of these bodies: each once, in order, and none exactly behind the last.
 abbrev pub HandsOut : {D : Type 0} → (D → List ℕ) → (D → List ℕ → Type 0) → JournalState D → List (List ℕ)

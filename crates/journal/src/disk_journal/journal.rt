@@ -1,10 +1,10 @@
 // The journal.
 ghost use Rattle.std.specs.Prelude.{◌≡◌, ◌⊎◌, ℕ, ◌+◌, ◌-◌, ◌≤◌, ◌<◌, ◌^◌, List, [], ◌∷◌, ◌++◌, length, IfOk, OnOk, OnErr, vec_capacity};
-ghost use Rattle.spec_wire.specs.journal.Grammar.{entry, StandsFor};
+ghost use Rattle.spec_wire.specs.journal.Grammar.{BreaksAt, entry, StandsFor};
 ghost use Rattle.spec_wire.specs.journal.Moments.{LeavesOnly, Quiet};
 ghost use Rattle.journal.specs.disk_journal.Entry.{IsEntryNew};
 ghost use Rattle.journal.specs.disk_journal.Journal.{JournalState, JournalSettled, JournalAdmits, Appends, Reserves};
-ghost use Rattle.journal.specs.disk_journal.Journal.{JournalCreates, JournalRecovers};
+ghost use Rattle.journal.specs.disk_journal.Journal.{JournalCreates, JournalRecovers, disk_behind};
 ghost use Rattle.journal.specs.disk_journal.Journal.{HandsOut, JournalNextAnswers, HandsOutRest, RestAnswers, HandsOutAll};
 ghost use Rattle.journal.specs.disk_journal.Journal.{AllAnswers, BeforeOrAfter};
 
@@ -52,6 +52,13 @@ impl From<AllocError> for JournalError {
     fn from(_: AllocError) -> Self {
         JournalError::Memory
     }
+}
+
+/// Why no journal was made of a disk, and the disk as it was left.
+#[derive(Drop)]
+pub struct RefusedStart<D> {
+    pub cause: JournalError,
+    pub disk: D,
 }
 
 /// A journal on a disk. A contract sees the disk, how many bytes of it the journal uses, how many bodies
@@ -122,19 +129,17 @@ fn fill(buffer: &mut Vec<u8>, body: &[u8]) -> Result<(), AllocError>
 
 impl<D: Disk> Journal<D> {
     /// Makes a new journal of a disk of at most 9 bytes on which nothing waits for a sync. A crash at any
-    /// moment leaves a disk that stands for no bodies. `DiskFault` comes only where the disk's count of
-    /// faults rose, and carries it. Where it refuses, the disk is dropped: hand in a `&mut` to keep it; what
-    /// is left of it then is said by `prepare` alone.
-    pub fn create(alloc: Global, mut disk: D) -> Result<Journal<D>, JournalError>
-    where
-        D: Drop,
+    /// moment leaves a disk that stands for no bodies. It refuses with `DiskFault` alone, only where the disk's count of
+    /// faults rose, and hands back the disk with that count.
+    pub fn create(alloc: Global, mut disk: D) -> Result<Journal<D>, RefusedStart<D>>
         requires { D.told → IsEntryNew (D.seen disk) (D.may_leave disk) }
         ensures settled { IfOk result (λ journal. D.told → JournalSettled D.seen D.may_leave journal []) }
-        ensures any_moment { IfOk result (λ journal. D.told → LeavesOnly D.moment D.left_since disk journal.disk (λ c. StandsFor c [])) }
+        ensures any_moment { D.told → LeavesOnly D.moment D.left_since disk (disk_behind result) (λ c. StandsFor c []) }
         ensures cause { JournalCreates D.faults disk result }
     {
         if prepare(&mut disk).is_err() {
-            return Err(JournalError::DiskFault(disk.fault_count()));
+            let cause = JournalError::DiskFault(disk.fault_count());
+            return Err(RefusedStart { cause, disk });
         }
         Ok(Journal {
             alloc,
@@ -150,20 +155,21 @@ impl<D: Disk> Journal<D> {
 
     /// Makes a journal of what a crash left: syncs, reads the gates, and cuts behind the closed one. At
     /// most 9 bytes that are no journal are taken as a new disk. The journal has exactly the bodies that
-    /// the bytes stood for, of which none is handed out yet. A crash at any moment leaves what it could
-    /// leave before the call, or bytes that stand for the same bodies.
+    /// the bytes stood for, of which none is handed out yet. Whatever it answers, a read then gives bytes that stand for
+    /// the same bodies, and a crash at any moment leaves what it could leave before the call, or such bytes; and a disk
+    /// whose bytes break the grammar was only read and synced.
     ///
-    /// `NotAJournal` carries the first byte that isn't the mark's, or the open gate whose entry doesn't
-    /// fit; then the disk was only read. `DiskFault` comes only where the disk's count of faults rose, and
-    /// carries it. Where it refuses, the disk is dropped: hand in a `&mut` to keep it; what is left of it
-    /// then is said by `repair` alone.
-    pub fn recover(alloc: Global, mut disk: D) -> Result<Journal<D>, JournalError>
-    where
-        D: Drop,
+    /// Where it refuses it hands back the disk. `NotAJournal` carries the first byte that isn't the mark's, or the open
+    /// gate whose entry doesn't fit. `DiskFault` comes only where the disk's count of faults rose, and carries it.
+    pub fn recover(alloc: Global, mut disk: D) -> Result<Journal<D>, RefusedStart<D>>
         ensures settled { IfOk result (λ journal. D.told → (bodies : List (List ℕ)) → StandsFor (D.seen disk) bodies
             → JournalSettled D.seen D.may_leave journal bodies) }
-        ensures any_moment { IfOk result (λ journal. D.told → (bodies : List (List ℕ)) → StandsFor (D.seen disk) bodies
-            → LeavesOnly D.moment D.left_since disk journal.disk (λ c. D.may_leave disk c ⊎ StandsFor c bodies)) }
+        ensures spared { D.told → (at : ℕ) → BreaksAt (D.seen disk) at
+            → Quiet D.told D.seen D.may_leave D.moment D.left_since disk (disk_behind result) }
+        ensures stays { D.told → (bodies : List (List ℕ)) → StandsFor (D.seen disk) bodies
+            → StandsFor (D.seen (disk_behind result)) bodies }
+        ensures any_moment { D.told → (bodies : List (List ℕ)) → StandsFor (D.seen disk) bodies
+            → LeavesOnly D.moment D.left_since disk (disk_behind result) (λ c. D.may_leave disk c ⊎ StandsFor c bodies) }
         ensures cause { JournalRecovers D.told D.seen D.faults disk result }
     {
         match repair(&mut disk) {
@@ -177,8 +183,14 @@ impl<D: Disk> Journal<D> {
                 stopped: None,
                 buffer: Vec::new(alloc),
             }),
-            Ok(Found::Broken(at)) => Err(JournalError::NotAJournal(at)),
-            Err(_) => Err(JournalError::DiskFault(disk.fault_count())),
+            Ok(Found::Broken(at)) => Err(RefusedStart {
+                cause: JournalError::NotAJournal(at),
+                disk,
+            }),
+            Err(_) => Err(RefusedStart {
+                cause: JournalError::DiskFault(disk.fault_count()),
+                disk,
+            }),
         }
     }
 

@@ -2,7 +2,7 @@
 ghost use Rattle.std.specs.Prelude.{◌≡◌, ◌⊎◌, ℕ, ◌-◌, ◌<◌, ◌≤◌, ◌^◌, List, length, IfOk, OnOk};
 ghost use Rattle.base_outside.specs.streams.Disk.{Only};
 ghost use Rattle.base_outside.specs.streams.Faults.{CountsFault};
-ghost use Rattle.spec_wire.specs.journal.Grammar.{StandsFor};
+ghost use Rattle.spec_wire.specs.journal.Grammar.{BreaksAt, StandsFor};
 ghost use Rattle.spec_wire.specs.journal.Moments.{LeavesOnly, Quiet};
 ghost use Rattle.journal.specs.disk_journal.Read.{FoundIn, IsWithin};
 ghost use Rattle.journal.specs.disk_journal.Repair.{Examined, MayBeWithin, Mends, LeavesBroken};
@@ -47,11 +47,15 @@ fn examine<D: Disk>(disk: &mut D) -> Result<Option<Found>, Failed>
 /// closed one, or makes a new journal of at most 9 bytes that are none. It answers where that gate stands
 /// and how many bodies there are, or where the bytes break the grammar; then it only read.
 ///
-/// A crash at any moment leaves what it could leave before the call, or bytes that stand for the same
-/// bodies as before. `Failed` comes only where the count of faults rose.
+/// Whatever it answers, a read then gives bytes that stand for the same bodies, and a crash at any moment leaves what it could
+/// leave before the call, or such bytes; and a disk whose bytes break the grammar was only read and synced. `Failed` comes only
+/// where the count of faults rose.
 pub fn repair<D: Disk>(disk: &mut D) -> Result<Found, Failed>
     ensures mended { D.told → IfOk result (λ f. Mends D.seen D.may_leave disk.old disk.new f) }
     ensures broken { IfOk result (λ f. LeavesBroken D.told D.seen D.may_leave D.moment D.left_since disk.old disk.new f) }
+    ensures spared { D.told → (at : ℕ) → BreaksAt (D.seen disk.old) at
+        → Quiet D.told D.seen D.may_leave D.moment D.left_since disk.old disk.new }
+    ensures stays { D.told → (bodies : List (List ℕ)) → StandsFor (D.seen disk.old) bodies → StandsFor (D.seen disk.new) bodies }
     ensures any_moment { D.told → (bodies : List (List ℕ)) → StandsFor (D.seen disk.old) bodies
         → LeavesOnly D.moment D.left_since disk.old disk.new (λ c. D.may_leave disk.old c ⊎ StandsFor c bodies) }
     ensures bound { IfOk result (λ f. IsWithin (2 ^ 64 - 1) f) }

@@ -45,8 +45,9 @@ unfolding or_that
 one_frame o x y p q = ap (λ (r : Option CheckedFrame). or_that x r) (sym p ∙ q)
 
 -- what a message's event says of itself
-module _ {S : Type 0} (shows : S → Users → model.Server → Logons → List model.Record → Type 0) (stopped : S → Option ℕ) where
+module _ {S : Type 0} (shows : S → Users → model.Server → Logons → List model.Record → Type 0) (stopped : S → Option ℕ)
+    (faults : S → ℕ) where
   pub message_step : (v w : View (EventBook S) Turn Answer) (now : ℕ) (a : Asks) (t : Answer) (place : ℕ)
-      → Applied (EventSteps shows stopped) v (message_turn now a) t place w
-      → (old : EventBook S) × (new : EventBook S) × AsksEvent shows stopped old now a t new
-  message_step v w now a t place applied = applied_step (EventSteps shows stopped) v w (message_turn now a) t place applied
+      → Applied (EventSteps shows stopped faults) v (message_turn now a) t place w
+      → (old : EventBook S) × (new : EventBook S) × AsksEvent shows stopped faults old now a t new
+  message_step v w now a t place applied = applied_step (EventSteps shows stopped faults) v w (message_turn now a) t place applied

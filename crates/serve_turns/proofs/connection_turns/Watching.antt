@@ -120,15 +120,15 @@ module _ {B K : Type 0} (told : Type 0) (given left written : K → List ℕ) (f
   }
 
 module _ {S K : Type 0} (told : Type 0) (given left written : K → List ℕ)
-    (shows : S → Users → model.Server → Logons → List model.Record → Type 0) (stopped : S → Option ℕ) where
+    (shows : S → Users → model.Server → Logons → List model.Record → Type 0) (stopped : S → Option ℕ) (faults : S → ℕ) where
   abbrev V : Type 0
   V = View (EventBook S) Turn Answer
 
   -- the history that the seat knows is that of a server with which it opens
-  opens_as : (w : V) (opening : EventBook S) → w.opening ≡ Some opening → IsHistory (EventSteps shows stopped) w
-      → (last : EventBook S) × Replays (EventSteps shows stopped) opening w.history last
+  opens_as : (w : V) (opening : EventBook S) → w.opening ≡ Some opening → IsHistory (EventSteps shows stopped faults) w
+      → (last : EventBook S) × Replays (EventSteps shows stopped faults) opening w.history last
   opens_as w opening is (o, last, opens, replays) =
-      (last, subst (λ b. Replays (EventSteps shows stopped) b w.history last) (one o opening (sym opens ∙ is)) replays)
+      (last, subst (λ b. Replays (EventSteps shows stopped faults) b w.history last) (one o opening (sym opens ∙ is)) replays)
     where
       one : (a b : EventBook S) → Some a ≡ Some b → a ≡ b
       one a b e = cc
@@ -186,8 +186,8 @@ module _ {S K : Type 0} (told : Type 0) (given left written : K → List ℕ)
           (at.0, sym runs.ends ∙ ap h.found own_all.1 ∙ at.1)
 
       due_at : (opening last_book : EventBook S) (start : Stand) → from ≡ On start
-          → Replays (EventSteps shows stopped) opening w.history last_book → ShowsStanding shows stopped z.users last_book to
-          → AnswerIsDue shows stopped z k w.number opening start way.came way.wrote answer.items
+          → Replays (EventSteps shows stopped faults) opening w.history last_book → ShowsStanding shows stopped faults z.users last_book to
+          → AnswerIsDue shows stopped faults z k w.number opening start way.came way.wrote answer.items
       due_at opening last_book start begins replays stands = record {
         salt = goes.0;
         log = w.history;
@@ -196,7 +196,7 @@ module _ {S K : Type 0} (told : Type 0) (given left written : K → List ℕ)
         last = last_book;
         replays = replays;
         runs = subst (λ (x : Standing × Standing). RunsBy z x.0 w.history h x.1) (λ i. (begins i, stands_on.1 i)) runs;
-        stands = subst (ShowsStanding shows stopped z.users last_book) stands_on.1 stands;
+        stands = subst (ShowsStanding shows stopped faults z.users last_book) stands_on.1 stands;
         made = way.made;
         turns = all;
         own_are = entries_are;
@@ -211,12 +211,12 @@ module _ {S K : Type 0} (told : Type 0) (given left written : K → List ℕ)
         answers = goes.1.answers;
       }
 
-    pub due : IsHistory (EventSteps shows stopped) w → (z : ServerSettings) (opening : EventBook S) (start : Stand) → z.guid ≡ guid
-        → w.opening ≡ Some opening → steps.GoesOn shows stopped opening z.users start.server start.logons start.records
-        → AnswerIsDue shows stopped z k w.number opening start way.came way.wrote answer.items
+    pub due : IsHistory (EventSteps shows stopped faults) w → (z : ServerSettings) (opening : EventBook S) (start : Stand) → z.guid ≡ guid
+        → w.opening ≡ Some opening → steps.GoesOn shows stopped faults opening z.users start.server start.logons start.records
+        → AnswerIsDue shows stopped faults z k w.number opening start way.came way.wrote answer.items
     due history z opening start guided opens stands =
         let o = opens_as w opening opens history in
-        let R = history_runs shows stopped z (On start) opening o.0 w.history o.1 stands in
+        let R = history_runs shows stopped faults z (On start) opening o.0 w.history o.1 stands in
         let h : Course = course_of z (On start) w.history R.all R.to R.runs in
         due_at z guided h (On start) R.to (runs_by z (On start) w.history R.all R.to R.runs)
         (subst (AllMeet z h) entries_are (own_meet z w.number (On start) w.history R.all R.to R.runs)) opening o.0 start refl o.1 R.stands
@@ -225,10 +225,11 @@ module _ {S K : Type 0} (told : Type 0) (given left written : K → List ℕ)
   pub is_due : (guid : List ℕ) (k : ℕ) (begun v w : V) (c d : ConnectionState) (s r frame : List ℕ) (answer : Vec ℕ Global)
       (text : List ℕ) (first link : K) (next : Result (Option (List ℕ)) ConnEnd)
       → IsUnderWay told given left written guid k begun first v c s link → next ≡ Ok (Some frame) → NextFrame s r next
-      → FrameTaken v c frame (Ok answer) d w → text ≡ answer.items → EndsWithOwn w → IsHistory (EventSteps shows stopped) w
-      → IsAnswerDue told given left written shows stopped guid k begun first w link text
+      → FrameTaken v c frame (Ok answer) d w → text ≡ answer.items → EndsWithOwn w → IsHistory (EventSteps shows stopped faults) w
+      → IsAnswerDue told given left written shows stopped faults guid k begun first w link text
   is_due guid k begun v w c d s r frame answer text first link next way is here taken same ends history =
-      subst (λ (t : List ℕ). IsAnswerDue told given left written shows stopped guid k begun first w link t) (sym same) (λ none_before. (
+      subst (λ (t : List ℕ). IsAnswerDue told given left written shows stopped faults guid k begun first w link t) (sym same)
+      (λ none_before. (
         way.came,
         way.wrote,
         way.passed,
@@ -238,12 +239,13 @@ module _ {S K : Type 0} (told : Type 0) (given left written : K → List ℕ)
 
   -- the seat looked at what it knows
   pub looked : (guid : List ℕ) (k : ℕ) (begun v w : V) (first link : K) (front : ℕ) (text : List ℕ) → w ≡ fronted front v
-      → IsHistory (EventSteps shows stopped) w
-      → (IsHistory (EventSteps shows stopped) v → IsAnswerDue told given left written shows stopped guid k begun first v link text)
-      → IsAnswerDue told given left written shows stopped guid k begun first w link text
+      → IsHistory (EventSteps shows stopped faults) w
+      → (IsHistory (EventSteps shows stopped faults) v → IsAnswerDue told given left written shows stopped faults guid k begun first v link
+      text)
+      → IsAnswerDue told given left written shows stopped faults guid k begun first w link text
   looked guid k begun v w first link front text is history due =
-      subst (λ (x : V). IsAnswerDue told given left written shows stopped guid k begun first x link text) (sym is)
-      (due (subst (λ (x : V). IsHistory (EventSteps shows stopped) x) is history))
+      subst (λ (x : V). IsAnswerDue told given left written shows stopped faults guid k begun first x link text) (sym is)
+      (due (subst (λ (x : V). IsHistory (EventSteps shows stopped faults) x) is history))
 
 -- ---- a connection begins
 

@@ -1,5 +1,5 @@
 -- A book's history runs in the model.
-use Rattle.std.proofs.Common.{◌≡◌, ◌≤◌, ℕ, zero, suc, List, [], ◌∷◌, length, take, Option, Some, refl, sym, subst, arith}
+use Rattle.std.proofs.Common.{◌≡◌, ◌≤◌, ℕ, zero, suc, List, [], ◌∷◌, length, take, Option, Some, refl, sym, subst, ◌∙◌, arith}
 use Rattle.spec_crypto.specs.tokens.Tokens.{Users}
 use Rattle.spec_exchange.specs.State as model
 use Rattle.spec_world.specs.Ends.{Logons}
@@ -17,34 +17,34 @@ use Rattle.serve_turns.specs.shared_book.Histories.{Replays}
 use Rattle.serve_turns.proofs.event_book.Courses.{found_by}
 use Rattle.serve_turns.proofs.event_book.Settling.{Settles, asks_settles, lost_settles, made_settles}
 
-module _ {S : Type 0} (shows : S → Users → model.Server → Logons → List model.Record → Type 0) (stopped : S → Option ℕ)
+module _ {S : Type 0} (shows : S → Users → model.Server → Logons → List model.Record → Type 0) (stopped : S → Option ℕ) (faults : S → ℕ)
     (z : ServerSettings) where
   -- of a server that goes on
-  on_by : (old : Stand) (b c : EventBook S) (e : Turn) (t : Answer) (what : What) → EventStepsFor shows stopped what b e t c
-      → ShowsStanding shows stopped z.users b (On old)
-      → Settles (ShowsStanding shows stopped z.users c) (λ to g. MeetsOn z old e.now what t g to)
-  on_by old b c e t (Accept k) steps stands = made_settles shows stopped z old e.now k t b c steps stands
-  on_by old b c e t (Message a) steps stands = asks_settles shows stopped z old e.now a t b c steps stands
-  on_by old b c e t (End k) steps stands = lost_settles shows stopped z old e.now k t b c steps stands
+  on_by : (old : Stand) (b c : EventBook S) (e : Turn) (t : Answer) (what : What) → EventStepsFor shows stopped faults what b e t c
+      → ShowsStanding shows stopped faults z.users b (On old)
+      → Settles (ShowsStanding shows stopped faults z.users c) (λ to g. MeetsOn z old e.now what t g to)
+  on_by old b c e t (Accept k) steps stands = made_settles shows stopped faults z old e.now k t b c steps stands
+  on_by old b c e t (Message a) steps stands = asks_settles shows stopped faults z old e.now a t b c steps stands
+  on_by old b c e t (End k) steps stands = lost_settles shows stopped faults z old e.now k t b c steps stands
 
   -- and of one that had stopped
-  halted_by : (b c : EventBook S) (e : Turn) (t : Answer) (what : What) → EventStepsFor shows stopped what b e t c
-      → StaysHalted shows stopped b t.reply c
+  halted_by : (b c : EventBook S) (e : Turn) (t : Answer) (what : What) → EventStepsFor shows stopped faults what b e t c
+      → StaysHalted shows stopped faults b t.reply c
   halted_by b c e t (Accept k) steps = steps.halted
   halted_by b c e t (Message a) steps = steps.answers.halted
   halted_by b c e t (End k) steps = steps.halted
 
-  pub event_settles : (from : Standing) (b c : EventBook S) (e : Entry Turn Answer) → EventSteps shows stopped b e.event e.reply c
-      → ShowsStanding shows stopped z.users b from
-      → Settles (ShowsStanding shows stopped z.users c) (λ to g. Meets z from e g to)
+  pub event_settles : (from : Standing) (b c : EventBook S) (e : Entry Turn Answer) → EventSteps shows stopped faults b e.event e.reply c
+      → ShowsStanding shows stopped faults z.users b from
+      → Settles (ShowsStanding shows stopped faults z.users c) (λ to g. Meets z from e g to)
   event_settles (On old) b c e steps stands = on_by old b c e.event e.reply e.event.what steps stands
   event_settles (Off count) b c e steps stands =
-      let stays = halted_by b c e.event e.reply e.event.what steps count stands in
+      let stays = halted_by b c e.event e.reply e.event.what steps count stands.0 in
       record {
         to = Off count;
         given = Some (Stops count);
         told = record { reply = stays.0; given = refl; stays = refl };
-        stands = stays.1;
+        stands = (stays.1, stands.1 ∙ sym stays.2);
       }
 
   -- From a book that stands somewhere on: the history's course, and at each place the book that stands for what that place found.
@@ -52,10 +52,10 @@ module _ {S : Type 0} (shows : S → Users → model.Server → Logons → List 
     pub all : List (Option Given)
     pub to : Standing
     pub runs : Runs z from log all to
-    pub stands : ShowsStanding shows stopped z.users last to
+    pub stands : ShowsStanding shows stopped faults z.users last to
     pub each : (place : ℕ) → place ≤ length log → (book : EventBook S)
-        × Replays (EventSteps shows stopped) opening (take place log) book
-        × ShowsStanding shows stopped z.users book (found_by z from log all to runs place)
+        × Replays (EventSteps shows stopped faults) opening (take place log) book
+        × ShowsStanding shows stopped faults z.users book (found_by z from log all to runs place)
 
   runs_more : (from next to : Standing) (e : Entry Turn Answer) (es : List (Entry Turn Answer)) (g : Option Given)
       (gs : List (Option Given)) → Meets z from e g next → Runs z next es gs to → Runs z from (e ∷ es) (g ∷ gs) to
@@ -64,10 +64,10 @@ module _ {S : Type 0} (shows : S → Users → model.Server → Logons → List 
 
   -- behind one event more
   each_more : (from : Standing) (opening next last : EventBook S) (e : Entry Turn Answer) (es : List (Entry Turn Answer))
-      (one : Settles (ShowsStanding shows stopped z.users next) (λ to g. Meets z from e g to)) (rest : RunsOn one.to next es last)
-      → EventSteps shows stopped opening e.event e.reply next → ShowsStanding shows stopped z.users opening from → (place : ℕ)
-      → place ≤ length (e ∷ es) → (book : EventBook S) × Replays (EventSteps shows stopped) opening (take place (e ∷ es)) book
-      × ShowsStanding shows stopped z.users book
+      (one : Settles (ShowsStanding shows stopped faults z.users next) (λ to g. Meets z from e g to)) (rest : RunsOn one.to next es last)
+      → EventSteps shows stopped faults opening e.event e.reply next → ShowsStanding shows stopped faults z.users opening from → (place : ℕ)
+      → place ≤ length (e ∷ es) → (book : EventBook S) × Replays (EventSteps shows stopped faults) opening (take place (e ∷ es)) book
+      × ShowsStanding shows stopped faults z.users book
       (found_by z from (e ∷ es) (one.given ∷ rest.all) rest.to
       (runs_more from one.to rest.to e es one.given rest.all one.told rest.runs) place)
   unfolding Runs found_by runs_more
@@ -76,17 +76,17 @@ module _ {S : Type 0} (shows : S → Users → model.Server → Logons → List 
       let there = rest.each n (omega (arith, within)) in (there.0, (next, step, there.1), there.2)
 
   pub history_runs : (from : Standing) (opening last : EventBook S) (log : List (Entry Turn Answer))
-      → Replays (EventSteps shows stopped) opening log last → ShowsStanding shows stopped z.users opening from
+      → Replays (EventSteps shows stopped faults) opening log last → ShowsStanding shows stopped faults z.users opening from
       → RunsOn from opening log last
   unfolding Runs found_by
   history_runs from opening last [] replays stands = record {
     all = [];
     to = from;
     runs = refl;
-    stands = subst (λ (b : EventBook S). ShowsStanding shows stopped z.users b from) replays stands;
+    stands = subst (λ (b : EventBook S). ShowsStanding shows stopped faults z.users b from) replays stands;
     each = λ place within. (
       opening,
-      subst (λ (l : List (Entry Turn Answer)). Replays (EventSteps shows stopped) opening l opening) (sym (take_none place)) refl,
+      subst (λ (l : List (Entry Turn Answer)). Replays (EventSteps shows stopped faults) opening l opening) (sym (take_none place)) refl,
       stands,
     );
   }

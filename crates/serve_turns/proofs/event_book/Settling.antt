@@ -33,26 +33,28 @@ pub record Settles (shows : Standing → Type 0) (tells : Standing → Option Gi
   pub told : tells to given
   pub stands : shows to
 
-module _ {S : Type 0} (shows : S → Users → model.Server → Logons → List model.Record → Type 0) (stopped : S → Option ℕ) where
+module _ {S : Type 0} (shows : S → Users → model.Server → Logons → List model.Record → Type 0) (stopped : S → Option ℕ)
+    (faults : S → ℕ) where
   -- ---- a message
 
   message_settles : (z : ServerSettings) (now : ℕ) (s : model.Server) (L : Logons) (records : List model.Record) (t : Told) (m : Checked)
       (bytes : List ℕ) (due : Option model.Message) (reply : EventAnswer) (b : EventBook S)
-      → ToldIf (GoesOn shows stopped b z.users) z now s L records t m bytes due reply
+      → ToldIf (GoesOn shows stopped faults b z.users) z now s L records t m bytes due reply
       → ((count : ℕ) → stop_in reply ≡ Some count → stopped b.server ≡ Some count)
-      → Settles (ShowsStanding shows stopped z.users b) (λ to g. ToldIf (StandsAt to) z now s L records t m bytes due reply
+      → ((count : ℕ) → stop_in reply ≡ Some count → count ≡ faults b.server)
+      → Settles (ShowsStanding shows stopped faults z.users b) (λ to g. ToldIf (StandsAt to) z now s L records t m bytes due reply
       × GivenIf now t (record { server = s; logons = L; records = records }) due reply to g)
-  message_settles z now s L records t m bytes None None b gives stops =
+  message_settles z now s L records t m bytes None None b gives stops counts =
       record { to = On (record { server = s; logons = L; records = records }); given = None; told = (refl, refl); stands = gives }
-  message_settles z now s L records t m bytes None (Some r) b gives stops = absurd gives
-  message_settles z now s L records t m bytes (Some x) None b gives stops =
+  message_settles z now s L records t m bytes None (Some r) b gives stops counts = absurd gives
+  message_settles z now s L records t m bytes (Some x) None b gives stops counts =
       record {
         to = On (record { server = s; logons = L; records = records });
         given = None;
         told = ((gives.0, refl), refl);
         stands = gives.1;
       }
-  message_settles z now s L records t m bytes (Some x) (Some (Ok r)) b gives stops =
+  message_settles z now s L records t m bytes (Some x) (Some (Ok r)) b gives stops counts =
       let A = answer_to s now x x.command in
       let M = told_logons z.users L t m (message_in bytes m) now (progress x.command A.reply) in
       record {
@@ -73,7 +75,7 @@ module _ {S : Type 0} (shows : S → Users → model.Server → Logons → List 
         );
         stands = gives.1.state;
       }
-  message_settles z now s L records t m bytes (Some x) (Some (Err errors.Memory)) b gives stops =
+  message_settles z now s L records t m bytes (Some x) (Some (Err errors.Memory)) b gives stops counts =
       let to : Stand = record { server = gives.1.0; logons = L; records = records ++ gives.1.1 } in
       record {
         to = On to;
@@ -81,7 +83,7 @@ module _ {S : Type 0} (shows : S → Users → model.Server → Logons → List 
         told = ((gives.0, (gives.1.0, gives.1.1, gives.1.2, refl)), (to, refl, refl));
         stands = gives.1.3;
       }
-  message_settles z now s L records t m bytes (Some x) (Some (Err (errors.Unanswered acted))) b gives stops =
+  message_settles z now s L records t m bytes (Some x) (Some (Err (errors.Unanswered acted))) b gives stops counts =
       let A = answer_to s now x x.command in
       let M = told_logons z.users L t m (message_in bytes m) now (progress x.command A.reply) in
       record {
@@ -90,17 +92,24 @@ module _ {S : Type 0} (shows : S → Users → model.Server → Logons → List 
         told = ((gives.0, record { state = refl; acted_is = gives.1.acted_is }), refl);
         stands = gives.1.state;
       }
-  message_settles z now s L records t m bytes (Some x) (Some (Err (errors.Stopped count))) b gives stops =
-      record { to = Off count; given = Some (Stops count); told = ((gives.0, tt), (refl, refl)); stands = stops count refl }
+  message_settles z now s L records t m bytes (Some x) (Some (Err (errors.Stopped count))) b gives stops counts =
+      record {
+        to = Off count;
+        given = Some (Stops count);
+        told = ((gives.0, tt), (refl, refl));
+        stands =
+            (stops count refl, counts count refl);
+      }
 
   pub asks_settles : (z : ServerSettings) (old : Stand) (now : ℕ) (a : Asks) (t : Answer) (b c : EventBook S)
-      → AsksEvent shows stopped b now a t c → ShowsStanding shows stopped z.users b (On old)
-      → Settles (ShowsStanding shows stopped z.users c) (λ to g. MeetsMessage z old now a t g to)
+      → AsksEvent shows stopped faults b now a t c → ShowsStanding shows stopped faults z.users b (On old)
+      → Settles (ShowsStanding shows stopped faults z.users c) (λ to g. MeetsMessage z old now a t g to)
   asks_settles z old now a t b c asks stands =
       let is = asked_is a.frame a.at a.asked in
       let m = is.message in
       let r = message_settles z now old.server old.logons old.records a.told m a.frame.bytes.items _ t.reply c
-      (asks.answers.gives z old.server old.logons old.records m stands is.here) asks.answers.stops in
+      (asks.answers.gives z old.server old.logons old.records m stands is.here) asks.answers.stops
+      (λ count stop. (asks.answers.fault z.users old.server old.logons old.records stands count stop).1) in
       record {
         to = r.to;
         given = r.given;
@@ -119,9 +128,10 @@ module _ {S : Type 0} (shows : S → Users → model.Server → Logons → List 
   accept_settles : (users : Users) (s : model.Server) (L : Logons) (records : List model.Record) (now k : ℕ) (reply : Result Reply ServeError)
       (b c : EventBook S) → ServerServes (shows c.server users) users s L records now (events.Accept k) reply
       → Halts (stopped b.server) (stopped c.server) reply
-      → Settles (ShowsStanding shows stopped users c) (λ to g. (g ≡ None) × ServerServes (StandsAt to) users s L records now
+      → ((count : ℕ) → reply ≡ Err (errors.Stopped count) → count ≡ faults c.server)
+      → Settles (ShowsStanding shows stopped faults users c) (λ to g. (g ≡ None) × ServerServes (StandsAt to) users s L records now
       (events.Accept k) reply × StopsAt reply to)
-  accept_settles users s L records now k (Ok r) b c serves halts =
+  accept_settles users s L records now k (Ok r) b c serves halts counts =
       let A = step s now (model.Accept k) in
       record {
         to = On (record { server = A.server; logons = L; records = records ++ A.records });
@@ -129,14 +139,14 @@ module _ {S : Type 0} (shows : S → Users → model.Server → Logons → List 
         told = (refl, (serves.0, serves.1, refl), tt);
         stands = (serves.2, halts.1);
       }
-  accept_settles users s L records now k (Err errors.Memory) b c serves halts =
+  accept_settles users s L records now k (Err errors.Memory) b c serves halts counts =
       record {
         to = On (record { server = serves.0; logons = L; records = records ++ serves.1 });
         given = None;
         told = (refl, (serves.0, serves.1, serves.2, refl), tt);
         stands = (serves.3, halts.1);
       }
-  accept_settles users s L records now k (Err (errors.Unanswered acted)) b c serves halts =
+  accept_settles users s L records now k (Err (errors.Unanswered acted)) b c serves halts counts =
       let A = step s now (model.Accept k) in
       record {
         to = On (record { server = A.server; logons = L; records = records ++ A.records });
@@ -144,15 +154,16 @@ module _ {S : Type 0} (shows : S → Users → model.Server → Logons → List 
         told = (refl, (serves.0, refl), tt);
         stands = (serves.1, halts.1);
       }
-  accept_settles users s L records now k (Err (errors.Stopped count)) b c serves halts =
-      record { to = Off count; given = None; told = (refl, tt, refl); stands = halts.0 }
+  accept_settles users s L records now k (Err (errors.Stopped count)) b c serves halts counts =
+      record { to = Off count; given = None; told = (refl, tt, refl); stands = (halts.0, counts count refl) }
 
   end_settles : (users : Users) (s : model.Server) (L : Logons) (records : List model.Record) (now k : ℕ) (reply : Result Reply ServeError)
       (b c : EventBook S) → ServerServes (shows c.server users) users s L records now (events.End k) reply
       → Halts (stopped b.server) (stopped c.server) reply
-      → Settles (ShowsStanding shows stopped users c) (λ to g. (g ≡ None) × ServerServes (StandsAt to) users s L records now
+      → ((count : ℕ) → reply ≡ Err (errors.Stopped count) → count ≡ faults c.server)
+      → Settles (ShowsStanding shows stopped faults users c) (λ to g. (g ≡ None) × ServerServes (StandsAt to) users s L records now
       (events.End k) reply × StopsAt reply to)
-  end_settles users s L records now k (Ok r) b c serves halts =
+  end_settles users s L records now k (Ok r) b c serves halts counts =
       let A = step s now (model.End k) in
       record {
         to = On (record { server = A.server; logons = L; records = records ++ A.records });
@@ -160,14 +171,14 @@ module _ {S : Type 0} (shows : S → Users → model.Server → Logons → List 
         told = (refl, (serves.0, serves.1, refl), tt);
         stands = (serves.2, halts.1);
       }
-  end_settles users s L records now k (Err errors.Memory) b c serves halts =
+  end_settles users s L records now k (Err errors.Memory) b c serves halts counts =
       record {
         to = On (record { server = serves.0; logons = L; records = records ++ serves.1 });
         given = None;
         told = (refl, (serves.0, serves.1, serves.2, refl), tt);
         stands = (serves.3, halts.1);
       }
-  end_settles users s L records now k (Err (errors.Unanswered acted)) b c serves halts =
+  end_settles users s L records now k (Err (errors.Unanswered acted)) b c serves halts counts =
       let A = step s now (model.End k) in
       record {
         to = On (record { server = A.server; logons = L; records = records ++ A.records });
@@ -175,15 +186,16 @@ module _ {S : Type 0} (shows : S → Users → model.Server → Logons → List 
         told = (refl, (serves.0, refl), tt);
         stands = (serves.1, halts.1);
       }
-  end_settles users s L records now k (Err (errors.Stopped count)) b c serves halts =
-      record { to = Off count; given = None; told = (refl, tt, refl); stands = halts.0 }
+  end_settles users s L records now k (Err (errors.Stopped count)) b c serves halts counts =
+      record { to = Off count; given = None; told = (refl, tt, refl); stands = (halts.0, counts count refl) }
 
   pub made_settles : (z : ServerSettings) (old : Stand) (now k : ℕ) (t : Answer) (b c : EventBook S)
-      → HearsEvent shows stopped b now (events.Accept k) t c → ShowsStanding shows stopped z.users b (On old)
-      → Settles (ShowsStanding shows stopped z.users c) (λ to g. MeetsOther z old now (events.Accept k) t g to)
+      → HearsEvent shows stopped faults b now (events.Accept k) t c → ShowsStanding shows stopped faults z.users b (On old)
+      → Settles (ShowsStanding shows stopped faults z.users c) (λ to g. MeetsOther z old now (events.Accept k) t g to)
   made_settles z old now k t b c hears stands =
       let r = accept_settles z.users old.server old.logons old.records now k hears.reply b c
-      (hears.serves z.users old.server old.logons old.records stands.0) (hears.halts z.users old.server old.logons old.records stands.0) in
+      (hears.serves z.users old.server old.logons old.records stands.0) (hears.halts z.users old.server old.logons old.records stands.0)
+      (λ count stop. (hears.fault z.users old.server old.logons old.records stands count stop).1) in
       record {
         to = r.to;
         given = r.given;
@@ -192,11 +204,12 @@ module _ {S : Type 0} (shows : S → Users → model.Server → Logons → List 
       }
 
   pub lost_settles : (z : ServerSettings) (old : Stand) (now k : ℕ) (t : Answer) (b c : EventBook S)
-      → HearsEvent shows stopped b now (events.End k) t c → ShowsStanding shows stopped z.users b (On old)
-      → Settles (ShowsStanding shows stopped z.users c) (λ to g. MeetsOther z old now (events.End k) t g to)
+      → HearsEvent shows stopped faults b now (events.End k) t c → ShowsStanding shows stopped faults z.users b (On old)
+      → Settles (ShowsStanding shows stopped faults z.users c) (λ to g. MeetsOther z old now (events.End k) t g to)
   lost_settles z old now k t b c hears stands =
       let r = end_settles z.users old.server old.logons old.records now k hears.reply b c
-      (hears.serves z.users old.server old.logons old.records stands.0) (hears.halts z.users old.server old.logons old.records stands.0) in
+      (hears.serves z.users old.server old.logons old.records stands.0) (hears.halts z.users old.server old.logons old.records stands.0)
+      (λ count stop. (hears.fault z.users old.server old.logons old.records stands count stop).1) in
       record {
         to = r.to;
         given = r.given;

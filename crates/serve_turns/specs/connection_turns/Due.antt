@@ -26,15 +26,16 @@ use Rattle.serve_turns.specs.shared_book.Histories.{Replays, entries_of}
 -- disk stands for the records of all events up to there. The turns of the connection in it are those of the frames that came, and what was
 -- written so far and the answer that is due are the answers to these frames.
 pub record AnswerIsDue {S : Type 0} (shows : S → Users → model.Server → Logons → List model.Record → Type 0) (stopped : S → Option ℕ)
+    (faults : S → ℕ)
     (z : ServerSettings) (k seat : ℕ) (opening : EventBook S) (from : Stand) (came wrote answer : List ℕ) : Type 0 where
   pub salt : List ℕ
   pub log : List (Entry Turn Answer)
   pub h : Course
   pub stand : Stand
   pub last : EventBook S
-  pub replays : Replays (EventSteps shows stopped) opening log last
+  pub replays : Replays (EventSteps shows stopped faults) opening log last
   pub runs : RunsBy z (On from) log h (On stand)
-  pub stands : GoesOn shows stopped last z.users stand.server stand.logons stand.records
+  pub stands : GoesOn shows stopped faults last z.users stand.server stand.logons stand.records
   pub made : Placed
   pub turns : List Placed
   pub own_are : entries_of seat 0 log ≡ made ∷ turns
@@ -71,7 +72,8 @@ module _ {K : Type 0} (told : Type 0) (given left written : K → List ℕ) wher
     pub goes : (z : ServerSettings) (h : Course) → z.guid ≡ guid → AllMeet z h turns
         → (salt : List ℕ) × FramesGo z h k (first_server_end salt) 0 turns [] came wrote stream state
 
-  module _ {S : Type 0} (shows : S → Users → model.Server → Logons → List model.Record → Type 0) (stopped : S → Option ℕ) where
+  module _ {S : Type 0} (shows : S → Users → model.Server → Logons → List model.Record → Type 0) (stopped : S → Option ℕ)
+      (faults : S → ℕ) where
     -- The answer is due of what passed over the link since the connection began, by a seat that had no entries then, whatever the server
     -- shows with which the history opens.
     abbrev pub IsAnswerDue : List ℕ → ℕ → (begun : View (EventBook S) Turn Answer) → K → View (EventBook S) Turn Answer → K → List ℕ
@@ -79,5 +81,5 @@ module _ {K : Type 0} (told : Type 0) (given left written : K → List ℕ) wher
     IsAnswerDue guid k begun first v link answer =
         begun.own ≡ [] → (came : List ℕ) × (wrote : List ℕ) × Passed told given left written first link came wrote
         × ((z : ServerSettings) (opening : EventBook S) (from : Stand) → z.guid ≡ guid → v.opening ≡ Some opening
-        → GoesOn shows stopped opening z.users from.server from.logons from.records
-        → AnswerIsDue shows stopped z k v.number opening from came wrote answer)
+        → GoesOn shows stopped faults opening z.users from.server from.logons from.records
+        → AnswerIsDue shows stopped faults z k v.number opening from came wrote answer)

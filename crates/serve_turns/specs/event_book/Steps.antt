@@ -11,7 +11,7 @@ use Rattle.conn_core.specs.declared.frame_messages.checked.CheckedFrame.{Checked
 use Rattle.conn_core.specs.declared.requests.hearing.Told.{Told}
 use Rattle.conn_core.specs.frame_events.Dealing.{AreShortIf, EventAnswer, stop_in}
 use Rattle.conn_core.specs.frame_events.Telling.{ToldGives}
-use Rattle.conn_core.specs.served.Serving.{Halts, Onward, ServerServes, Showing}
+use Rattle.conn_core.specs.served.Serving.{Halts, Onward, ServerServes, Showing, StopsAtFault}
 use Rattle.conn_core.specs.declared.served.error.ServeError.{ServeError}
 use Rattle.conn_core.specs.declared.served.error.ServeError.TheVariants as errors
 use Rattle.conn_core.specs.declared.served.serve.Reply.{Reply}
@@ -23,8 +23,9 @@ use Rattle.serve_turns.specs.declared.event_book.turn.Turn.{Turn}
 use Rattle.serve_turns.specs.declared.event_book.turn.What.{What}
 use Rattle.serve_turns.specs.declared.event_book.turn.What.TheVariants.{Accept, Message, End}
 
--- of a server what it shows, and the count of its disk's faults at which it stopped
-module _ {S : Type 0} (shows : S → Users → model.Server → Logons → List model.Record → Type 0) (stopped : S → Option ℕ) where
+-- of a server what it shows, the count of its disk's faults at which it stopped, and that count
+module _ {S : Type 0} (shows : S → Users → model.Server → Logons → List model.Record → Type 0) (stopped : S → Option ℕ)
+    (faults : S → ℕ) where
   -- it has not stopped, and shows a state
   abbrev pub GoesOn : EventBook S → Users → Showing
   GoesOn book users = Onward (shows book.server users) None (stopped book.server)
@@ -32,7 +33,7 @@ module _ {S : Type 0} (shows : S → Users → model.Server → Logons → List 
   -- a server that had stopped stays so, and says so
   abbrev pub StaysHalted : EventBook S → Option (Result Reply ServeError) → EventBook S → Type 0
   StaysHalted old reply new = (count : ℕ) → stopped old.server ≡ Some count
-      → (reply ≡ Some (Err (errors.Stopped count))) × (stopped new.server ≡ Some count)
+      → (reply ≡ Some (Err (errors.Stopped count))) × (stopped new.server ≡ Some count) × (faults new.server ≡ faults old.server)
 
   -- a connection is made or lost: what the step says of the event
   pub record HearsEvent (old : EventBook S) (now : ℕ) (event : ServerEvent) (t : Answer) (new : EventBook S) : Type 0 where
@@ -43,6 +44,8 @@ module _ {S : Type 0} (shows : S → Users → model.Server → Logons → List 
         → ServerServes (shows new.server users) users s L records now event reply
     pub halts : (users : Users) (s : model.Server) (L : Logons) (records : List model.Record) → shows old.server users s L records
         → Halts (stopped old.server) (stopped new.server) reply
+    pub fault : (users : Users) (s : model.Server) (L : Logons) (records : List model.Record) → GoesOn old users s L records → (count : ℕ)
+        → reply ≡ Err (errors.Stopped count) → StopsAtFault (faults old.server) (faults new.server) count
     pub halted : StaysHalted old t.reply new
 
   -- what the step says of what a message of a checked frame asks, by what its connection tells of it
@@ -53,6 +56,8 @@ module _ {S : Type 0} (shows : S → Users → model.Server → Logons → List 
         → ToldGives (GoesOn new z.users) z now s L records told m x.bytes.items reply
     pub short : AreShortIf reply
     pub stops : (count : ℕ) → stop_in reply ≡ Some count → stopped new.server ≡ Some count
+    pub fault : (users : Users) (s : model.Server) (L : Logons) (records : List model.Record) → GoesOn old users s L records → (count : ℕ)
+        → stop_in reply ≡ Some count → StopsAtFault (faults old.server) (faults new.server) count
     pub halted : StaysHalted old reply new
 
   -- a message came; its frame comes back
@@ -69,7 +74,7 @@ module _ {S : Type 0} (shows : S → Users → model.Server → Logons → List 
   abbrev pub EventSteps : EventBook S → Turn → Answer → EventBook S → Type 0
   EventSteps old e t new = EventStepsFor e.what old e t new
 
-  -- what it is at a place of its history
+  -- what it is at a place of its history; where it has stopped its disk is left alone
   abbrev pub ShowsStanding : Users → EventBook S → Standing → Type 0
   ShowsStanding users book (On s) = GoesOn book users s.server s.logons s.records
-  ShowsStanding users book (Off count) = stopped book.server ≡ Some count
+  ShowsStanding users book (Off count) = (stopped book.server ≡ Some count) × (count ≡ faults book.server)

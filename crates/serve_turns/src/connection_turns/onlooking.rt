@@ -34,7 +34,7 @@ pub trait Onlooker<S: Serve> {
         link: &L,
         answer: &[u8],
     )
-        requires { IsAnswerDue L.told L.given L.left L.written S.shows S.stopped begun.now.guid begun.now.number
+        requires { IsAnswerDue L.told L.given L.left L.written S.shows S.stopped S.faults begun.now.guid begun.now.number
             (view_of begun.now.seat.value) begun.now.link.value (view_of seat.now) link.now answer.now }
         ensures { knows self.now answer.now };
 }
@@ -66,8 +66,9 @@ pub(crate) fn look_on<L: Link, S: Serve, V: Onlooker<S>>(
     answer: &[u8],
 )
     requires own { IsSeatOf book.now seat.old }
-    requires due { IsHistory (EventSteps S.shows S.stopped) (view_of seat.old)
-        → IsAnswerDue L.told L.given L.left L.written S.shows S.stopped begun.now.guid begun.now.number (view_of begun.now.seat.value)
+    requires due { IsHistory (EventSteps S.shows S.stopped S.faults) (view_of seat.old)
+        → IsAnswerDue L.told L.given L.left L.written S.shows S.stopped S.faults begun.now.guid begun.now.number
+        (view_of begun.now.seat.value)
         begun.now.link.value (view_of seat.old) link.now answer.now }
     ensures same { IsSameSeat seat.old seat.new }
     ensures own { (view_of seat.new).own ≡ (view_of seat.old).own }

@@ -24,7 +24,7 @@ impl<S: Serve> EventBook<S> {
     /// A connection is made or lost.
     fn hear(&mut self, now: u64, event: ServerEvent<'_>) -> Answer
         requires { IsServerServed event }
-        ensures { HearsEvent S.shows S.stopped self.old now event.entry result self.new }
+        ensures { HearsEvent S.shows S.stopped S.faults self.old now event.entry result self.new }
     {
         Answer {
             frame: None,
@@ -42,7 +42,7 @@ impl<S: Serve> EventBook<S> {
         told: &Told,
     ) -> Option<Result<Reply, ServeError>>
         requires { is_asked frame.now at ≡ true }
-        ensures { AnswersMessage S.shows S.stopped self.old now frame.now at told.now result self.new }
+        ensures { AnswersMessage S.shows S.stopped S.faults self.old now frame.now at told.now result self.new }
     {
         let alloc = self.alloc;
         match self.server.stop_count() {
@@ -53,7 +53,7 @@ impl<S: Serve> EventBook<S> {
 
     /// A message came.
     fn take(&mut self, now: u64, asks: Asks) -> Answer
-        ensures { AsksEvent S.shows S.stopped self.old now asks result self.new }
+        ensures { AsksEvent S.shows S.stopped S.faults self.old now asks result self.new }
     {
         let Asks { frame, at, told } = asks;
         let reply = self.answer(now, &frame, at, &told);
@@ -73,7 +73,7 @@ impl<S: Serve> Book for EventBook<S> {
 
     ghost use Rattle.serve_turns.specs.event_book.Steps.{EventSteps};
 
-    ghost steps = { λ old turn answer new. EventSteps S.shows S.stopped old turn answer new };
+    ghost steps = { λ old turn answer new. EventSteps S.shows S.stopped S.faults old turn answer new };
 
     fn step(&mut self, event: Turn) -> Answer {
         let Turn { now, what } = event;

@@ -13,7 +13,7 @@ use Rattle.conn_core.specs.declared.conn.Progress.{Progress}
 use Rattle.conn_core.specs.declared.conn.Progress.TheVariants as goes
 use Rattle.conn_core.specs.served.Serving.{Halts, IsNamed, IsServerPlain, IsProgress, IsServerServed, IsServerShort}
 use Rattle.conn_core.specs.served.Serving.{RefusesBy, has_own_signature, refusal_due}
-use Rattle.conn_core.specs.served.Serving.{ServerLacks, ServerLoses, ServerReplies, ServerServes, Showing}
+use Rattle.conn_core.specs.served.Serving.{ServerLacks, ServerLoses, ServerReplies, ServerServes, Showing, StopsAtFault}
 use Rattle.conn_core.specs.declared.served.error.ServeError.{ServeError}
 use Rattle.conn_core.specs.declared.served.error.ServeError.TheVariants as errors
 use Rattle.conn_core.specs.declared.served.serve.Reply.{Reply}
@@ -546,6 +546,33 @@ unfolding error_in
 room_stops o count e = absurd (memory_apart count (ap (λ (r : Result Reply ServeError). error_in errors.Memory r) e))
 
 -- one that goes on hasn't stopped
-pub goes_not : (o : Option ℕ) (count : ℕ) (r : Result Reply ServeError) (new : Option ℕ) → None ≡ o → o ≡ Some count
-    → (r ≡ fails_as (errors.Stopped count)) × (new ≡ Some count)
-goes_not o count r new e f = absurd (none_some o count (sym e) f)
+pub goes_not : (o : Option ℕ) (count : ℕ) (r : Result Reply ServeError) (new : Option ℕ) (faults faults' : ℕ) → None ≡ o → o ≡ Some count
+    → (r ≡ fails_as (errors.Stopped count)) × (new ≡ Some count) × (faults' ≡ faults)
+goes_not o count r new faults faults' e f = absurd (none_some o count (sym e) f)
+
+-- ---- the disk's count of faults where it stops
+
+pub refused_faults : {D : Type 0} (told : Type 0) (seen : D → List ℕ) (may_leave : D → List ℕ → Type 0) (faults : D → ℕ)
+    (old new : ServerState D) (s : model.Server) (L : Logons) (records : List model.Record) (now : ℕ) (e : model.ServerEvent) (M : Logons)
+    (why : EventError) (y : ServeError) (count : ℕ) (x : Result Reply ServeError) → old.stopped ≡ None
+    → EventRefused told seen may_leave faults why old new s L records now e M → y ≡ refusal new.stopped → x ≡ Err y
+    → x ≡ Err (errors.Stopped count) → StopsAtFault (faults old.journal.disk) (faults new.journal.disk) count
+refused_faults told seen may_leave faults old new s L records now e M Memory y count x goes k is made stop =
+    absurd (none_some new.stopped count k.0 (refused_stops new.stopped y count x is made stop))
+refused_faults told seen may_leave faults old new s L records now e M (DiskFault n) y count x goes k is made stop =
+    let same : n ≡ count = one_count new.stopped n count (sym k.1) (refused_stops new.stopped y count x is made stop) in
+    subst (λ (m : ℕ). StopsAtFault (faults old.journal.disk) (faults new.journal.disk) m) same (k.2, k.3)
+refused_faults told seen may_leave faults old new s L records now e M (Stopped n) y count x goes k is made stop =
+    absurd (none_some old.stopped n goes k.0)
+
+-- no event stops a server that was answered, nor one that found no room, nor one of a server that had stopped before
+pub told_never : (d : Command) (l : Option Logon) (a : Answer) (x : Result Reply ServeError) (count : ℕ) → TellsAnswer d l a x
+    → x ≡ Err (errors.Stopped count) → ⊥
+told_never d l a x count t is = subst (λ (y : Result Reply ServeError). TellsAnswer d l a y) is t
+
+pub room_never : (count : ℕ) → fails_as errors.Memory ≡ fails_as (errors.Stopped count) → ⊥
+unfolding error_in
+room_never count e = memory_apart count (ap (λ (r : Result Reply ServeError). error_in errors.Memory r) e)
+
+pub never_again : (o : Option ℕ) (n : ℕ) → Some n ≡ o → o ≡ None → ⊥
+never_again o n e f = none_some o n f (sym e)

@@ -3,14 +3,10 @@ use Rattle.std.proofs.Common.{◌≡◌, ℕ, zero, suc, ◌+◌, ◌<◌, ◌�
 use Rattle.std.proofs.Common.{refl, sym, ap, subst, ◌∙◌}
 use Rattle.std.proofs.Common.{arith}
 use Rattle.std.proofs.lemmas.List.{drop_more}
-use Rattle.std.specs.Prelude.{Ok, Err}
 use Rattle.spec_exchange.specs.State as model
 use Rattle.spec_exchange.specs.State.{Server}
 use Rattle.spec_exchange.specs.Fold.{fold_from, with_record}
-use Rattle.journal.specs.record_bytes.Grammar.{SpellsRecords, BreaksRecords, ReadsRecords}
 use Rattle.journal.specs.record_bytes.Meaning.{record_of, records_of}
-use Rattle.journal.specs.declared.record_bytes.fault.RecordError.{RecordError}
-use Rattle.journal.specs.declared.record_bytes.fault.RecordError.TheVariants.{Memory, BadRecord}
 use Rattle.journal.specs.declared.record_bytes.value.Record.{Record}
 use Rattle.law_server.specs.tables.Fits.{Fits, is_sound, all_sound}
 use Rattle.law_server.proofs.tables.Logic.{front_of, back_of}

@@ -1,14 +1,14 @@
 -- What a restart answers, put together from what it read and what it wrote.
 use Rattle.std.proofs.Common.{◌≡◌, ◌⊎◌, inl, inr, ⊎_elim, ℕ, ◌+◌, ◌≤◌, ◌==◌, Bool, true, false, if◌then◌else◌}
 use Rattle.std.proofs.Common.{List, [], ◌∷◌, ◌++◌, length, length-append, drop, Some, None, refl, sym, ap, subst, ◌∙◌, arith}
-use Rattle.std.specs.Prelude.{Result, Ok, Err, IfOk}
+use Rattle.std.specs.Prelude.{Result, Ok, Err, IfErr, IfOk}
 use Rattle.std.proofs.lemmas.List.{drop-map, length-map}
 use Rattle.std.proofs.Math.Seq.{drop-append_seam}
 use Rattle.spec_exchange.specs.Fold.{nothing_yet, fold, fold_from, full_room, epoch_records, unmark_records, opening_records, recovery_records}
 use Rattle.spec_exchange.specs.Records.{entry_bytes}
 use Rattle.spec_exchange.specs.State as model
 use Rattle.spec_exchange.specs.State.{Server, VersionRecord, EpochRecord}
-use Rattle.spec_wire.specs.journal.Grammar.{StandsFor, front}
+use Rattle.spec_wire.specs.journal.Grammar.{BreaksAt, StandsFor, front}
 use Rattle.spec_wire.specs.journal.Moments.{LeavesOnly, Quiet}
 use Rattle.journal.specs.record_bytes.Grammar.{SpellsRecords}
 use Rattle.journal.specs.record_bytes.Meaning.{record_of, records_of}
@@ -33,8 +33,8 @@ use Rattle.law_records.proofs.recovery.Leaves.{fold_append}
 use Rattle.server_core.specs.Reading.{BodiesSpell, FoldRefused, HandedOut, IsNothing, IsReadFrom, ReadRefused}
 use Rattle.server_core.proofs.Bodies.{spell_more}
 use Rattle.server_core.specs.restart_tables.Found.{Found, IsOf, IsRead, with_recovery_records}
-use Rattle.server_core.specs.restart_tables.Restart.{FaultIsTold, IsServerBegun, IsFull, IsNoBody, RestartLeaves, RestartRefused}
-use Rattle.server_core.specs.restart_tables.Restart.{ServerRestarts, configuration_of, configured}
+use Rattle.server_core.specs.restart_tables.Restart.{IsServerBegun, IsFull, IsNoBody, KeepsBodies, RestartLeaves, RestartRefused}
+use Rattle.server_core.specs.restart_tables.Restart.{ServerRestarts, StandsBegun, StartRefused, UnlessFailed, configuration_of, configured}
 use Rattle.server_core.proofs.restart_tables.OfFold.{all_begun, all_fit, all_recover, all_version, behind, of_fold, sound_all}
 use Rattle.server_checks.specs.session_table.Logons.{LogonsShown}
 use Rattle.base_outside.specs.streams.Faults.{Rose}
@@ -258,13 +258,13 @@ module _ {D : Type 0} (told : Type 0) (seen : D → List ℕ) (may_leave : D →
 
   -- ---- the refusals
 
-  pub unread : (disk : D) (x : JournalError) → journals.JournalRecovers told seen faults disk (Err x)
-      → RestartRefused told seen faults disk x
-  unread disk Memory h = tt
-  unread disk (DiskFault n) h = h
-  unread disk (NotAJournal at) h = λ t. inl (h t)
-  unread disk (Full would limit) h = absurd h
-  unread disk (Stopped n) h = h
+  pub unread : (disk left : D) (x : JournalError) → journals.RecoverRefused told seen faults disk left x
+      → RestartRefused told seen faults disk left x
+  unread disk left Memory h = absurd h
+  unread disk left (DiskFault n) h = h
+  unread disk left (NotAJournal at) h = (h.0, λ t. inl (h.1 t))
+  unread disk left (Full would limit) h = absurd h
+  unread disk left (Stopped n) h = h
 
   no_body : (disk : D) (first : JournalState D) (d0 : Durable) (at : ℕ) → IsOf told seen may_leave faults disk first
       → DurableShown d0 nothing_yet
@@ -275,19 +275,14 @@ module _ {D : Type 0} (told : Type 0) (seen : D → List ℕ) (may_leave : D →
       let f = refused t nothing_yet refl new b.0 (i.1 t b.0 b.1) in
       (b.0, f.0, f.1, f.2, b.1, f.3, f.4, f.5, f.6, f.7)
 
-  abbrev RefusedAs : D → JournalState D → JournalError → Type 0
-  RefusedAs disk j x = RestartRefused told seen faults disk x × FaultIsTold faults j x
-
   pub unfolded : (disk : D) (first j : JournalState D) (d0 : Durable) (x : JournalError)
       → IsOf told seen may_leave faults disk first → DurableShown d0 nothing_yet → ReadRefused faults first.disk x j
       → (told → (s : Server) → IsNothing s → DurableShown d0 s → (bodies : List (List ℕ)) → JournalSettled seen may_leave first bodies
-      → FoldRefused bodies x) → RefusedAs disk j x
-  unfolded disk first j d0 Memory i new cause refused = (tt, tt)
-  unfolded disk first j d0 (DiskFault n) i new cause refused = (
-    record { dropped = j.disk; count = cause.1; rose = subst (λ (m : ℕ). Rose m n) i.0.0 cause.0 },
-    cause.1,
-  )
-  unfolded disk first j d0 (NotAJournal at) i new cause refused = (λ t. inr (no_body disk first d0 at i new refused t), tt)
+      → FoldRefused bodies x) → RestartRefused told seen faults disk j.disk x
+  unfolded disk first j d0 Memory i new cause refused = cause ∙ i.0.0
+  unfolded disk first j d0 (DiskFault n) i new cause refused = (cause.1, subst (λ (m : ℕ). Rose m n) i.0.0 cause.0)
+  unfolded disk first j d0 (NotAJournal at) i new cause refused =
+      (cause ∙ i.0.0, λ t. inr (no_body disk first d0 at i new refused t))
   unfolded disk first j d0 (Full would limit) i new cause refused = absurd cause
   unfolded disk first j d0 (Stopped n) i new cause refused = absurd cause
 
@@ -306,23 +301,41 @@ module _ {D : Type 0} (told : Type 0) (seen : D → List ℕ) (may_leave : D →
 
   pub unwritten : (disk : D) (first j new : JournalState D) (d : Durable) (body m : List ℕ) (x : JournalError)
       → IsOf told seen may_leave faults disk first → Found told seen may_leave faults first j d body → m ≡ body
-      → Appends faults j m true (Err x) new → RefusedAs disk new x
-  unwritten disk first j new d body m Memory i f same a = (tt, tt)
-  unwritten disk first j new d body m (DiskFault n) i f same a = (
-    record { dropped = new.disk; count = a.2; rose = subst (λ (k : ℕ). Rose k n) (f.no_fault ∙ i.0.0) a.1 },
-    a.2,
-  )
+      → Appends faults j m true (Err x) new → RestartRefused told seen faults disk new.disk x
+  unwritten disk first j new d body m Memory i f same a =
+      ap (λ (s : JournalState D). faults s.disk) a.2.0 ∙ (f.no_fault ∙ i.0.0)
+  unwritten disk first j new d body m (DiskFault n) i f same a = (a.2, subst (λ (k : ℕ). Rose k n) (f.no_fault ∙ i.0.0) a.1)
   unwritten disk first j new d body m (NotAJournal at) i f same a = absurd a
-  unwritten disk first j new d body m (Full would limit) i f same a =
-      (full disk first j new d body m would limit i f same a, tt)
+  unwritten disk first j new d body m (Full would limit) i f same a = (
+    ap (λ (s : JournalState D). faults s.disk) a.4 ∙ (f.no_fault ∙ i.0.0),
+    full disk first j new d body m would limit i f same a,
+  )
   unwritten disk first j new d body m (Stopped n) i f same a = absurd (none_not n (sym f.goes_on ∙ a.0))
 
-  -- where memory ran out the disk stays
-  pub not_written : (j new : JournalState D) (m : List ℕ) (x : JournalError) → Appends faults j m true (Err x) new → x ≡ Memory
-      → new.disk ≡ j.disk
-  not_written j new m x a is =
-      let k : Appends faults j m true (Err Memory) new = subst (λ (y : JournalError). Appends faults j m true (Err y) new) is a in
-      ap (λ (s : JournalState D). s.disk) k.2.0
+  -- where it didn't fail the disk stays
+  pub not_written : (j new : JournalState D) (m : List ℕ) (x : JournalError) → Appends faults j m true (Err x) new
+      → UnlessFailed x (new.disk ≡ j.disk)
+  not_written j new m Memory a = ap (λ (s : JournalState D). s.disk) a.2.0
+  not_written j new m (DiskFault n) a = tt
+  not_written j new m (NotAJournal at) a = absurd a
+  not_written j new m (Full would limit) a = ap (λ (s : JournalState D). s.disk) a.4
+  not_written j new m (Stopped n) a = ap (λ (s : JournalState D). s.disk) a.1
+
+-- ---- a cause that is no failure of the disk
+
+pub unless : (x : JournalError) (P : Type 0) → P → UnlessFailed x P
+unless Memory P h = h
+unless (DiskFault n) P h = tt
+unless (NotAJournal at) P h = h
+unless (Full would limit) P h = h
+unless (Stopped n) P h = h
+
+unless_so : (x : JournalError) (P Q : Type 0) → (P → Q) → UnlessFailed x P → UnlessFailed x Q
+unless_so Memory P Q so h = so h
+unless_so (DiskFault n) P Q so h = tt
+unless_so (NotAJournal at) P Q so h = so h
+unless_so (Full would limit) P Q so h = so h
+unless_so (Stopped n) P Q so h = so h
 
 -- ---- a crash at any moment
 
@@ -395,3 +408,103 @@ module _ {D : Type 0} (told : Type 0) (seen : D → List ℕ) (may_leave : D →
       in_a_row disk first.disk new.disk (λ c. may_leave disk c ⊎ StandsFor c all) (RestartLeaves (may_leave first.disk) all)
       (RestartLeaves (may_leave disk) all) (recovered t all stands) (read t all (opens t all stands))
       (of_recover disk all) (λ c here. of_read disk first all c (opens t all stands) here)
+
+  -- ---- what is left of the disk
+
+  settled_stands : (first : JournalState D) (new : D) (all : List (List ℕ)) → seen new ≡ seen first.disk
+      → JournalSettled seen may_leave first all → StandsFor (seen new) all
+  settled_stands first new all same s =
+      inr (record { gate = s.gate; rest = []; spelled = same ∙ s.file; closed = s.closed; fit = s.fit })
+
+  -- where it was only read
+  pub quiet_stands : (first : JournalState D) (new : D) → Quiet told seen may_leave moment left_since first.disk new
+      → told → (all : List (List ℕ)) → JournalSettled seen may_leave first all → StandsBegun all (seen new)
+  quiet_stands first new quiet t all s = inl (settled_stands first new all (quiet.same t) s)
+
+  of_append_now : (all bodies : List (List ℕ)) (j : JournalState D) (records : List model.Record) (body c : List ℕ)
+      → IsRead seen may_leave j all bodies records body → BeforeOrAfter all body c → StandsBegun all c
+  of_append_now all bodies j records body c q (inl here) = inl here
+  of_append_now all bodies j records body c q (inr here) = inr (body, records, q.spelled, q.more, here)
+
+  -- where a body was written, or not
+  pub written_stands : (first j new : JournalState D) (d : Durable) (body : List ℕ) → Found told seen may_leave faults first j d body
+      → (told → (all : List (List ℕ)) → JournalSettled seen may_leave j all → BeforeOrAfter all body (seen new.disk))
+      → told → (all : List (List ℕ)) → JournalSettled seen may_leave first all → StandsBegun all (seen new.disk)
+  written_stands first j new d body f appended t all settled =
+      let q = f.read t all settled in
+      of_append_now all f.bodies j f.records body (seen new.disk) q (appended t all q.settled)
+
+  pub unwritten_quiet : {A : Type 0} (old mid new : D) (r : Result A JournalError)
+      → Quiet told seen may_leave moment left_since old mid → IfErr r (λ x. UnlessFailed x (new ≡ mid))
+      → IfErr r (λ x. UnlessFailed x (Quiet told seen may_leave moment left_since old new))
+  unwritten_quiet old mid new (Ok a) quiet h = tt
+  unwritten_quiet old mid new (Err x) quiet h =
+      unless_so x (new ≡ mid) (Quiet told seen may_leave moment left_since old new) (quiet_still old mid new quiet) h
+
+  -- a journal was recovered and then only read
+  kept : (disk : D) (first : JournalState D) (new : D) (all : List (List ℕ)) → JournalSettled seen may_leave first all
+      → LeavesOnly moment left_since disk first.disk (λ c. may_leave disk c ⊎ StandsFor c all) → told
+      → Quiet told seen may_leave moment left_since first.disk new → KeepsBodies seen may_leave moment left_since disk new all
+  kept disk first new all s recovered t quiet = record {
+    stands = settled_stands first new all (quiet.same t) s;
+    durable = λ c left. s.durable c (quiet.no_more c left) ∙ sym (quiet.same t);
+    any_moment = in_a_row disk first.disk new (λ c. may_leave disk c ⊎ StandsFor c all) (may_leave first.disk)
+        (λ c. may_leave disk c ⊎ StandsFor c all) recovered quiet.any_moment (λ c was. was)
+        (λ c left. inr (settled_leaves first all c s left));
+  }
+
+  abbrev NeverBroken : Type 0
+  NeverBroken = (bytes : List ℕ) (bodies : List (List ℕ)) (at : ℕ) → StandsFor bytes bodies → BreaksAt bytes at → ⊥
+
+  abbrev Refused : (disk left : D) → JournalError → Type 0
+  Refused disk left x = StartRefused told seen may_leave moment left_since faults disk left x
+
+  -- a journal was recovered, and no server begins on it
+  pub not_begun : NeverBroken → (disk : D) (first new : JournalState D) (left : D) (x : JournalError) → left ≡ new.disk
+      → IsOf told seen may_leave faults disk first
+      → (told → (all : List (List ℕ)) → StandsFor (seen disk) all
+      → LeavesOnly moment left_since disk first.disk (λ c. may_leave disk c ⊎ StandsFor c all))
+      → RestartRefused told seen faults disk new.disk x
+      → UnlessFailed x (Quiet told seen may_leave moment left_since first.disk new.disk)
+      → (told → (all : List (List ℕ)) → JournalSettled seen may_leave first all → StandsBegun all (seen new.disk))
+      → (told → (all : List (List ℕ)) → JournalSettled seen may_leave first all
+      → LeavesOnly moment left_since first.disk new.disk (RestartLeaves (may_leave first.disk) all))
+      → Refused disk left x
+  not_begun never disk first new left x back i recovered caused quiet stays read =
+      subst (λ (d : D). Refused disk d x) (sym back) (record {
+        caused = caused;
+        as_it_was = λ t at breaks. let s = i.0.3 t in absurd (never (seen disk) s.0 at s.1 breaks);
+        stands = λ t all stands.
+            unless_so x (Quiet told seen may_leave moment left_since first.disk new.disk)
+            (KeepsBodies seen may_leave moment left_since disk new.disk all)
+            (kept disk first new.disk all (i.1 t all stands) (recovered t all stands) t) quiet;
+        stays = λ t all stands. stays t all (i.1 t all stands);
+        any_moment = at_any_moment disk first new i.1 recovered read;
+      })
+
+  -- the bytes are no journal, or the disk failed
+  none_kept : NeverBroken → (disk left : D) (x : JournalError) (all : List (List ℕ)) → journals.RecoverRefused told seen faults disk left x
+      → told → StandsFor (seen disk) all → UnlessFailed x (KeepsBodies seen may_leave moment left_since disk left all)
+  none_kept never disk left Memory all h t stands = absurd h
+  none_kept never disk left (DiskFault n) all h t stands = tt
+  none_kept never disk left (NotAJournal at) all h t stands = absurd (never (seen disk) all at stands (h.1 t))
+  none_kept never disk left (Full would limit) all h t stands = absurd h
+  none_kept never disk left (Stopped n) all h t stands = absurd h
+
+  pub not_recovered : NeverBroken → (disk left : D) (x : JournalError) → journals.RecoverRefused told seen faults disk left x
+      → (told → (at : ℕ) → BreaksAt (seen disk) at → Quiet told seen may_leave moment left_since disk left)
+      → (told → (all : List (List ℕ)) → StandsFor (seen disk) all → StandsFor (seen left) all)
+      → (told → (all : List (List ℕ)) → StandsFor (seen disk) all
+      → LeavesOnly moment left_since disk left (λ c. may_leave disk c ⊎ StandsFor c all))
+      → Refused disk left x
+  not_recovered never disk left x h spared stays run = record {
+    caused = unread told seen may_leave faults disk left x h;
+    as_it_was = spared;
+    stands = λ t all stands. none_kept never disk left x all h t stands;
+    stays = λ t all stands. inl (stays t all stands);
+    any_moment = λ t all stands. let left_by = run t all stands in record {
+      later = left_by.later;
+      each = λ c now. of_recover disk all c (left_by.each c now);
+      before = λ u c le now. ⊎_elim (λ was. inl was) (λ here. inr (of_recover disk all c here)) (left_by.before u c le now);
+    };
+  }

@@ -108,9 +108,9 @@ module _ {D : Type 0} (told : Type 0) (seen : D → List ℕ) (may_leave : D →
       too_much (b.2 + entry_bytes (recovery_records b.3)) limit would (length (front f.0) + 1 + entry_bytes (recovery_records f.1))
       f.5 f.6 f.7 size b.6
 
-  pub full : MeansOne → SameRecords → Taken → told → (disk : D) (config : Config) (new : ServerState D) (would limit at : ℕ)
+  pub full : MeansOne → SameRecords → Taken → told → (disk left : D) (config : Config) (new : ServerState D) (would limit at : ℕ)
       → IsFull (seen disk) would limit → (ServerBegins told seen may_leave faults config disk new → ⊥)
-      × (RestartRefused told seen faults disk (causes.NotAJournal at) → ⊥)
-  full one same taken tells disk config new would limit at f =
+      × (RestartRefused told seen faults disk left (causes.NotAJournal at) → ⊥)
+  full one same taken tells disk left config new would limit at f =
       let is = taken (seen disk) f.0 f.1 at f.2 f.3 f.4 in
-      (none_begins one same tells disk config new would limit f, λ refused. ⊎_elim is.0 is.1 (refused tells))
+      (none_begins one same tells disk config new would limit f, λ refused. ⊎_elim is.0 is.1 (refused.1 tells))

@@ -1,23 +1,17 @@
 -- The durable part of a state, and what a body of records makes of it.
-use Rattle.std.specs.Prelude.{◌≡◌, ℕ, ◌&&◌, Bool, true, false, not, if◌then◌else◌, List, Option, Some, None, Result, Ok, Err, ⊤}
+use Rattle.std.specs.Prelude.{◌≡◌, ℕ, ◌&&◌, Bool, true, false, not, if◌then◌else◌, List, Option, Some, None}
 use Rattle.std.specs.BTreeSet.{contains}
 use Rattle.std.specs.Ordering.{nat_cmp}
 use Rattle.spec_exchange.specs.State as model
 use Rattle.spec_exchange.specs.CheckOpen.{file_of, target_of}
 use Rattle.spec_exchange.specs.Effects.{set_ranges}
-use Rattle.spec_exchange.specs.Fold.{fold_from, may_create, created_file, same_target}
+use Rattle.spec_exchange.specs.Fold.{may_create, created_file, same_target}
 use Rattle.spec_exchange.specs.Opens.{file_has_open}
 use Rattle.spec_exchange.specs.Ranges.{RangeAnswer, Stands, Denied}
 use Rattle.spec_exchange.specs.Files.{exists, exists_in, find}
 use Rattle.spec_exchange.specs.declared.values.Origin.{Origin}
-use Rattle.law_server.specs.tables.Fits.{all_sound}
 use Rattle.store_opens.specs.open_table.Shown.{ShowsOpens}
 use Rattle.store_files.specs.file_tree.Shown.{ShowsFiles}
-use Rattle.journal.specs.record_bytes.Grammar.{SpellsRecords, BreaksRecords}
-use Rattle.journal.specs.record_bytes.Meaning.{records_of}
-use Rattle.journal.specs.declared.record_bytes.value.Record.{Record}
-use Rattle.journal.specs.declared.record_bytes.fault.RecordError.{RecordError}
-use Rattle.journal.specs.declared.record_bytes.fault.RecordError.TheVariants.{Memory, BadRecord}
 use Rattle.law_records.specs.fold.Order.{FilesAscend}
 use Rattle.server_core.specs.declared.durable_state.durable.Durable.{Durable}
 use Rattle.server_core.specs.declared.durable_state.creates.Made.{Made}

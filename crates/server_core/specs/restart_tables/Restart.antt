@@ -1,11 +1,13 @@
 -- What a restart answers of a disk.
 use Rattle.std.specs.Prelude.{◌≡◌, ◌⊎◌, ℕ, ◌+◌, ◌<◌, ◌≤◌, min, List, [], ◌∷◌, ◌++◌, length, take, slice_get, Some, true, Result, Ok, Err, ⊤}
 use Rattle.std.specs.Prelude.{None}
+use Rattle.base_outside.specs.streams.Disk.{Only}
 use Rattle.wire_commands.specs.values.Meaning.{address_of}
 use Rattle.spec_exchange.specs.Fold.{Configuration, fold, full_room, recovered, recovery_records}
 use Rattle.spec_exchange.specs.Records.{entry_bytes}
 use Rattle.spec_exchange.specs.State as model
 use Rattle.spec_wire.specs.journal.Grammar.{StandsFor, BreaksAt, front}
+use Rattle.spec_wire.specs.journal.Moments.{LeavesOnly, Quiet}
 use Rattle.journal.specs.disk_journal.Journal.{JournalState, FailedAt, JournalSettled, journal_capped}
 use Rattle.journal.specs.declared.disk_journal.journal.JournalError.{JournalError}
 use Rattle.journal.specs.declared.disk_journal.journal.JournalError.TheVariants as causes
@@ -88,35 +90,57 @@ abbrev pub IsFull : List ℕ → ℕ → ℕ → Type 0
 IsFull bytes would limit = (bodies : List (List ℕ)) × (records : List model.Record) × StandsFor bytes bodies × BodiesSpell bodies records
     × (all_sound records ≡ true) × (would ≡ journal_capped (length (front bodies) + 1 + entry_bytes (recovery_records records))) × (limit ≡ 1073741824) × (limit < would)
 
-abbrev pub RestartRefused : {D : Type 0} → Type 0 → (D → List ℕ) → (D → ℕ) → D → JournalError → Type 0
-RestartRefused told seen faults disk causes.Memory = ⊤
-RestartRefused told seen faults disk (causes.DiskFault n) = FailedAt faults disk n
-RestartRefused told seen faults disk (causes.NotAJournal at) = told → BreaksAt (seen disk) at ⊎ IsNoBody (seen disk) at
-RestartRefused told seen faults disk (causes.Full would limit) = told → IsFull (seen disk) would limit
-RestartRefused told seen faults disk (causes.Stopped n) = ⊥
-
-abbrev pub RestartAnswers : {D : Type 0} → Type 0 → (D → List ℕ) → (D → List ℕ → Type 0) → (D → ℕ) → Config → D
-    → Result (JournalState D × Tables) JournalError → Type 0
-RestartAnswers told seen may_leave faults z disk (Ok r) = ServerRestarts told seen may_leave faults z disk r.0 r.1
-RestartAnswers told seen may_leave faults z disk (Err x) = RestartRefused told seen faults disk x
-
--- of a journal that is at hand: the count of faults that is told is that of its disk
-abbrev pub FaultIsTold : {D : Type 0} → (D → ℕ) → JournalState D → JournalError → Type 0
-FaultIsTold faults journal (causes.DiskFault n) = n ≡ faults journal.disk
-FaultIsTold faults journal causes.Memory = ⊤
-FaultIsTold faults journal (causes.NotAJournal at) = ⊤
-FaultIsTold faults journal (causes.Full would limit) = ⊤
-FaultIsTold faults journal (causes.Stopped n) = ⊤
+-- Why it is refused. A count of faults that is told rose, and is that of the disk as it was left; with another cause the count stays.
+abbrev pub RestartRefused : {D : Type 0} → Type 0 → (D → List ℕ) → (D → ℕ) → (disk left : D) → JournalError → Type 0
+RestartRefused told seen faults disk left causes.Memory = faults left ≡ faults disk
+RestartRefused told seen faults disk left (causes.DiskFault n) = FailedAt faults disk left n
+RestartRefused told seen faults disk left (causes.NotAJournal at) = (faults left ≡ faults disk)
+    × (told → BreaksAt (seen disk) at ⊎ IsNoBody (seen disk) at)
+RestartRefused told seen faults disk left (causes.Full would limit) = (faults left ≡ faults disk) × (told → IsFull (seen disk) would limit)
+RestartRefused told seen faults disk left (causes.Stopped n) = ⊥
 
 abbrev pub BeginAnswers : {D : Type 0} → Type 0 → (D → List ℕ) → (D → List ℕ → Type 0) → (D → ℕ) → Config → D → JournalState D
     → Result Tables JournalError → Type 0
 BeginAnswers told seen may_leave faults z disk journal (Ok t) = ServerRestarts told seen may_leave faults z disk journal t
-BeginAnswers told seen may_leave faults z disk journal (Err x) = RestartRefused told seen faults disk x × FaultIsTold faults journal x
+BeginAnswers told seen may_leave faults z disk journal (Err x) = RestartRefused told seen faults disk journal.disk x
 
 -- ---- a crash at any moment
 
--- it leaves what it could leave before, or bytes that stand for the bodies as they were, or with the one that a recovery adds
-abbrev pub RestartLeaves : (List ℕ → Type 0) → List (List ℕ) → List ℕ → Type 0
-RestartLeaves may_leave bodies bytes = may_leave bytes ⊎ StandsFor bytes bodies
+-- bytes stand for the bodies as they were, or with the one that a recovery adds
+abbrev pub StandsBegun : List (List ℕ) → List ℕ → Type 0
+StandsBegun bodies bytes = StandsFor bytes bodies
     ⊎ ((body : List ℕ) × (records : List model.Record) × BodiesSpell bodies records
     × BodiesSpell (bodies ++ body ∷ []) (records ++ recovery_records records) × StandsFor bytes (bodies ++ body ∷ []))
+
+-- it leaves what it could leave before, or such bytes
+abbrev pub RestartLeaves : (List ℕ → Type 0) → List (List ℕ) → List ℕ → Type 0
+RestartLeaves may_leave bodies bytes = may_leave bytes ⊎ StandsBegun bodies bytes
+
+-- ---- the disk behind a start that is refused
+
+-- this holds unless the disk failed
+abbrev pub UnlessFailed : JournalError → Type 0 → Type 0
+UnlessFailed causes.Memory kept = kept
+UnlessFailed (causes.DiskFault n) kept = ⊤
+UnlessFailed (causes.NotAJournal at) kept = kept
+UnlessFailed (causes.Full would limit) kept = kept
+UnlessFailed (causes.Stopped n) kept = kept
+
+-- It still stands for these bodies, which a crash leaves too, then and meanwhile: nothing waits for a sync.
+pub record KeepsBodies {D : Type 0} (seen : D → List ℕ) (may_leave : D → List ℕ → Type 0) (moment : D → ℕ)
+    (left_since : D → ℕ → List ℕ → Type 0) (disk left : D) (bodies : List (List ℕ)) : Type 0 where
+  pub stands : StandsFor (seen left) bodies
+  pub durable : Only (seen left) (may_leave left)
+  pub any_moment : LeavesOnly moment left_since disk left (λ c. may_leave disk c ⊎ StandsFor c bodies)
+
+-- Why a start is refused, and how it leaves the disk: as it was where its bytes are no journal, and else with the bodies that it stood
+-- for; where it failed, with these or these and the one that a recovery adds.
+pub record StartRefused {D : Type 0} (told : Type 0) (seen : D → List ℕ) (may_leave : D → List ℕ → Type 0) (moment : D → ℕ)
+    (left_since : D → ℕ → List ℕ → Type 0) (faults : D → ℕ) (disk left : D) (cause : JournalError) : Type 0 where
+  pub caused : RestartRefused told seen faults disk left cause
+  pub as_it_was : told → (at : ℕ) → BreaksAt (seen disk) at → Quiet told seen may_leave moment left_since disk left
+  pub stands : told → (bodies : List (List ℕ)) → StandsFor (seen disk) bodies
+      → UnlessFailed cause (KeepsBodies seen may_leave moment left_since disk left bodies)
+  pub stays : told → (bodies : List (List ℕ)) → StandsFor (seen disk) bodies → StandsBegun bodies (seen left)
+  pub any_moment : told → (bodies : List (List ℕ)) → StandsFor (seen disk) bodies
+      → LeavesOnly moment left_since disk left (RestartLeaves (may_leave disk) bodies)

@@ -52,12 +52,12 @@ fn refused_by<D: Disk>(server: &Server<D>) -> ServeError
 
 impl<D: Disk> Book<D> {
     ghost use Rattle.std.specs.Prelude.{◌≡◌, ℕ, Err, IfOk, List, None, Some};
-    ghost use Rattle.conn_core.specs.served.Serving.{Halts, IsServerServed, IsServerShort, ServerServes};
+    ghost use Rattle.conn_core.specs.served.Serving.{Halts, IsServerServed, IsServerShort, ServerServes, StopsAtFault};
     ghost use Rattle.conn_core.specs.declared.served.error.ServeError.TheVariants as errors;
     ghost use Rattle.spec_exchange.specs.State as model;
     ghost use Rattle.server_core.specs.disk_server.Asked.{HasShape, BookLogonIs};
     ghost use Rattle.server_core.specs.disk_server.Shown.{ShowsBook};
-    ghost use Rattle.server_core.specs.Shown.{stopped_of};
+    ghost use Rattle.server_core.specs.Shown.{disk_of, stopped_of};
     ghost use Rattle.spec_crypto.specs.tokens.Tokens.{Users};
     ghost use Rattle.spec_world.specs.Ends.{Logons};
 
@@ -79,6 +79,9 @@ impl<D: Disk> Book<D> {
         ensures halts { (users : Users) (s : model.Server) (L : Logons) (records : List model.Record)
             → ShowsBook D.told D.seen D.may_leave self.old users s L records
             → Halts (stopped_of self.old.server) (stopped_of self.new.server) result }
+        ensures fault { (users : Users) (s : model.Server) (L : Logons) (records : List model.Record)
+            → ShowsBook D.told D.seen D.may_leave self.old users s L records → (count : ℕ) → result ≡ Err (errors.Stopped count)
+            → StopsAtFault (D.faults (disk_of self.old.server)) (D.faults (disk_of self.new.server)) count }
         ensures stops { (count : ℕ) → result ≡ Err (errors.Stopped count) → stopped_of self.new.server ≡ Some count }
     {
         match self.server.event(now, event) {
@@ -106,6 +109,9 @@ impl<D: Disk> Book<D> {
         ensures halts { (users : Users) (s : model.Server) (L : Logons) (records : List model.Record)
             → ShowsBook D.told D.seen D.may_leave self.old users s L records
             → Halts (stopped_of self.old.server) (stopped_of self.new.server) result }
+        ensures fault { (users : Users) (s : model.Server) (L : Logons) (records : List model.Record)
+            → ShowsBook D.told D.seen D.may_leave self.old users s L records → (count : ℕ) → result ≡ Err (errors.Stopped count)
+            → StopsAtFault (D.faults (disk_of self.old.server)) (D.faults (disk_of self.new.server)) count }
         ensures stops { (count : ℕ) → result ≡ Err (errors.Stopped count) → stopped_of self.new.server ≡ Some count }
     {
         let command = shape_in(self.alloc, &event);
@@ -124,6 +130,9 @@ impl<D: Disk> Book<D> {
         ensures halts { (users : Users) (s : model.Server) (L : Logons) (records : List model.Record)
             → ShowsBook D.told D.seen D.may_leave self.old users s L records
             → Halts (stopped_of self.old.server) (stopped_of self.new.server) result }
+        ensures fault { (users : Users) (s : model.Server) (L : Logons) (records : List model.Record)
+            → ShowsBook D.told D.seen D.may_leave self.old users s L records → (count : ℕ) → result ≡ Err (errors.Stopped count)
+            → StopsAtFault (D.faults (disk_of self.old.server)) (D.faults (disk_of self.new.server)) count }
         ensures stops { (count : ℕ) → result ≡ Err (errors.Stopped count) → stopped_of self.new.server ≡ Some count }
     {
         match logon_in(&self.server, &event) {
@@ -135,11 +144,13 @@ impl<D: Disk> Book<D> {
 
 impl<D: Disk> Serve for Book<D> {
     ghost use Rattle.server_core.specs.disk_server.Shown.{ShowsBook};
-    ghost use Rattle.server_core.specs.Shown.{stopped_of};
+    ghost use Rattle.server_core.specs.Shown.{disk_of, stopped_of};
 
     ghost shows = { λ b users s L records. ShowsBook D.told D.seen D.may_leave b users s L records };
 
     ghost stopped = { λ b. stopped_of b.server };
+
+    ghost faults = { λ b. D.faults (disk_of b.server) };
 
     fn event(&mut self, now: u64, event: ServerEvent<'_>) -> Result<Reply, ServeError> {
         match self.server.stopped() {

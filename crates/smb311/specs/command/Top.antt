@@ -1,5 +1,6 @@
 -- How the server's command ends, as the words ask for it, and its status. What `drill` and `gen` come to stands with them.
 use Rattle.std.specs.Prelude.{◌≡◌, ℕ, Bool, false, List, [], ◌∷◌, Option, Some, None}
+use Rattle.journal.specs.declared.disk_journal.journal.JournalError.{JournalError}
 use Rattle.serve_command.specs.server_settings.Words.{is_serve}
 use Rattle.serve_command.specs.declared.server_settings.words.Said.{Said}
 use Rattle.base_outside.specs.declared.streams.address.Address.{Address}
@@ -30,15 +31,15 @@ serve_status JournalFull = 10
 
 -- Of source and sink it is told how often they had failed, before and behind, of a source also what it had left, of a sink what it held,
 -- and of net and disk what is left of them; of the net also what the peers of its links send, if links of its kind tell that, and of two of
--- its states what is all that passed over the link of a number that it accepted between them.
+-- its states what is all that passed over the link of a number that it accepted between them; of a disk why a start on it is refused, and
+-- how that leaves it.
 module _ {D N : Type 0} (told : Type 0) (seen : D → List ℕ) (may_leave : D → List ℕ → Type 0) (faults : D → ℕ)
     (listens_at : N → Option Address) (links : N → ℕ) (net_faults : N → ℕ) (link_told : Type 0) (sent : N → List (List ℕ))
-    (over : (net net' : N) → ℕ → Passage → Type 0) (disk : D) (net : N) (disk' : Option D) (net' : N)
+    (over : (net net' : N) → ℕ → Passage → Type 0) (refuses : (disk left : D) → JournalError → Type 0) (disk : D) (net : N) (disk' : Option D) (net' : N)
     (left left' : Option (List ℕ)) (source source' : ℕ) (written written' : Option (List ℕ)) (sink sink' : ℕ) where
   -- by what the words say: where that is nothing, the usage is printed, and source, net and disk are as they were
   abbrev pub Serves : Option Said → Ending → Type 0
   Serves None ending = (left' ≡ left) × (source' ≡ source) × (net' ≡ net) × (disk' ≡ Some disk)
       × Prints written written' sink sink' usage_line Usage ending
-  Serves (Some said) ending = ServingEnds told seen may_leave faults listens_at links net_faults link_told sent over said disk left left'
-      source source'
-      written written' sink sink' net net' disk' ending
+  Serves (Some said) ending = ServingEnds told seen may_leave faults listens_at links net_faults link_told sent over refuses said disk left left'
+      source source' written written' sink sink' net net' disk' ending

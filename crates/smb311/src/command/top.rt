@@ -2,6 +2,7 @@
 ghost use Rattle.std.specs.Prelude.{◌≡◌, map, true, false, None, Some};
 ghost use Rattle.std.specs.String.{string_bytes};
 ghost use Rattle.rand_core.specs.Stream.{fill_bytes};
+ghost use Rattle.server_core.specs.restart_tables.Restart.{StartRefused};
 ghost use Rattle.serve_command.specs.server_settings.Words.{said};
 ghost use Rattle.serve_turns.specs.link_serving.Passage.{IsOfNet};
 ghost use Rattle.serve_command.specs.declared.ending.Ending.{Ending as ServeEnding};
@@ -48,7 +49,8 @@ where
     // The first word is `serve`: the status is that of an ending of the server's command, and what that ending says holds.
     ensures serves { asks_server (map string_bytes words.now) ≡ true → (ending : ServeEnding) × (result.status ≡ serve_status ending)
         × Serves D.told D.seen D.may_leave D.faults N.listens_at N.accepted N.faults N.L.told N.sent
-        (IsOfNet N.L.told N.L.given N.L.left N.L.written N.L.faults N.L.ended N.L.number N.accepted N.sent) disk net result.disk result.net
+        (IsOfNet N.L.told N.L.given N.L.left N.L.written N.L.faults N.L.ended N.L.number N.accepted N.sent)
+        (StartRefused D.told D.seen D.may_leave D.moment D.left_since D.faults) disk net result.disk result.net
         (S.left source.old)
         (S.left source.new) (S.faults source.old) (S.faults source.new) (O.written sink.old) (O.written sink.new) (O.faults sink.old)
         (O.faults sink.new) (said (map string_bytes words.now)) ending }

@@ -49,7 +49,7 @@ impl<D: Disk + Drop> Runs for Running<D> {
             Ok(server) => Ok(Running {
                 book: Book { alloc, server },
             }),
-            Err(error) => Err(error),
+            Err(refused) => Err(refused.cause),
         }
     }
 

@@ -2,7 +2,7 @@
 // `reserve LENGTH`, `next`, `bodies`.
 use crate::words::{Fault, Words, push_digits};
 use base_outside::Disk;
-use journal::{Journal, JournalError};
+use journal::{Journal, JournalError, RefusedStart};
 use std::alloc::{AllocError, Global};
 use std::fmt::Write;
 
@@ -10,12 +10,12 @@ use std::fmt::Write;
 pub fn push_calls<D: Disk + Drop>(
     said: &mut String,
     alloc: Global,
-    opened: Result<Journal<D>, JournalError>,
+    opened: Result<Journal<D>, RefusedStart<D>>,
     calls: &str,
 ) -> Result<(), Fault> {
     match opened {
         Ok(mut journal) => push_each(said, alloc, &mut journal, calls),
-        Err(error) => Ok(push_refusal(said, error)?),
+        Err(refused) => Ok(push_refusal(said, refused.cause)?),
     }
 }
 

@@ -45,7 +45,7 @@ returns g c = λ server from opening begins. (let over : ℕ → Passage → Typ
           (λ is. subst (λ (n : ℕ). HaveEnds n c.serve_links-served.result.roll.ends.items) most (c.serve_links-served.ensures.ends is))
           accepted;
       goes_on = none_stopped _ _ _ _ _ _ _ _ _ _ tells;
-      whole = whole_of g.D.Disk.told g.D.Disk.seen g.D.Disk.may_leave over all.0 server from
+      whole = whole_of g.D.Disk.told g.D.Disk.seen g.D.Disk.may_leave g.D.Disk.faults over all.0 server from
           (view_of c.serve_links-served.result.roll.seat) c.serve_links-served.result.roll.ends.items c.closed-last.result opens served
           c.closed-last.ensures begins;
       tells = tells;

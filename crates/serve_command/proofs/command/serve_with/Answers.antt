@@ -19,7 +19,8 @@ returns-in-Ok g c = (let begins = c.in-Ok.ensures.holds in
 
 pub returns-in-Err : goal.returns-in-Err
 returns-in-Err g c = inl (
-  c.in-Err.error,
+  c.in-Err.refused.cause,
+  c.in-Err.refused.disk,
   c.in-Err.ensures.refused,
   c.unbegun-ending.ensures,
   (c.watch.ensures.place, c.watch.ensures.accepted, c.watch.ensures.calm, c.watch.ensures.sent),

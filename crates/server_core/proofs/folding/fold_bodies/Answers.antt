@@ -71,6 +71,7 @@ returns-in-Err-fold_body g c = record {
       c.args.journal.now c.loop-body.journal c.next_body.new.self c.args.state.now c.loop-body.state
       c.loop-body.invariant c.next_body.ensures.quiet;
   cause = unfolded_cause g.D.Disk.told g.D.Disk.seen g.D.Disk.may_leave g.D.Disk.moment g.D.Disk.left_since g.D.Disk.faults
-      c.args.journal.now c.next_body.new.self c.next_gate-gate.result c.fold_body.result c.in-Err-fold_body.error c.in-Err-fold_body.is
-      c.fold_body.ensures.cause;
+      c.args.journal.now c.loop-body.journal c.next_body.new.self c.args.state.now c.loop-body.state c.next_gate-gate.result
+      c.in-Ok-Some.body c.in-Ok-Some.field-0 c.next_body.result c.fold_body.result c.in-Err-fold_body.error c.loop-body.invariant
+      c.in-Ok-Some.is c.in-Ok-Some.field-0-is c.next_body.ensures.cause c.in-Err-fold_body.is c.fold_body.ensures.cause;
 }

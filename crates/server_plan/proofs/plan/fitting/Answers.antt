@@ -1,6 +1,6 @@
 use Rattle.std.proofs.Common.{ℕ, List, ap, length, subst, sym, ◌∙◌}
 use Rattle.spec_exchange.specs.Step as steps
-use Rattle.spec_exchange.specs.Step.{carried_out, ruling}
+use Rattle.spec_exchange.specs.Step.{carried_out}
 use Rattle.server_checks.specs.event_heard.Heard.{event_of}
 use Rattle.journal.specs.record_bodies.Body.{IsBodyOf, fits_by}
 use Rattle.server_plan.proofs.Planned.{fitting, lesser}

@@ -107,5 +107,9 @@ pub returns-in-Ok-Some-clause-stops : goal.returns-in-Ok-Some-clause-stops
 returns-in-Ok-Some-clause-stops g c = λ count stop.
     c.event-in-Ok-Some.ensures.stops count (stopped_is c.event-in-Ok-Some.result count stop)
 
+pub returns-in-Ok-Some-clause-fault : goal.returns-in-Ok-Some-clause-fault
+returns-in-Ok-Some-clause-fault g c = λ users s L records shows goes count stop.
+    c.event-in-Ok-Some.ensures.fault users s L records shows goes count (stopped_is c.event-in-Ok-Some.result count stop)
+
 pub returns-in-Ok-Some-clause-short : goal.returns-in-Ok-Some-clause-short
 returns-in-Ok-Some-clause-short g c = short_one c.event-in-Ok-Some.result c.event-in-Ok-Some.ensures.short

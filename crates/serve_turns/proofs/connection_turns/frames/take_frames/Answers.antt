@@ -71,7 +71,8 @@ look_on-requires-clause-due g c = λ history.
     (view_of begun.seat.value)
     (view_of c.args.seat.now) (view_of c.loop.seat) c.args.state.now c.loop.state c.args.stream.now c.loop.stream begun.link.value
     c.args.link.now c.loop.link c.requires.way c.loop.invariant.on in
-    is_due g.L.Link.told g.L.Link.given g.L.Link.left g.L.Link.written g.S.Serve.shows g.S.Serve.stopped begun.guid begun.number
+    is_due g.L.Link.told g.L.Link.given g.L.Link.left g.L.Link.written g.S.Serve.shows g.S.Serve.stopped g.S.Serve.faults begun.guid
+    begun.number
     (view_of begun.seat.value) (view_of c.loop.seat) (view_of c.take_frame.new.seat) c.loop.state c.take_frame.new.state
     c.loop.stream c.next_frame.new.stream c.in-Ok-Some.frame c.in-Ok.answer c.as_slice-text.result.now begun.link.value
     c.loop.link c.next_frame.result way (c.in-Ok-Some.is ∙ ap Ok c.in-Ok-Some.field-0-is) c.next_frame.ensures

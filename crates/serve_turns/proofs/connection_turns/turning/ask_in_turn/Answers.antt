@@ -6,13 +6,15 @@ use Rattle.serve_turns.proofs.connection_turns.turning.ask_in_turn.Goals as goal
 
 pub unreachable-requires : goal.unreachable-requires
 unreachable-requires g c =
-    let step = message_step g.S.Serve.shows g.S.Serve.stopped (view_of c.args.seat.now) (view_of c.apply-answer.new.seat) c.args.now
+    let step = message_step g.S.Serve.shows g.S.Serve.stopped g.S.Serve.faults (view_of c.args.seat.now)
+    (view_of c.apply-answer.new.seat) c.args.now
     c.args.asks c.apply-answer.result.0 c.apply-answer.result.1.place c.apply-answer.ensures.applied in
     some_none c.apply-answer.result.0.frame c.args.asks.frame step.2.frame c.in-None.is
 
 pub returns-clause-asks : goal.returns-clause-asks
 returns-clause-asks g c =
-    let step = message_step g.S.Serve.shows g.S.Serve.stopped (view_of c.args.seat.now) (view_of c.apply-answer.new.seat) c.args.now
+    let step = message_step g.S.Serve.shows g.S.Serve.stopped g.S.Serve.faults (view_of c.args.seat.now)
+    (view_of c.apply-answer.new.seat) c.args.now
     c.args.asks c.apply-answer.result.0 c.apply-answer.result.1.place c.apply-answer.ensures.applied in
     record {
       turn = (

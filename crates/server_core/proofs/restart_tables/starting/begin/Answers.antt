@@ -1,4 +1,6 @@
-use Rattle.server_core.proofs.restart_tables.Behind.{found, leaves_read, quiet_leaves, quiet_still, unfolded}
+use Rattle.std.proofs.Common.{◌∙◌}
+use Rattle.server_core.proofs.restart_tables.Behind.{found, leaves_read, quiet_leaves, quiet_stands, unfolded, unless}
+use Rattle.server_core.proofs.restart_tables.Behind.{unwritten_quiet, written_stands}
 use Rattle.server_core.proofs.restart_tables.starting.begin.Goals as goal
 
 pub returns-in-Ok-opened : goal.returns-in-Ok-opened
@@ -11,19 +13,24 @@ returns-in-Ok-opened g c =
       any_moment = leaves_read g.D.Disk.told g.D.Disk.seen g.D.Disk.may_leave g.D.Disk.moment g.D.Disk.left_since g.D.Disk.faults
           c.args.journal.now c.fold_bodies.new.journal c.write.new.journal c.opened.new.state c.in-Ok-opened.body f
           c.fold_bodies.ensures.quiet c.write.ensures.any_moment;
-      memory = λ e. quiet_still g.D.Disk.told g.D.Disk.seen g.D.Disk.may_leave g.D.Disk.moment g.D.Disk.left_since g.D.Disk.faults
-          c.args.journal.now.disk c.fold_bodies.new.journal.disk c.write.new.journal.disk c.fold_bodies.ensures.quiet
-          (c.write.ensures.memory e);
+      stays = written_stands g.D.Disk.told g.D.Disk.seen g.D.Disk.may_leave g.D.Disk.moment g.D.Disk.left_since g.D.Disk.faults
+          c.args.journal.now c.fold_bodies.new.journal c.write.new.journal c.opened.new.state c.in-Ok-opened.body f
+          c.write.ensures.stays;
+      unwritten = unwritten_quiet g.D.Disk.told g.D.Disk.seen g.D.Disk.may_leave g.D.Disk.moment g.D.Disk.left_since g.D.Disk.faults
+          c.args.journal.now.disk c.fold_bodies.new.journal.disk c.write.new.journal.disk c.write.result c.fold_bodies.ensures.quiet
+          c.write.ensures.unwritten;
       config = c.write.ensures.config;
     }
 
 pub returns-in-Err-opened : goal.returns-in-Err-opened
 returns-in-Err-opened g c = record {
-  answers = λ disk i. (tt, tt);
+  answers = λ disk i. c.in-Ok.ensures.read.1 ∙ i.0.0;
   any_moment = λ t all settled.
       quiet_leaves g.D.Disk.told g.D.Disk.seen g.D.Disk.may_leave g.D.Disk.moment g.D.Disk.left_since g.D.Disk.faults
       c.args.journal.now.disk c.fold_bodies.new.journal.disk all c.fold_bodies.ensures.quiet;
-  memory = λ e. c.fold_bodies.ensures.quiet;
+  stays = quiet_stands g.D.Disk.told g.D.Disk.seen g.D.Disk.may_leave g.D.Disk.moment g.D.Disk.left_since g.D.Disk.faults
+      c.args.journal.now c.fold_bodies.new.journal.disk c.fold_bodies.ensures.quiet;
+  unwritten = c.fold_bodies.ensures.quiet;
   config = tt;
 }
 
@@ -35,6 +42,8 @@ returns-in-Err g c = record {
   any_moment = λ t all settled.
       quiet_leaves g.D.Disk.told g.D.Disk.seen g.D.Disk.may_leave g.D.Disk.moment g.D.Disk.left_since g.D.Disk.faults
       c.args.journal.now.disk c.fold_bodies.new.journal.disk all c.fold_bodies.ensures.quiet;
-  memory = λ e. c.fold_bodies.ensures.quiet;
+  stays = quiet_stands g.D.Disk.told g.D.Disk.seen g.D.Disk.may_leave g.D.Disk.moment g.D.Disk.left_since g.D.Disk.faults
+      c.args.journal.now c.fold_bodies.new.journal.disk c.fold_bodies.ensures.quiet;
+  unwritten = unless c.in-Err.error _ c.fold_bodies.ensures.quiet;
   config = tt;
 }

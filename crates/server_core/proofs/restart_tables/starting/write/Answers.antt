@@ -1,7 +1,6 @@
-use Rattle.std.proofs.Common.{◌≡◌, ℕ, List, subst}
+use Rattle.std.proofs.Common.{ℕ, List, subst}
 use Rattle.spec_wire.specs.journal.Moments.{LeavesOnly}
 use Rattle.journal.specs.disk_journal.Journal.{BeforeOrAfter}
-use Rattle.journal.specs.declared.disk_journal.journal.JournalError.TheVariants.{Memory}
 use Rattle.server_core.proofs.restart_tables.Behind.{not_written, restarted, unwritten}
 use Rattle.server_core.proofs.restart_tables.starting.write.Goals as goal
 
@@ -15,7 +14,10 @@ returns-in-Ok g c = record {
   any_moment = λ t all settled.
       subst (λ (m : List ℕ). LeavesOnly g.D.Disk.moment g.D.Disk.left_since c.args.journal.now.disk c.append.new.self.disk
       (BeforeOrAfter all m)) c.as_slice.ensures (c.in-Ok.ensures.any_moment t all settled);
-  memory = λ e. absurd (cc);
+  stays = λ t all settled.
+      subst (λ (m : List ℕ). BeforeOrAfter all m (g.D.Disk.seen c.append.new.self.disk)) c.as_slice.ensures
+      (c.in-Ok.ensures.stays t all settled);
+  unwritten = tt;
   config = c.tables_of.ensures.config;
 }
 
@@ -27,8 +29,10 @@ returns-in-Err g c = record {
   any_moment = λ t all settled.
       subst (λ (m : List ℕ). LeavesOnly g.D.Disk.moment g.D.Disk.left_since c.args.journal.now.disk c.append.new.self.disk
       (BeforeOrAfter all m)) c.as_slice.ensures (c.in-Err.ensures.any_moment t all settled);
-  memory = λ e. let same : c.in-Err.error ≡ Memory = cc in
-      not_written g.D.Disk.told g.D.Disk.seen g.D.Disk.may_leave g.D.Disk.faults c.args.journal.now c.append.new.self
-      c.as_slice.result.now c.in-Err.error c.in-Err.ensures.cause same;
+  stays = λ t all settled.
+      subst (λ (m : List ℕ). BeforeOrAfter all m (g.D.Disk.seen c.append.new.self.disk)) c.as_slice.ensures
+      (c.in-Err.ensures.stays t all settled);
+  unwritten = not_written g.D.Disk.told g.D.Disk.seen g.D.Disk.may_leave g.D.Disk.faults c.args.journal.now c.append.new.self
+      c.as_slice.result.now c.in-Err.error c.in-Err.ensures.cause;
   config = tt;
 }

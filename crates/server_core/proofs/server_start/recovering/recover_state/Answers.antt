@@ -10,4 +10,4 @@ returns-in-Ok g c = record {
 }
 
 pub returns-in-Err : goal.returns-in-Err
-returns-in-Err g c = record { holds = tt; refused = c.in-Err.ensures.answers; any_moment = tt; config = tt }
+returns-in-Err g c = record { holds = tt; refused = c.in-Err.ensures.refused; any_moment = tt; config = tt }

@@ -1,4 +1,4 @@
-use Rattle.std.proofs.Common.{◌≡◌, ℕ, Option, None, Some, sym, ap, subst, ◌∙◌}
+use Rattle.std.proofs.Common.{◌≡◌, ℕ, Option, None, Some, refl, sym, ap, subst, ◌∙◌}
 use Rattle.conn_core.specs.declared.frame_messages.checked.Checked.{Checked}
 use Rattle.conn_core.specs.frame_messages.Checking.{IsDenied}
 use Rattle.conn_core.specs.message_replies.Replying.{AreMessagesShort, has_message_event}
@@ -21,7 +21,10 @@ returns-in-Some g c =
       halted = λ count was. (
         ap (λ (o : Option ℕ). some_count o) (sym stopped ∙ was),
         was,
+        refl,
       );
+      fault = λ users s L records goes count is.
+          absurd (had_stopped (g.S.Serve.stopped c.args.self.now.server) c.in-Some.count stopped goes.1);
     }
 
 pub returns-in-None : goal.returns-in-None
@@ -35,5 +38,6 @@ returns-in-None g c =
           (sym (ap (λ (q : Checked). has_message_event q) same) ∙ a.event);
       short = c.ask.ensures.short;
       stops = c.ask.ensures.stops;
+      fault = λ users s L records goes count stop. c.ask.ensures.fault users s L records goes.0 goes.1 count stop;
       halted = λ count was. absurd (had_stopped (g.S.Serve.stopped c.args.self.now.server) count was stopped);
     }

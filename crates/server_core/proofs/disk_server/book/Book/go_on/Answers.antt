@@ -1,5 +1,5 @@
 use Rattle.std.proofs.Common.{sym}
-use Rattle.server_core.proofs.disk_server.Serving.{ShownBy, room_halts, room_stops, showing, unchanged}
+use Rattle.server_core.proofs.disk_server.Serving.{ShownBy, room_halts, room_never, room_stops, showing, unchanged}
 use Rattle.server_core.proofs.disk_server.book.Book.go_on.Goals as goal
 
 pub returns-in-Ok : goal.returns-in-Ok
@@ -7,6 +7,7 @@ returns-in-Ok g c = record {
   short = c.go_with.ensures.short;
   serves = λ users s L records h served. c.go_with.ensures.serves users s L records h served (c.in-Ok.ensures s L records h.1);
   halts = λ users s L records h. c.go_with.ensures.halts users s L records h;
+  fault = λ users s L records h count stop. c.go_with.ensures.fault users s L records h count stop;
   stops = λ count stop. c.go_with.ensures.stops count stop;
 }
 
@@ -18,5 +19,6 @@ returns-in-Err g c = record {
       (ShownBy g.D.Disk.told g.D.Disk.seen g.D.Disk.may_leave c.args.self.now.server users) c.args.self.now.server.state
       (showing g.D.Disk.told g.D.Disk.seen g.D.Disk.may_leave c.args.self.now.server users h.0) users s L records _ _ served h.1;
   halts = λ users s L records h. room_halts _ (sym c.requires);
+  fault = λ users s L records h count stop. absurd (room_never count stop);
   stops = λ count stop. room_stops _ count stop;
 }

@@ -1,4 +1,5 @@
-use Rattle.server_core.proofs.disk_server.Serving.{goes_not, halts_stopped, stops_goes, stops_same}
+use Rattle.std.proofs.Common.{refl}
+use Rattle.server_core.proofs.disk_server.Serving.{goes_not, halts_stopped, never_again, stops_goes, stops_same}
 use Rattle.server_core.proofs.disk_server.book.BookServe.event.Goals as goal
 
 pub returns-in-Some : goal.returns-in-Some
@@ -6,7 +7,8 @@ returns-in-Some g c = record {
   short = tt;
   serves = λ users s L records h served. tt;
   halts = λ users s L records h. halts_stopped _ _ c.in-Some.ensures;
-  halted = λ count was. (stops_same _ _ count c.in-Some.ensures was, was);
+  halted = λ count was. (stops_same _ _ count c.in-Some.ensures was, was, refl);
+  fault = λ users s L records h goes count stop. absurd (never_again _ _ c.in-Some.ensures goes);
   stops = λ count stop. stops_goes _ _ count c.in-Some.ensures stop;
 }
 
@@ -15,6 +17,7 @@ returns-in-None g c = record {
   short = c.go_on.ensures.short;
   serves = λ users s L records h served. c.go_on.ensures.serves users s L records h served;
   halts = λ users s L records h. c.go_on.ensures.halts users s L records h;
-  halted = λ count was. goes_not _ count _ _ c.in-None.ensures was;
+  halted = λ count was. goes_not _ count _ _ _ _ c.in-None.ensures was;
+  fault = λ users s L records h goes count stop. c.go_on.ensures.fault users s L records h count stop;
   stops = λ count stop. c.go_on.ensures.stops count stop;
 }
