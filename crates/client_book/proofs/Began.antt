@@ -19,7 +19,8 @@ bound_is b session tree keys s t k = λ i. record { session = s i; tree = t i; k
 
 gives_before : (old mid new : ClientBook) (s : Shared) (told : Told) → LeavesClient old mid → GivesUp mid s told new
     → GivesUp old s told new
-gives_before old mid new s told l (inl (h, e)) = inl (happens_before old mid new _ told l h, e)
+gives_before old mid new s told l (inl (h, e, live)) =
+    inl (happens_before old mid new _ told l h, e, λ c shown. live c (subst (λ (x : Core). ShowsClient x c) (sym l.client) shown))
 gives_before old mid new s told l (inr (r, e, is, live)) =
     inr (rests_before old mid new l r, e, is, λ c shown. live c (subst (λ (x : Core). ShowsClient x c) (sym l.client) shown))
 

@@ -1,5 +1,6 @@
 mod Asked
 mod Began
 mod Lacking
+mod Offered
 mod Read
 mod Turned

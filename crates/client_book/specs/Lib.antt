@@ -1,4 +1,5 @@
 pub mod Asking
 pub mod Beginning
+pub mod Configuring
 pub mod Reading
 pub mod Steps

@@ -148,10 +148,11 @@ failing channel s = opened_by channel (record s { failed = min (s.failed + 1) (2
 abbrev pub Finishes : ClientBook → Why → Told → ClientBook → Type 0
 Finishes old why told new = Happens old (events.Finish why) told new × (shared_of new ≡ finishing (shared_of old))
 
--- Eight connects failed in a row: all is given up. But where a session is live the channel is to keep away from it.
+-- Eight connects failed in a row: all is given up where no session is live. Where one is the channel is to keep away from it.
 abbrev pub GivesUp : ClientBook → Shared → Told → ClientBook → Type 0
 GivesUp old s told new =
-    (Happens old (events.Finish (GaveUp 8)) told new × (shared_of new ≡ finishing s))
+    (Happens old (events.Finish (GaveUp 8)) told new × (shared_of new ≡ finishing s)
+    × ((c : Client) → ShowsClient old.client c → c.live ≡ false))
     ⊎ (Rests old new × (shared_of new ≡ s) × (told ≡ tells.Close)
     × ((c : Client) → ShowsClient old.client c → c.live ≡ true))
 

@@ -1,5 +1,5 @@
-//! What both ends of a drill are set up with by the settings of its script.
+//! What the server of a drill is set up with by the settings of its script.
 
 mod setting;
 
-pub use setting::{client_config, plain_settings, server_config};
+pub use setting::{plain_settings, server_config};

@@ -23,7 +23,7 @@ mod writing;
 pub use crate::drill_setup::plain_settings;
 pub use crate::drill_text::{EndedWorld, end};
 pub use crate::script_run::{Happened, Notes, World, WorldError, drive_event, watch, world_of};
-pub use drill_setup::{client_config, server_config};
+pub use drill_setup::server_config;
 pub use drill_text::{files, text_of};
 pub use ending::Ending;
 pub use running::steps_of;

@@ -1,17 +1,15 @@
-// What both ends are set up with by a script.
+// What the server is set up with by a script.
 ghost use Rattle.std.specs.Prelude.{◌≡◌, ◌++◌, ◌∷◌, [], IfOk, OnOk, false, map};
-ghost use Rattle.law_scripts.specs.script_setup.Scripts.{ciphers_of, seals, signings_of, user_of};
+ghost use Rattle.law_scripts.specs.script_setup.Scripts.{seals, user_of};
 ghost use Rattle.script_words.specs.text_lines.Script.{nothing_given};
 ghost use Rattle.script_words.specs.text_lines.Settings.{settings_of};
-ghost use Rattle.drill_command.specs.drill_setup.Setup.{IsClientOf, IsServerOf};
+ghost use Rattle.drill_command.specs.drill_setup.Setup.{IsServerOf};
 
-use client_ends::ClientConfig;
 use crypto_sessions::Users;
 use script_words::text_lines::Settings;
-use script_words::{Cipher, Given, Signing, User, UserList, with_defaults};
+use script_words::{Cipher, Given, User, UserList, with_defaults};
 use server_checks::Config;
 use std::alloc::{AllocError, Global};
-use wire_bytes::Numbers;
 use wire_commands::Address;
 
 /// One more who may log on.
@@ -60,47 +58,6 @@ pub fn server_config(alloc: Global, settings: &Settings) -> Result<Config, Alloc
             ip: 0x7f00_0001,
             port: 445,
         },
-    })
-}
-
-/// AES-128-CCM, AES-128-GCM, AES-256-CCM and AES-256-GCM are 1 to 4 (MS-SMB2 2.2.3.1.2); the one that is named comes first.
-fn offered_ciphers(alloc: Global, cipher: Cipher) -> Result<Numbers, AllocError>
-    ensures { IfOk result (λ ns. ns ≡ ciphers_of cipher) }
-{
-    match cipher {
-        Cipher::None => Ok(Numbers::new(alloc)),
-        Cipher::Ccm => Numbers::from_slice(alloc, &[1, 2, 4, 3]),
-        Cipher::Gcm => Numbers::from_slice(alloc, &[2, 1, 4, 3]),
-        Cipher::Ccm256 => Numbers::from_slice(alloc, &[3, 2, 1, 4]),
-        Cipher::Gcm256 => Numbers::from_slice(alloc, &[4, 2, 1, 3]),
-    }
-}
-
-/// AES-CMAC 1 and AES-GMAC 2 (MS-SMB2 2.2.3.1.7).
-fn offered_signings(alloc: Global, signing: Signing) -> Result<Numbers, AllocError>
-    ensures { IfOk result (λ ns. ns ≡ signings_of signing) }
-{
-    match signing {
-        Signing::Cmac => Numbers::from_slice(alloc, &[1, 2]),
-        Signing::Gmac => Numbers::from_slice(alloc, &[2, 1]),
-    }
-}
-
-/// What the client of a drill is configured with, who logs on as this user.
-pub fn client_config(
-    alloc: Global,
-    settings: &Settings,
-    user: &User,
-) -> Result<ClientConfig, AllocError>
-    ensures { IfOk result (λ config. IsClientOf settings.now user.now config) }
-{
-    Ok(ClientConfig {
-        user: user.name.copy()?,
-        password: user.password.copy()?,
-        share: settings.share.copy()?,
-        ciphers: offered_ciphers(alloc, settings.cipher)?,
-        signings: offered_signings(alloc, settings.signing)?,
-        guid: *b"smb311-client-01",
     })
 }
 

@@ -5,8 +5,9 @@ ghost use Rattle.law_scripts.specs.script_setup.Scripts.{drill_settings, first_u
 ghost use Rattle.spec_world.specs.Events.{bytes_start};
 ghost use Rattle.world_ends.specs.Shown.{ShowsWorld};
 
-use crate::drill_setup::{client_config, server_config};
+use crate::drill_setup::server_config;
 use crate::settling::{World, begin};
+use client_book::client_config;
 use script_words::User;
 use script_words::text_lines::Settings;
 use std::alloc::{AllocError, Global};
@@ -22,7 +23,7 @@ fn world_as(
         → ShowsWorld (drill_settings settings.now seed) world (bytes_start (drill_settings settings.now seed))) }
 {
     let config = server_config(alloc, settings)?;
-    let client = client_config(alloc, settings, user)?;
+    let client = client_config(alloc, settings, user, *b"smb311-client-01")?;
     begin(alloc, config, *b"smb311-server-01", client, seed)
 }
 

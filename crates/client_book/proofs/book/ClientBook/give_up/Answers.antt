@@ -13,4 +13,6 @@ returns-then-live c =
     ))
 
 pub returns : goal.returns
-returns c = or_then c.give.result c.give.new.self (λ h. inl h) c.give.ensures
+returns c =
+    or_then c.give.result c.give.new.self (λ h. inl (h.0, h.1, λ d shown. sym (c.is_live-live.ensures d shown) ∙ c.if-live.false))
+    c.give.ensures
