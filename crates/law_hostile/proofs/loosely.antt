@@ -1,4 +1,6 @@
 pub mod Lists
 pub mod KindsStay
 pub mod Staying
+pub mod Refusing
+pub mod Hearing
 pub mod Runs

@@ -4,4 +4,7 @@ pub mod sifting
 pub mod loosely
 pub mod unforged
 pub mod puts
+pub mod placed
 pub mod acts
+pub mod empties
+pub mod ids

@@ -5,17 +5,23 @@
 #![tactic(auto)]
 
 mod acts;
+mod empties;
+mod ids;
 mod loosely;
 mod negotiating;
+mod placed;
 mod puts;
 mod sifting;
 mod taken_ids;
 mod unforged;
 
 pub use acts::{acts_are_guarded_law, faulty_acts_not_law};
+pub use empties::lists_are_empty_law;
+pub use ids::own_ids_rise_law;
 pub use loosely::{loose_newer_law, loose_once_law};
 pub use negotiating::repeat_negotiation_law;
-pub use puts::{put_stays_law, signed_was_put_law};
+pub use placed::{heard_is_own_law, signed_for_opening_law};
+pub use puts::{put_stays_law, signed_reply_was_put_law, signed_was_put_law};
 pub use sifting::lists_may_sift_law;
 pub use taken_ids::{frames_take_once_law, opening_takes_once_law, signed_takes_once_law};
 pub use unforged::forged_or_signed_law;

@@ -4,8 +4,9 @@
 
 ghost use Rattle.law_hostile.specs.loosely.LooseRuns.{LooselyNewer, LooselyOnce};
 
-/// On every run, where between its events any message or reply that waits may be lost, or be overtaken by the one behind it: a create,
-/// lock or unlock acts once at most, exactly once where it settled Ok, and hasn't acted where it settled Refused, NoSlot or NoOpen.
+/// On every run, where between its events any message or reply that waits may be lost, or be overtaken by the one behind it, or the server
+/// hears from nowhere one that isn't signed or sealed as owed, or a NEGOTIATE or ECHO: a create, lock or unlock acts once at most, exactly
+/// once where it settled Ok, and hasn't acted so far where it settled Refused, NoSlot or NoOpen.
 pub fn loose_once_law()
     ensures once { LooselyOnce }
 {}

@@ -13,14 +13,14 @@ use Rattle.law_server.proofs.tables.Doors.{by_ruling, Rules}
 use Rattle.law_hostile.specs.acts.Acting.{FaultyActsNot}
 
 -- it is refused with some status
-abbrev IsRefused : Verdict → Type 0
+abbrev pub IsRefused : Verdict → Type 0
 IsRefused v = (status : ℕ) × (v ≡ Refuse status)
 
 owed_refuses : (s : Server) (m : Message) (o : Option ℕ) → is_some o ≡ true → IsRefused (owed s m o)
 owed_refuses s m (Some status) e = (status, refl)
 owed_refuses s m None e = absurd (let q : false ≡ true = e in cc)
 
-check_refuses : (s : Server) (m : Message) → is_some m.fault ≡ true → IsRefused (check s m)
+pub check_refuses : (s : Server) (m : Message) → is_some m.fault ≡ true → IsRefused (check s m)
 check_refuses s m e =
     either IsRefused (is_setup m.command || has_session s m) (owed s m m.fault) (Refuse user_session_deleted)
     (λ _. owed_refuses s m m.fault e) (λ _. (user_session_deleted, refl))

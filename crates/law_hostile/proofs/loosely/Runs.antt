@@ -1,8 +1,8 @@
 -- From what holds in every world of a loose run to once and newer.
-use Rattle.std.proofs.Common.{◌≡◌, ℕ, ◌+◌, ◌≤◌, true, false, if◌then◌else◌, List, [], ◌∷◌, refl, arith, subst, ◌∙◌}
+use Rattle.std.proofs.Common.{◌≡◌, ℕ, ◌+◌, ◌≤◌, Bool, true, false, ◌&&◌, if◌then◌else◌, List, [], ◌∷◌, refl, arith, subst, ◌∙◌}
 use Rattle.spec_exchange.specs.Operations.{Op, Outcome, is_create, is_lock}
-use Rattle.spec_exchange.specs.Network.{World, Settings, run, start}
-use Rattle.spec_exchange.specs.Runs.{acts, is_once, never_acted}
+use Rattle.spec_exchange.specs.Network.{World, Sent, Settings, run, start, answer}
+use Rattle.spec_exchange.specs.Runs.{acts, is_once, never_acted, is_send_of}
 use Rattle.law_server.proofs.tables.Logic.{other_on}
 use Rattle.law_server.proofs.tables.Run.{ServerFits, holds as fits_hold}
 use Rattle.law_records.proofs.recovery.Worlds.{begins as records_begin}
@@ -18,11 +18,12 @@ use Rattle.law_locks.proofs.Law.{locks}
 use Rattle.law_order.specs.order.Newest.{Newest}
 use Rattle.law_order.proofs.order.Newer.{newest}
 use Rattle.law_order.proofs.order.Lower.{below}
-use Rattle.law_hostile.specs.loosely.LooseRuns.{LooseEvent, Meets, Loses, Overtakes, loses, overtakes, loose_happens, loose_run}
-use Rattle.law_hostile.specs.loosely.LooseRuns.{loose_acts_now, loose_acts, LooselyOnce, LooselyNewer}
+use Rattle.law_hostile.specs.loosely.LooseRuns.{LooseEvent, Meets, Loses, Overtakes, Hears, loses, overtakes, loose_happens, loose_run}
+use Rattle.law_hostile.specs.loosely.LooseRuns.{is_idle, heard_apart, loose_acts_now, loose_acts, LooselyOnce, LooselyNewer}
 use Rattle.law_hostile.proofs.loosely.Lists.{loses_sifts, overtakes_sifts}
 use Rattle.law_hostile.proofs.loosely.KindsStay.{begins as kinds_begin}
 use Rattle.law_hostile.proofs.loosely.Staying.{Held, held_keeps, held_sifts}
+use Rattle.law_hostile.proofs.loosely.Hearing.{held_hears}
 
 -- ---- the first world
 
@@ -71,6 +72,14 @@ begins z =
 abbrev loose_after : World → LooseEvent → (ℕ → ℕ) → ℕ → ℕ
 loose_after w e a g = if loose_acts_now w e g then a g + 1 else a g
 
+hears_keeps : (share : List ℕ) (w : World) (a : ℕ → ℕ) (x : Sent) (b : Bool) → is_idle x.message ≡ b → Held share w a
+    → Held share (if b then heard_apart w x (answer w x) else w)
+    (λ g. if b && (is_send_of g x.token && (answer w x).acted) then a g + 1 else a g)
+hears_keeps share w a x true e i =
+    subst (λ b. Held share (heard_apart w x (answer w x))
+    (λ g. if b && (is_send_of g x.token && (answer w x).acted) then a g + 1 else a g)) e (held_hears share w a x e i)
+hears_keeps share w a x false e i = i
+
 event_keeps : (share : List ℕ) (w : World) (a : ℕ → ℕ) (e : LooseEvent) → Held share w a
     → Held share (loose_happens w e) (loose_after w e a)
 event_keeps share w a (Meets e) i = held_keeps share w a e i
@@ -78,6 +87,7 @@ event_keeps share w a (Loses k up place) i =
     held_sifts share w a k (loses (w.conns k) up place) (loses_sifts (w.conns k) up place) i
 event_keeps share w a (Overtakes k up place) i =
     held_sifts share w a k (overtakes (w.conns k) up place) (overtakes_sifts (w.conns k) up place) i
+event_keeps share w a (Hears x) i = hears_keeps share w a x (is_idle x.message) refl i
 
 counts : List LooseEvent → World → (ℕ → ℕ) → ℕ → ℕ
 counts [] w a = a

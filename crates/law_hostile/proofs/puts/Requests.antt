@@ -21,13 +21,13 @@ use Rattle.law_hostile.proofs.puts.Growing.{none_in, event_grows, event_watched,
 
 -- ---- lists
 
-abbrev AllOf : (SignedEntry → Type 0) → List SignedEntry → Type 0
+abbrev pub AllOf : (SignedEntry → Type 0) → List SignedEntry → Type 0
 AllOf P es = (n : ℕ) (e : SignedEntry) → slice_get es n ≡ Some e → P e
 
-none_of_all : (P : SignedEntry → Type 0) → AllOf P []
+pub none_of_all : (P : SignedEntry → Type 0) → AllOf P []
 none_of_all P n e h = absurd (none_in [] n e refl h)
 
-all_with : (P : SignedEntry → Type 0) (x : SignedEntry) (es : List SignedEntry) → P x → AllOf P es → AllOf P (x ∷ es)
+pub all_with : (P : SignedEntry → Type 0) (x : SignedEntry) (es : List SignedEntry) → P x → AllOf P es → AllOf P (x ∷ es)
 all_with P x es p all zero e h = subst P (let q : Some x ≡ Some e = h in cc) p
 all_with P x es p all (suc n) e h = all n e h
 
@@ -37,12 +37,12 @@ all_rest P x es all n e h = all (n + 1) e (rw (add-one) h)
 first_of : (P : SignedEntry → Type 0) (x : SignedEntry) (es : List SignedEntry) → AllOf P (x ∷ es) → P x
 first_of P x es all = all 0 x refl
 
-all_joined : (P : SignedEntry → Type 0) (xs ys : List SignedEntry) → AllOf P xs → AllOf P ys → AllOf P (xs ++ ys)
+pub all_joined : (P : SignedEntry → Type 0) (xs ys : List SignedEntry) → AllOf P xs → AllOf P ys → AllOf P (xs ++ ys)
 all_joined P [] ys a b = b
 all_joined P (x ∷ xs) ys a b =
     all_with P x (xs ++ ys) (first_of P x xs a) (all_joined P xs ys (all_rest P x xs a) b)
 
-dropped : {X : Type 0} (n : ℕ) (xs : List X) (i : ℕ) (x : X) → slice_get (drop n xs) i ≡ Some x → (m : ℕ) × (slice_get xs m ≡ Some x)
+pub dropped : {X : Type 0} (n : ℕ) (xs : List X) (i : ℕ) (x : X) → slice_get (drop n xs) i ≡ Some x → (m : ℕ) × (slice_get xs m ≡ Some x)
 dropped zero xs i x h = (i, h)
 dropped (suc n) [] i x h = (i, h)
 dropped (suc n) (v ∷ xs) i x h = let m = dropped n xs i x h in (m.0 + 1, rw (add-one) m.1)
@@ -83,7 +83,7 @@ stays_put old r es g all n e h way = let w = all n e h way in (w.0, w.1, g.ups w
 
 -- ---- the server's entries are no requests
 
-said_way : (t : Watched) (k : ℕ) (s : Server) (f : ServerEnd) (r : SaidReply) (m : List ℕ) (p : Progress)
+pub said_way : (t : Watched) (k : ℕ) (s : Server) (f : ServerEnd) (r : SaidReply) (m : List ℕ) (p : Progress)
     → (entry_by t k s f r m p).to_server ≡ false
 said_way t k s f r m (Final binding channel encrypts) = refl
 said_way t k s f r m (Interim binding) = refl

@@ -231,10 +231,10 @@ record Took (r : RepeatWorld) (k n id : ℕ) (e : RepeatEvent) : Type 0 where
   pub takes : 1 ≤ times id (ids_now r k e)
   pub opens : is_opened_by r k e ≡ false
 
-same_opening : (j m k n : ℕ) → OnOpening j m ≡ OnOpening k n → (j ≡ k) × (m ≡ n)
+pub same_opening : (j m k n : ℕ) → OnOpening j m ≡ OnOpening k n → (j ≡ k) × (m ≡ n)
 same_opening j m k n e = (cc, cc)
 
-not_session : (s k n : ℕ) → InSession s ≡ OnOpening k n → ⊥
+pub not_session : (s k n : ℕ) → InSession s ≡ OnOpening k n → ⊥
 not_session s k n e = absurd (cc)
 
 here_first : (id : ℕ) (c : Checked) (cs : List Checked) → is_cancel c.header ≡ false → c.header.message ≡ id → 1 ≤ times id (taken_ids_in (c ∷ cs))

@@ -1,7 +1,7 @@
 -- Each event of a repeat run spends of a server's window what it takes.
 use Rattle.std.proofs.Common.{◌≡◌, ℕ, ◌==◌, ◌≤◌, ◌&&◌, Bool, true, false, if◌then◌else◌, List, [], ◌∷◌, refl, sym, ◌∙◌, ap, subst}
 use Rattle.std.proofs.Common.{Option, Some, None, slice_get, eqb-true, arith}
-use Rattle.spec_exchange.specs.Table.{put, is_filled}
+use Rattle.spec_exchange.specs.Table.{is_filled}
 use Rattle.spec_exchange.specs.Network.{Event, Submit, Open, Push, Serve, Take, Cut, Drop, Restart, Crash, Wait, Finish, Sent, is_possible}
 use Rattle.spec_exchange.specs.ClientStep.{Pushes, client_after, act}
 use Rattle.spec_wire.specs.credits.Ids.{times}
@@ -16,14 +16,10 @@ use Rattle.spec_hostile.specs.RepeatRuns.{RepeatWorld, RepeatEvent, Same, Give, 
 use Rattle.spec_hostile.specs.RepeatRuns.{sents, up_frames, uses_no_list, is_heard, own_connection, same_done, given_up, given_down, give_up, give_down, repeat_happens}
 use Rattle.law_hostile.specs.taken_ids.Hands.{ids_heard}
 use Rattle.law_hostile.specs.taken_ids.TakenIds.{ids_given, ids_now, ids_until, is_opened_by, is_open_of}
-use Rattle.law_hostile.proofs.taken_ids.Spending.{Spends, stays, both, step_spends, frame_spends, once_from_first, either}
+use Rattle.law_hostile.proofs.taken_ids.Spending.{Spends, stays, both, step_spends, frame_spends, once_from_first}
+use Rattle.law_server.proofs.tables.Logic.{either}
+use Rattle.law_nonces.proofs.negotiation.Tables.{put_same, put_other}
 use Rattle.law_hostile.proofs.taken_ids.Ends.{put_ends, cut_ends, push_ends, take_ends}
-
-put_same : {X : Type 0} (f : ℕ → X) (k : ℕ) (v : X) → put f k v k ≡ v
-put_same f k v = grind arith
-
-put_other : {X : Type 0} (f : ℕ → X) (k j : ℕ) (v : X) → (j == k) ≡ false → put f k v j ≡ f j
-put_other f k j v e = ap (λ b. if b then v else f j) e
 
 -- of one server's end
 Keeps : ℕ → World → World → Type 0

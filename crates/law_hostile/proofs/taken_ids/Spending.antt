@@ -7,6 +7,7 @@ use Rattle.spec_exchange.specs.State.{Server, Message}
 use Rattle.spec_wire.specs.credits.Ids.{counted, ids_from, is_among, times, outside}
 use Rattle.spec_wire.specs.credits.Window.{HeldIds, first_window, after_take, granted, after_grant}
 use Rattle.law_wire.proofs.credits.Rows.{is_among-in}
+use Rattle.law_server.proofs.tables.Logic.{either}
 use Rattle.law_hostile.proofs.taken_ids.Times.{times-append, times-apart, times-here, times-below, times-above, times-within, times-filter}
 use Rattle.law_hostile.proofs.taken_ids.Times.{times-dropped, holds-times, outside-holds, AllAdded, first_added}
 use Rattle.spec_wire.specs.declared.messages.header.Header.{Header}
@@ -22,10 +23,6 @@ use Rattle.spec_world.specs.Answering.{SaidReply, told_each, server_end_behind, 
 use Rattle.spec_world.specs.Connection.{Going, ConnectionStep, went_all, went_turn, went_heard, heard_message, beginning, answered}
 use Rattle.spec_world.specs.Connection.{step_of}
 use Rattle.law_hostile.specs.taken_ids.Hands.{Hand, end_past, taken_id, taken_ids_in, ids_heard, all_ids}
-
-pub either : {X : Type 0} (P : X → Type 0) (b : Bool) (x y : X) → (b ≡ true → P x) → (b ≡ false → P y) → P (if b then x else y)
-either P true x y f g = f refl
-either P false x y f g = g refl
 
 -- ---- taken, held, or still to be added: for one id never more than before
 

@@ -28,33 +28,33 @@ Decides z t e = Unsigned z t e ⊎ EventSigned z t e
 
 -- ---- a message that a server's end hears: whether it is taken, and then the one entry that it is taken for
 
-abbrev by_setup : {X : Type 0} → Bool → X → X → X
+abbrev pub by_setup : {X : Type 0} → Bool → X → X → X
 by_setup true x y = x
 by_setup false x y = y
 
-abbrev up_secret : Watched → ℕ → Checked → Secret
+abbrev pub up_secret : Watched → ℕ → Checked → Secret
 up_secret t k c = by_setup (is_setup c.header) (t.in_session c.header.session) (t.on_connection k)
 
-abbrev up_place : Watched → ℕ → Checked → KeyPlace
+abbrev pub up_place : Watched → ℕ → Checked → KeyPlace
 up_place t k c = by_setup (is_setup c.header) (InSession c.header.session) (opening_of t.repeating k)
 
-abbrev up_entry : Watched → ℕ → Checked → SignedEntry
+abbrev pub up_entry : Watched → ℕ → Checked → SignedEntry
 up_entry t k c = record { to_server = true; secret = up_secret t k c; place = up_place t k c; message = c.raw }
 
-abbrev up_verifies : Watched → ServerEnd → Checked → Bool → Bool
+abbrev pub up_verifies : Watched → ServerEnd → Checked → Bool → Bool
 up_verifies t f c true =
     t.repeating.world.values.server.present c.header.session
     && verifies (t.repeating.world.logons.keys c.header.session).signing c.raw
 up_verifies t f c false = signed_by f.keys c.raw
 
-abbrev is_taken_up : Watched → ServerEnd → Checked → Bool
+abbrev pub is_taken_up : Watched → ServerEnd → Checked → Bool
 is_taken_up t f c = has_bit c.header.flags 8 && (is_none c.fault && up_verifies t f c (is_setup c.header))
 
 none_is : {X : Type 0} (o : Option X) → is_none o ≡ true → o ≡ None
 none_is None e = refl
 none_is (Some x) e = absurd (let t : false ≡ true = e in cc)
 
-is_none_of : {X : Type 0} (o : Option X) → o ≡ None → is_none o ≡ true
+pub is_none_of : {X : Type 0} (o : Option X) → o ≡ None → is_none o ≡ true
 is_none_of o e = ap is_none e
 
 verified_up : (t : Watched) (k : ℕ) (f : ServerEnd) (c : Checked) (b : Bool) (m : List ℕ) → up_verifies t f c b ≡ true
@@ -70,7 +70,7 @@ verified_up t k f c true m e =
     (front_of x y e, back_of x y e, refl, refl)
 verified_up t k f c false m e = (e, refl, refl)
 
-taken_up : (t : Watched) (k : ℕ) (f : ServerEnd) (c : Checked) → is_taken_up t f c ≡ true → TakenUp t k f c (up_entry t k c)
+pub taken_up : (t : Watched) (k : ℕ) (f : ServerEnd) (c : Checked) → is_taken_up t f c ≡ true → TakenUp t k f c (up_entry t k c)
 taken_up t k f c e =
     let b = has_bit c.header.flags 8 in
     let n = is_none c.fault in

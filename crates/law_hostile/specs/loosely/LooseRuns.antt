@@ -1,10 +1,13 @@
--- Runs of the model of values on a network that also loses single messages and delivers them in another order: between its events a
--- message or a reply that waits is lost, or the one behind it overtakes it.
-use Rattle.std.specs.Prelude.{◌≡◌, ℕ, zero, suc, ◌+◌, ◌≤◌, Bool, true, false, if◌then◌else◌, List, [], ◌∷◌}
+-- Runs of the model of values on a network that also loses single messages, delivers them in another order, and gives the server
+-- messages that none of its lists has: between its events a message or a reply that waits is lost, or the one behind it overtakes it,
+-- or the server hears one that isn't signed or sealed as owed, or asks for nothing, and its answer goes nowhere.
+use Rattle.std.specs.Prelude.{◌≡◌, ℕ, zero, suc, ◌+◌, ◌≤◌, Bool, true, false, ◌&&◌, ◌||◌, if◌then◌else◌, List, [], ◌∷◌, is_some}
 use Rattle.spec_exchange.specs.Table.{put}
+use Rattle.spec_exchange.specs.Commands.{Command, Aside}
+use Rattle.spec_exchange.specs.State.{Message, Answer, no_later}
 use Rattle.spec_exchange.specs.Operations.{is_ok}
-use Rattle.spec_exchange.specs.Network.{World, Event, Conn, Settings, happens, start}
-use Rattle.spec_exchange.specs.Runs.{acts_now, is_once, never_acted}
+use Rattle.spec_exchange.specs.Network.{World, Event, Conn, Sent, Settings, happens, start, with_answer, answer, traced, logged}
+use Rattle.spec_exchange.specs.Runs.{acts_now, is_once, is_send_of, never_acted}
 use Rattle.spec_exchange.specs.Statements.{NeverAfterNewer}
 
 -- ---- lists, whose places count from 0
@@ -36,14 +39,33 @@ pub data LooseEvent : Type 0 where
   Meets : (event : Event) → LooseEvent
   Loses : (k : ℕ) (up : Bool) (place : ℕ) → LooseEvent
   Overtakes : (k : ℕ) (up : Bool) (place : ℕ) → LooseEvent
+  Hears : (sent : Sent) → LooseEvent  -- the server, what no list has; a message that may act is none
 
 abbrev pub with_connection : World → ℕ → Conn → World
 with_connection w k c = record w { conns = put w.conns k c }
+
+-- NEGOTIATE and ECHO
+abbrev pub is_aside : Command → Bool
+is_aside (Aside status) = true
+is_aside _ = false
+
+-- it isn't signed or sealed as owed, or asks for nothing
+abbrev pub is_idle : Message → Bool
+is_idle m = is_some m.fault || is_aside m.command
+
+-- the step is taken, its records and its place in the log stand, and no list changes
+abbrev pub heard_apart : World → Sent → Answer → World
+heard_apart w x A = record (with_answer w A) {
+  moment = no_later (w.moment + 1);
+  log = logged w x A (traced w x A);
+  trace = traced w x A;
+}
 
 abbrev pub loose_happens : World → LooseEvent → World
 loose_happens w (Meets e) = happens w e
 loose_happens w (Loses k up place) = with_connection w k (loses (w.conns k) up place)
 loose_happens w (Overtakes k up place) = with_connection w k (overtakes (w.conns k) up place)
+loose_happens w (Hears x) = if is_idle x.message then heard_apart w x (answer w x) else w
 
 unfoldable pub loose_run : List LooseEvent → World → World
 loose_run [] w = w
@@ -53,6 +75,7 @@ abbrev pub loose_acts_now : World → LooseEvent → ℕ → Bool
 loose_acts_now w (Meets e) g = acts_now w e g
 loose_acts_now w (Loses k up place) g = false
 loose_acts_now w (Overtakes k up place) g = false
+loose_acts_now w (Hears x) g = is_idle x.message && (is_send_of g x.token && (answer w x).acted)
 
 unfoldable pub loose_acts : List LooseEvent → World → ℕ → ℕ
 loose_acts [] w g = 0

@@ -1,5 +1,5 @@
--- What was put and what was signed in a repeat run stays, and each request that was signed was put.
-use Rattle.std.specs.Prelude.{◌≡◌, ℕ, true, List, Some, slice_get}
+-- What was put and what was signed in a repeat run stays, and each message that was signed was put.
+use Rattle.std.specs.Prelude.{◌≡◌, ℕ, true, false, List, ◌++◌, Some, slice_get}
 use Rattle.spec_world.specs.Settings.{WorldSettings}
 use Rattle.spec_hostile.specs.RepeatRuns.{RepeatWorld, RepeatEvent, UpFrame, DownFrame, repeat_run, repeat_start}
 use Rattle.spec_hostile.specs.SignedFor.{Watched, SignedEntry, watching, watched_run}
@@ -31,3 +31,19 @@ SignedWasPut =
     (z : WorldSettings) (es : List RepeatEvent) (i : ℕ) (e : SignedEntry)
     → slice_get (watched_run z es (watching (repeat_start z))).signed i ≡ Some e → e.to_server ≡ true
     → WasPutUp (repeated z es) e.message
+
+-- these bytes stand in those in one piece
+pub record IsPiece (m bytes : List ℕ) : Type 0 where
+  pub before : List ℕ
+  pub behind : List ℕ
+  pub joined : bytes ≡ before ++ (m ++ behind)
+
+-- these bytes stand in one piece in a frame that was put down
+abbrev pub WasPutDown : RepeatWorld → List ℕ → Type 0
+WasPutDown r m = (n : ℕ) × (d : DownFrame) × (slice_get r.downs n ≡ Some d) × IsPiece m d.frame
+
+abbrev pub SignedReplyWasPut : Type 0
+SignedReplyWasPut =
+    (z : WorldSettings) (es : List RepeatEvent) (i : ℕ) (e : SignedEntry)
+    → slice_get (watched_run z es (watching (repeat_start z))).signed i ≡ Some e → e.to_server ≡ false
+    → WasPutDown (repeated z es) e.message
