@@ -3,4 +3,5 @@ mod Files
 mod Opens
 mod Ranges
 mod Tables
-mod Whole
+pub mod Whole
+pub mod Fitting

@@ -3,8 +3,14 @@
 #![tactic(auto)]
 
 pub mod behind;
+pub mod checksums;
+pub mod drafts;
 pub mod examples;
+pub mod restarts;
 pub mod snapshots;
 
 pub use behind::{alike_law, behind_law};
-pub use snapshots::{held_law, snapshot_law};
+pub use checksums::{changed_byte_law, checksum_law, summed_law};
+pub use drafts::{compaction_law, cost_law, draft_law};
+pub use restarts::restart_over_law;
+pub use snapshots::{held_law, snapshot_fits_law, snapshot_law};

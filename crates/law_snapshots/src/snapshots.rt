@@ -4,8 +4,12 @@
 
 ghost use Rattle.std.specs.Prelude.{◌≡◌, ℕ, List, [], ◌++◌, length};
 ghost use Rattle.spec_exchange.specs.State.{Server};
-ghost use Rattle.law_snapshots.specs.snapshots.Kept.{SnapshotKeeps, parts_joined, patches_of};
-ghost use Rattle.law_snapshots.specs.snapshots.Pieces.{FileBytes, shown};
+ghost use Rattle.law_records.specs.fold.Order.{FilesAscend};
+ghost use Rattle.law_server.specs.tables.Fits.{Fits};
+ghost use Rattle.law_snapshots.specs.snapshots.Kept.{ListsGuids, SnapshotKeeps, TellsBytes, parts_joined, patches_of};
+ghost use Rattle.law_snapshots.specs.snapshots.Pieces.{FileBytes, shown, snapshot, unfolded};
+
+use law_records::keeps_law;
 
 /// Of a server that fits together, with its files in the order of their numbers: what its snapshot stands for is all that outlives a
 /// restart of it, its files with their bytes, its persistent opens with their rows, slots, guids and ranges in their order, the guids
@@ -13,6 +17,18 @@ ghost use Rattle.law_snapshots.specs.snapshots.Pieces.{FileBytes, shown};
 pub fn snapshot_law()
     ensures { (s : Server) (held : ℕ → FileBytes) (guids : List (ℕ × ℕ)) → SnapshotKeeps s held guids }
 {}
+
+/// What the snapshot of a server that fits together stands for fits together too (`fits`), with its files in the order of their numbers
+/// (`ascends`); and so does what no pieces stand for, whatever is stored beside the journal (`none`).
+pub fn snapshot_fits_law()
+    ensures fits { (s : Server) (held : ℕ → FileBytes) (guids : List (ℕ × ℕ)) → Fits s → FilesAscend s → TellsBytes s held
+        → ListsGuids s guids → Fits (unfolded (snapshot s held guids) s.stored) }
+    ensures ascends { (s : Server) (held : ℕ → FileBytes) (guids : List (ℕ × ℕ)) → Fits s → FilesAscend s → TellsBytes s held
+        → ListsGuids s guids → FilesAscend (unfolded (snapshot s held guids) s.stored) }
+    ensures none { (stored : ℕ → List ℕ) → Fits (unfolded [] stored) }
+{
+    keeps_law();
+}
 
 /// Two ways to tell a file's bytes: nothing of it stored, and all parts of it one behind the other, cut anywhere (`cut`); or all of
 /// it stored, with any bytes behind, and nothing told (`stored`).

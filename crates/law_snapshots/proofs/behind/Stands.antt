@@ -1,5 +1,5 @@
 -- Each event of the server, and an expiry that stands alone, over any state that mirrors it: so over a snapshot with records behind.
-use Rattle.std.proofs.Common.{◌≡◌, ℕ, ◌+◌, nat_le, nat_lt, Bool, true, false, List, [], ◌∷◌, ◌++◌, arith, sym, subst, ap}
+use Rattle.std.proofs.Common.{◌≡◌, ℕ, nat_le, nat_lt, Bool, true, false, List, [], ◌∷◌, ◌++◌, arith, sym, subst, ap}
 use Rattle.std.proofs.Common.{Option, Some, None, is_some, refl}
 use Rattle.std.proofs.lemmas.Bool.Decides.{nat_tests}
 use Rattle.spec_exchange.specs.State.{Server, ServerEvent, Accept, Heard, End, Record, Origin}

@@ -1,5 +1,5 @@
 -- Pieces of opens, ranges and guids leave the files alone.
-use Rattle.std.proofs.Common.{◌≡◌, ℕ, ◌+◌, Bool, true, false, ◌&&◌, List, [], ◌∷◌, ◌++◌, Option, Some, None, zero, suc}
+use Rattle.std.proofs.Common.{◌≡◌, ℕ, Bool, true, false, ◌&&◌, List, [], ◌∷◌, ◌++◌, Option, Some, None, zero, suc}
 use Rattle.std.proofs.Common.{refl, sym, ap, subst, ◌∙◌, arith}
 use Rattle.spec_exchange.specs.Commands.{Basic}
 use Rattle.spec_exchange.specs.State.{Server, Entry, Range, Kept}

@@ -6,8 +6,9 @@ use Rattle.spec_exchange.specs.State.{Server, Entry, Range}
 use Rattle.spec_exchange.specs.Files.{root, exists, exists_in}
 use Rattle.spec_exchange.specs.Fold.{persistent_in, stays, stays_by_guid, ranges_that_stay}
 use Rattle.law_server.specs.tables.Fits.{Fits}
+use Rattle.law_records.specs.fold.Order.{FilesAscend}
 use Rattle.law_snapshots.specs.snapshots.Pieces.{FileBytes, with_pieces, file_pieces, open_pieces, range_pieces, all_range_pieces, guid_pieces, snapshot, unfolded}
-use Rattle.law_snapshots.specs.snapshots.Kept.{ListsGuids, OpensKept, CountsKept, SnapshotKeeps, has_pair}
+use Rattle.law_snapshots.specs.snapshots.Kept.{ListsGuids, TellsBytes, OpensKept, CountsKept, SnapshotKeeps, has_pair}
 use Rattle.law_snapshots.proofs.snapshots.Files.{behind_both, Walked}
 use Rattle.law_snapshots.proofs.snapshots.Tables.{based, files_walked, files_kept, no_root, behind_files}
 use Rattle.law_snapshots.proofs.snapshots.Opens.{Opened, opened_all, told_of, has_persistent, ascending_persistent}
@@ -132,9 +133,12 @@ chain_counts s guids t o q r g c fits l =
     zero_more : (n : ℕ) → 0 + n ≡ n
     zero_more n = omega arith
 
-pub snapshot_keeps : (s : Server) (held : ℕ → FileBytes) (guids : List (ℕ × ℕ)) → SnapshotKeeps s held guids
+-- the states that the parts of a snapshot lead to, one behind the other
+pub chained : (s : Server) (held : ℕ → FileBytes) (guids : List (ℕ × ℕ)) → Fits s → FilesAscend s → TellsBytes s held
+    → (t : Server) × (o : Server) × (q : Server) × (r : Server) × (g : Server) × Chain s guids t o q r g
+    × (unfolded (snapshot s held guids) s.stored ≡ g)
 unfolding with_pieces
-snapshot_keeps s held guids i ascend told lists =
+chained s held guids i ascend told =
     let os : List ℕ = persistent_in s.opened s.opens in
     let t : Server = with_pieces (based s) (file_pieces s held s.entries) in
     let o : Server = with_pieces t (open_pieces s os) in
@@ -162,8 +166,20 @@ snapshot_keeps s held guids i ascend told lists =
     ∙ behind_both t (open_pieces s os) _
     ∙ behind_both o (range_pieces (ranges_that_stay s (s.ranges root))) _
     ∙ behind_both q (all_range_pieces s s.entries) (guid_pieces guids) in
+    (t, o, q, r, g, c, whole)
+
+pub snapshot_keeps : (s : Server) (held : ℕ → FileBytes) (guids : List (ℕ × ℕ)) → SnapshotKeeps s held guids
+snapshot_keeps s held guids i ascend told lists =
+    let x = chained s held guids i ascend told in
     record {
       files = files_kept s held guids i ascend told;
-      opens = subst (λ (x : Server). OpensKept x s) (sym whole) (chain_opens s guids t o q r g c i);
-      counts = subst (λ (x : Server). CountsKept x s) (sym whole) (chain_counts s guids t o q r g c i lists);
+      opens = subst (λ (y : Server). OpensKept y s) (sym x.6) (chain_opens s guids x.0 x.1 x.2 x.3 x.4 x.5 i);
+      counts = subst (λ (y : Server). CountsKept y s) (sym x.6) (chain_counts s guids x.0 x.1 x.2 x.3 x.4 x.5 i lists);
     }
+
+-- it gives as many ids of opens as the server did
+pub snapshot_given : (s : Server) (held : ℕ → FileBytes) (guids : List (ℕ × ℕ)) → Fits s → FilesAscend s → TellsBytes s held
+    → (unfolded (snapshot s held guids) s.stored).open_ids_given ≡ s.open_ids_given
+snapshot_given s held guids i ascend told =
+    let x = chained s held guids i ascend told in
+    ap (λ (y : Server). y.open_ids_given) x.6 ∙ (chain_apart s guids x.0 x.1 x.2 x.3 x.4 x.5).2

@@ -1,5 +1,5 @@
 -- A small state: a file that is open since the epoch before, a gap in the numbers, a file in a directory, a lock, a mark.
-use Rattle.std.specs.Prelude.{ℕ, ◌==◌, true, false, if◌then◌else◌, List, [], ◌∷◌, take, drop, Some, None, length}
+use Rattle.std.specs.Prelude.{ℕ, ◌==◌, true, false, if◌then◌else◌, List, [], ◌∷◌, take, drop, Some, None}
 use Rattle.spec_exchange.specs.Commands.{has_bit, deletes_on_close}
 use Rattle.spec_exchange.specs.Content.{padded, is_empty, written, ended, meets, same_bytes}
 use Rattle.spec_exchange.specs.State.{Server, Record, NewOpen, Origin, EpochRecord, CreateRecord, WriteRecord, DeleteRecord, RemoveRecord}

@@ -1,0 +1,8 @@
+use Rattle.std.proofs.Common.{refl}
+use Rattle.spec_wire.specs.messages.Places.{le}
+use Rattle.law_snapshots.specs.checksums.Castagnoli.{coefficients, times_x, times_power, behind_byte, behind_bytes, crc32c}
+use Rattle.law_snapshots.proofs.checksums.summed_example.Goals as goal
+
+pub returns : goal.returns
+unfolding coefficients times_x times_power behind_byte behind_bytes crc32c le
+returns c = refl

@@ -1,0 +1,3 @@
+mod Openings
+pub mod Sessionless
+pub mod Again

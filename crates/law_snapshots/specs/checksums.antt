@@ -1,0 +1,3 @@
+pub mod Castagnoli
+pub mod Vectors
+pub mod Summed
