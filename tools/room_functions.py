@@ -24,33 +24,41 @@ def module_of(path):
 
 
 def owner_of(lines, at):
-    """The type of the block that a line stands in, and the block's trait: ("", "") outside, (type, "") in a type's own block."""
+    """The type of the block that a line stands in, the block's trait, and the types that this names: "" where there is none."""
     head = next((BLOCK.match(lines[up]) for up in range(at, -1, -1) if BLOCK.match(lines[up])), None)
     if lines[at][:1] != " " or not head:
-        return "", ""
+        return "", "", ""
     words = head[2]
+    depth = at = 0
+    while words.startswith("<") and (depth or not at):
+        depth += {"<": 1, ">": -1}.get(words[at], 0)
+        at += 1
+    given = "".join(re.findall(r"\w+", words[at:].split(" for ")[0].partition("<")[2]))
     while re.search(r"<[^<>]*>", words):
         words = re.sub(r"<[^<>]*>", "", words)
     found = re.match(r"\s*(?:([\w:]+) for )?(&mut |&)?([\w:]+)", words)
     name = {"&mut ": "RefMut", "&": "Ref"}.get(found[2], "") or found[3].split("::")[-1]
-    return name, name if head[1] == "trait" else (found[1] or "").split("::")[-1]
+    return name, name if head[1] == "trait" else (found[1] or "").split("::")[-1], given
 
 
 class Function:
     """Lines are counted from 0: `first` with its attributes, `head`, `brace` where its body opens, `last` where it closes.
 
-    `owner` and `trait` are as owner_of tells them, and `path` has the words by which the prover names it, below the room."""
+    `owner` and `trait` are as owner_of tells them, `path` has the words by which the prover names it, below the room, and `guess` those by
+    which it mostly names a method of a trait."""
 
     def __init__(self, file, lines, head, types):
         self.file, self.head, self.first = file, head, head
         self.indent, self.name = HEAD.match(lines[head]).groups()
-        self.owner, self.trait = owner_of(lines, head)
+        self.owner, self.trait, given = owner_of(lines, head)
         while self.first and re.match(self.indent + r"(///|//|#\[|\)|    )", lines[self.first - 1]):
             self.first -= 1
         self.brace = self.opening(lines)
         self.last = self.brace and next(at for at in range(self.brace, len(lines)) if lines[at] == self.indent + "}")
         # the prover names a method by the module of its type
-        self.path = [*types.get(self.owner, module_of(file)), *[self.owner] * bool(self.owner), self.name]
+        module = types.get(self.owner, module_of(file))
+        self.path = [*module, *[self.owner] * bool(self.owner), self.name]
+        self.guess = [*module, self.owner + self.trait + given, self.name]
 
     def opening(self, lines):
         """where the body opens, or None where the function has none on lines of its own"""
