@@ -5,6 +5,7 @@ import re
 
 HEAD = re.compile(r"( *)(?:pub(?:\([^)]*\))? )?(?:const )?(?:unsafe )?fn (\w+)")
 BLOCK = re.compile(r"(?:pub(?:\([^)]*\))? )?(?:unsafe )?(impl|trait)\b(.*)")
+ALIAS = re.compile(r"(?m)^(?:pub(?:\([^)]*\))? )?type (\w+)<(\w+)> =")
 TYPE = re.compile(r"(?m)^(?:pub(?:\([^)]*\))? )?(?:struct|enum) (\w+)")
 
 
@@ -33,7 +34,8 @@ def owner_of(lines, at):
     while words.startswith("<") and (depth or not at):
         depth += {"<": 1, ">": -1}.get(words[at], 0)
         at += 1
-    given = "".join(re.findall(r"\w+", words[at:].split(" for ")[0].partition("<")[2]))
+    own = re.findall(r"\w+", words[:at])
+    given = "".join(word for word in re.findall(r"\w+", words[at:].split(" for ")[0].partition("<")[2]) if word not in own)
     while re.search(r"<[^<>]*>", words):
         words = re.sub(r"<[^<>]*>", "", words)
     found = re.match(r"\s*(?:([\w:]+) for )?(&mut |&)?([\w:]+)", words)
@@ -47,7 +49,7 @@ class Function:
     `owner` and `trait` are as owner_of tells them, `path` has the words by which the prover names it, below the room, and `guess` those by
     which it mostly names a method of a trait."""
 
-    def __init__(self, file, lines, head, types):
+    def __init__(self, file, lines, head, types, aliases):
         self.file, self.head, self.first = file, head, head
         self.indent, self.name = HEAD.match(lines[head]).groups()
         self.owner, self.trait, given = owner_of(lines, head)
@@ -57,7 +59,8 @@ class Function:
         self.last = self.brace and next(at for at in range(self.brace, len(lines)) if lines[at] == self.indent + "}")
         # the prover names a method by the module of its type
         module = types.get(self.owner, module_of(file))
-        self.path = [*module, *[self.owner] * bool(self.owner), self.name]
+        owner = self.owner + aliases.get(self.owner, "")
+        self.path = [*module, *[owner] * bool(owner), self.name]
         self.guess = [*module, self.owner + self.trait + given, self.name]
 
     def opening(self, lines):
@@ -74,8 +77,10 @@ class Function:
 def functions_in(texts):
     """those of all files that have a body on lines of its own"""
     types = {name: module_of(file) for file, text in texts.items() for name in TYPE.findall(text)}
+    # the prover names a type that is another's name for some arguments by these too
+    aliases = {name: "+" + given for text in texts.values() for name, given in ALIAS.findall(text)}
     found = []
     for file, text in texts.items():
         lines = text.split("\n")
-        found += [Function(file, lines, at, types) for at, line in enumerate(lines) if HEAD.match(line)]
+        found += [Function(file, lines, at, types, aliases) for at, line in enumerate(lines) if HEAD.match(line)]
     return [each for each in found if each.brace]
