@@ -5,4 +5,4 @@ mod checked;
 mod checking;
 
 pub use checked::{Checked, CheckedFrame};
-pub use checking::{check, is_probe};
+pub use checking::{check, check_own, is_probe};

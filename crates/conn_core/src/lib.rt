@@ -22,7 +22,7 @@ mod taking;
 pub use conn::{Conn, Greeting, Logon, Progress};
 pub use end::{ConnEnd, Ended};
 pub use frame_events::{Dealt, Moment, ask, carry_out, dealt_for, goes, hand_on, refuse};
-pub use frame_messages::{Checked, CheckedFrame, check, is_probe};
+pub use frame_messages::{Checked, CheckedFrame, check, check_own, is_probe};
 pub use logon_state::Behind;
 pub use lone_server::take_own;
 pub use message_replies::{Answers, has_event};

@@ -1,5 +1,5 @@
 //! A whole frame over a server (MS-SMB2 3.3.5.2).
-ghost use Rattle.std.specs.Prelude.{◌≡◌, ◌≤◌, ℕ, [], true, false, List, length, vec_capacity, if◌then◌else◌, Some};
+ghost use Rattle.std.specs.Prelude.{◌≡◌, ◌≤◌, [], true, false, List, length, vec_capacity, if◌then◌else◌, Some};
 ghost use Rattle.spec_exchange.specs.Status.{no_memory};
 ghost use Rattle.spec_exchange.specs.State.{Record, Server};
 ghost use Rattle.spec_crypto.specs.sessions.Nonces.{last_counter};

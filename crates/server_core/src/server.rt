@@ -44,8 +44,8 @@ impl<D: Disk> Server<D> {
     ///
     /// `NotAJournal` has the place where the bytes are no journal, or the gate of the first body that no server writes; `Full` what the
     /// journal would use with the epoch, and its limit; `DiskFault` the count of faults, which rose; `Memory` may come at any read.
-    /// Where it refuses, it hands back the disk: as it was where its bytes are no journal, and else with the bodies that it stood for,
-    /// where it failed maybe with the epoch's behind them.
+    /// Where it refuses, it hands back the disk: as it was where its bytes break the grammar, and else with the bodies that it stood
+    /// for, where it failed maybe with the epoch's behind them.
     pub fn recover(alloc: Global, disk: D, config: Config) -> Result<Server<D>, RefusedStart<D>>
         ensures holds { IfOk result (λ c. ServerBegins D.told D.seen D.may_leave D.faults config disk (state_of c)) }
         ensures refused { IfErr result (λ r. StartRefused D.told D.seen D.may_leave D.moment D.left_since D.faults disk r.disk r.cause) }

@@ -14,7 +14,7 @@ use crate::conn::Conn;
 use crate::end::ConnEnd;
 use crate::frame_messages::checked::{Checked, CheckedFrame};
 use crypto_sessions::{Keys, unseal_in_place, verify};
-use std::alloc::Global;
+use std::alloc::{AllocError, Global};
 use wire_bytes::{Header, HeaderError, Parts, Span, read_header, split_compound, u16_at};
 
 /// The most bytes of a frame's message.
@@ -357,19 +357,19 @@ fn is_too_long(conn: &Conn, frame: &[u8]) -> bool
 
 /// Checks a whole frame before any message of it is carried out: it is opened where it is sealed, split, each message
 /// is admitted by its command and its ids, and its signature is verified. An end says why the connection ends, and
-/// then nothing of the frame is carried out. `now` is kept for a NEGOTIATE's response. The frame is copied once.
-pub fn check(conn: &mut Conn, frame: &[u8], now: u64) -> Result<CheckedFrame, ConnEnd>
+/// then nothing of the frame is carried out. `now` is kept for a NEGOTIATE's response. The frame is opened where it stands,
+/// and FileIds are written into its related messages.
+pub fn check_own(conn: &mut Conn, frame: Vec<u8>, now: u64) -> Result<CheckedFrame, ConnEnd>
     ensures order { IfOk result (λ x. AreInOrder x) }
     ensures denied { IfOk result (λ x. AreDenied x) }
     ensures checks { (k : ℕ) (guid : List ℕ) (f : ServerEnd) → ShowsEnd k guid conn.old f
-        → Checks k guid (hearing.check_frame f frame.now) now conn.new result }
+        → Checks k guid (hearing.check_frame f frame.items) now conn.new result }
 {
-    if is_too_long(conn, frame) {
+    if is_too_long(conn, frame.as_slice()) {
         return Err(ConnEnd::BadFrame);
     }
-    // A copy, since it is opened in place, and FileIds are written into its related messages.
-    let mut bytes = Vec::from_slice(conn.alloc, frame)?;
-    let sealed = begins_sealed(frame);
+    let sealed = begins_sealed(frame.as_slice());
+    let mut bytes = frame;
     let from = match text_at(conn.logon.keys.as_ref(), sealed, bytes.as_mut_slice()) {
         Ok(from) => from,
         Err(cause) => return Err(cause),
@@ -382,5 +382,18 @@ pub fn check(conn: &mut Conn, frame: &[u8], now: u64) -> Result<CheckedFrame, Co
             moment: now,
         }),
         Err(cause) => Err(cause),
+    }
+}
+
+/// The same of a frame that stays, of which it takes a copy.
+pub fn check(conn: &mut Conn, frame: &[u8], now: u64) -> Result<CheckedFrame, ConnEnd>
+    ensures order { IfOk result (λ x. AreInOrder x) }
+    ensures denied { IfOk result (λ x. AreDenied x) }
+    ensures checks { (k : ℕ) (guid : List ℕ) (f : ServerEnd) → ShowsEnd k guid conn.old f
+        → Checks k guid (hearing.check_frame f frame.now) now conn.new result }
+{
+    match Vec::from_slice(conn.alloc, frame) {
+        Ok(bytes) => check_own(conn, bytes, now),
+        Err(AllocError) => Err(ConnEnd::Memory),
     }
 }

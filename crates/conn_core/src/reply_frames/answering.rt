@@ -1,5 +1,5 @@
 //! The answer to a frame, and the connection behind it (MS-SMB2 3.3.4.1, 3.3.5.5).
-ghost use Rattle.std.specs.Prelude.{◌≡◌, ℕ, List, [], Option, option_copied};
+ghost use Rattle.std.specs.Prelude.{◌≡◌, List, [], Option, option_copied};
 ghost use Rattle.spec_exchange.specs.State.{Server};
 ghost use Rattle.spec_wire.specs.credits.Window.{HeldIds};
 ghost use Rattle.spec_world.specs.Settings.{ServerSettings};

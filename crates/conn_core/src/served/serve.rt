@@ -67,7 +67,7 @@ pub trait Serve {
     /// Answers a message, or a connection that is made or lost, at a moment in units of 100 nanoseconds since 1601. At
     /// `Memory` nothing has changed but that one open may have expired; at `Unanswered` the event stands. A server stops only
     /// where its disk fails, at its count of faults then, which rose; from then on each event answers `Stopped` with that count and
-    /// leaves the disk alone, and of what it shows nothing is told.
+    /// changes nothing, neither the server nor its disk, and of what it shows nothing is told.
     fn event(&mut self, now: u64, event: ServerEvent<'_>) -> Result<Reply, ServeError>
         ensures short { IfOk result (λ r. IsServerShort r) }
         ensures serves { (users : Users) (s : Server) (L : Logons) (records : List Record)
@@ -76,7 +76,7 @@ pub trait Serve {
         ensures halts { (users : Users) (s : Server) (L : Logons) (records : List Record)
             → shows self.old users s L records → Halts (stopped self.old) (stopped self.new) result }
         ensures halted { (count : ℕ) → stopped self.old ≡ Some count
-            → (result ≡ Err (errors.Stopped count)) × (stopped self.new ≡ Some count) × (faults self.new ≡ faults self.old) }
+            → (result ≡ Err (errors.Stopped count)) × (self.new ≡ self.old) }
         ensures fault { (users : Users) (s : Server) (L : Logons) (records : List Record)
             → shows self.old users s L records → stopped self.old ≡ None → (count : ℕ) → result ≡ Err (errors.Stopped count)
             → StopsAtFault (faults self.old) (faults self.new) count }

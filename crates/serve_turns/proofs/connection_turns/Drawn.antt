@@ -1,7 +1,6 @@
 -- Random bytes that turns are told of.
-use Rattle.std.proofs.Common.{◌≡◌, ℕ, Bool, List, [], ◌∷◌, sym, subst}
+use Rattle.std.proofs.Common.{ℕ, Bool, List, [], ◌∷◌, sym, subst}
 use Rattle.rand_core.specs.Stream.{Stream}
-use Rattle.conn_core.specs.frame_messages.Checking.{holds_setup}
 use Rattle.serve_turns.specs.connection_turns.Drawing.{AllToldDrawn, IsDrawnIf, ToldDrawn}
 use Rattle.serve_turns.specs.connection_turns.Frames.{AreAtOnce, AreOfSuch, HasBytes, IsOfSuch}
 use Rattle.serve_turns.specs.declared.event_book.turn.What.{What}

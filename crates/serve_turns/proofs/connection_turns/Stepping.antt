@@ -1,7 +1,7 @@
 -- One message of a frame, from what its calls in code tell.
-use Rattle.std.proofs.Common.{◌≡◌, ◌<◌, ◌≤◌, ℕ, ◌+◌, ◌==◌, ◌&&◌, min, if◌then◌else◌, Bool, true, false, List, [], ◌∷◌, ◌++◌, length}
+use Rattle.std.proofs.Common.{◌≡◌, ◌<◌, ◌≤◌, ℕ, ◌+◌, ◌==◌, min, if◌then◌else◌, Bool, true, false, List, [], ◌∷◌, ◌++◌, length}
 use Rattle.std.proofs.Common.{Option, Some, None, Result, Ok, Err}
-use Rattle.std.proofs.Common.{slice_get, option_map, ◌⊎◌, inl, inr, refl, sym, ap, subst, ◌∙◌, append-nil, arith}
+use Rattle.std.proofs.Common.{slice_get, option_map, inl, inr, refl, sym, ap, subst, ◌∙◌, append-nil, arith}
 use Rattle.spec_exchange.specs.State as model
 use Rattle.spec_exchange.specs.Status.{insufficient_resources}
 use Rattle.spec_world.specs.Ends.{Logons, ServerEnd}

@@ -1,5 +1,5 @@
 -- A book's history runs in the model.
-use Rattle.std.proofs.Common.{◌≡◌, ◌≤◌, ℕ, zero, suc, List, [], ◌∷◌, length, take, Option, Some, refl, sym, subst, ◌∙◌, arith}
+use Rattle.std.proofs.Common.{◌≡◌, ◌≤◌, ℕ, zero, suc, List, [], ◌∷◌, length, take, Option, Some, refl, sym, ap, subst, ◌∙◌, arith}
 use Rattle.spec_crypto.specs.tokens.Tokens.{Users}
 use Rattle.spec_exchange.specs.State as model
 use Rattle.spec_world.specs.Ends.{Logons}
@@ -44,7 +44,7 @@ module _ {S : Type 0} (shows : S → Users → model.Server → Logons → List 
         to = Off count;
         given = Some (Stops count);
         told = record { reply = stays.0; given = refl; stays = refl };
-        stands = (stays.1, stands.1 ∙ sym stays.2);
+        stands = (ap stopped stays.1 ∙ stands.0, stands.1 ∙ sym (ap faults stays.1));
       }
 
   -- From a book that stands somewhere on: the history's course, and at each place the book that stands for what that place found.

@@ -1,6 +1,6 @@
 -- How many links a net has accepted, as long as its count doesn't come to its end, and which one is the next.
-use Rattle.std.proofs.Common.{◌≡◌, ℕ, zero, suc, ◌+◌, ◌-◌, ◌^◌, ◌<◌, ◌≤◌, List}
-use Rattle.std.proofs.Common.{[], ◌∷◌, ◌++◌, length, min, arith, ◌∙◌, ap, refl, sym, subst}
+use Rattle.std.proofs.Common.{◌≡◌, ℕ, ◌+◌, ◌-◌, ◌^◌, ◌<◌, ◌≤◌, List}
+use Rattle.std.proofs.Common.{[], ◌∷◌, ◌++◌, length, min, arith, ◌∙◌, ap, refl, subst}
 use Rattle.std.proofs.Common.{Some, slice_get, append_assoc, length-append}
 use Rattle.std.proofs.Math.Nat.{min-eq_left}
 use Rattle.serve_turns.specs.declared.link_threads.links.Halt.TheVariants.{Count, NetFault, Ended, Memory}

@@ -30,10 +30,10 @@ module _ {S : Type 0} (shows : S → Users → model.Server → Logons → List 
   abbrev pub GoesOn : EventBook S → Users → Showing
   GoesOn book users = Onward (shows book.server users) None (stopped book.server)
 
-  -- a server that had stopped stays so, and says so
+  -- a server that had stopped says so, and stays as it was, its disk too
   abbrev pub StaysHalted : EventBook S → Option (Result Reply ServeError) → EventBook S → Type 0
   StaysHalted old reply new = (count : ℕ) → stopped old.server ≡ Some count
-      → (reply ≡ Some (Err (errors.Stopped count))) × (stopped new.server ≡ Some count) × (faults new.server ≡ faults old.server)
+      → (reply ≡ Some (Err (errors.Stopped count))) × (new.server ≡ old.server)
 
   -- a connection is made or lost: what the step says of the event
   pub record HearsEvent (old : EventBook S) (now : ℕ) (event : ServerEvent) (t : Answer) (new : EventBook S) : Type 0 where
@@ -74,7 +74,7 @@ module _ {S : Type 0} (shows : S → Users → model.Server → Logons → List 
   abbrev pub EventSteps : EventBook S → Turn → Answer → EventBook S → Type 0
   EventSteps old e t new = EventStepsFor e.what old e t new
 
-  -- what it is at a place of its history; where it has stopped its disk is left alone
+  -- what it is at a place of its history; where it has stopped, that is at its disk's count of faults
   abbrev pub ShowsStanding : Users → EventBook S → Standing → Type 0
   ShowsStanding users book (On s) = GoesOn book users s.server s.logons s.records
   ShowsStanding users book (Off count) = (stopped book.server ≡ Some count) × (count ≡ faults book.server)

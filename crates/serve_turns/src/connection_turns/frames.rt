@@ -1,5 +1,5 @@
 //! The frames of one connection.
-ghost use Rattle.std.specs.Prelude.{◌≡◌, ◌<◌, ℕ, List, [], length, vec_len, IfOk};
+ghost use Rattle.std.specs.Prelude.{◌≡◌, ◌<◌, List, [], length, vec_len, IfOk};
 ghost use Rattle.spec_exchange.specs.State.{Server};
 ghost use Rattle.spec_wire.specs.credits.Window.{HeldIds};
 ghost use Rattle.spec_world.specs.Answering as answering;
@@ -24,7 +24,7 @@ use crate::connection_turns::writing::write_all;
 use crate::event_book::EventBook;
 use crate::shared_book::{BookSeat, SharedBook};
 use base_outside::{Clock, Link, News, Standing};
-use conn_core::{CheckedFrame, ConnEnd, Dealt, Moment, Serve, answer, check, dealt_for};
+use conn_core::{CheckedFrame, ConnEnd, Dealt, Moment, Serve, answer, check_own, dealt_for};
 use rand_core::Rng;
 use std::alloc::{AllocError, Global};
 use std::sync::Wait;
@@ -85,7 +85,7 @@ fn take_frame<W, S, C, R>(
     book: &SharedBook<EventBook<S>>,
     seat: &mut BookSeat<EventBook<S>>,
     state: &mut ConnectionState,
-    frame: &[u8],
+    frame: Vec<u8>,
 ) -> Result<Vec<u8>, ConnEnd>
 where
     W: Wait,
@@ -94,12 +94,12 @@ where
     R: Rng,
     requires own { IsSeatOf book.now seat.old }
     ensures same { IsSameSeat seat.old seat.new }
-    ensures takes { FrameTaken (view_of seat.old) state.old frame.now result state.new (view_of seat.new) }
+    ensures takes { FrameTaken (view_of seat.old) state.old frame.items result state.new (view_of seat.new) }
     ensures draws { HasDrawn R.stream (view_of seat.old) (view_of seat.new) }
 {
     state.news = None;
     let now = outside.now(rt);
-    let mut asked = match check(&mut state.conn, frame, now) {
+    let mut asked = match check_own(&mut state.conn, frame, now) {
         Ok(asked) => asked,
         Err(why) => return Err(why),
     };
@@ -211,7 +211,7 @@ where
             Ok(None) => return None,
             Err(why) => return Some(why),
         };
-        let answer = match take_frame(rt, outside, book, seat, state, frame.as_slice()) {
+        let answer = match take_frame(rt, outside, book, seat, state, frame.into_vec()) {
             Ok(answer) => answer,
             Err(why) => return Some(why),
         };

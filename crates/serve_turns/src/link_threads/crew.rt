@@ -1,5 +1,5 @@
 //! The threads that run, and what is left of those that have ended.
-ghost use Rattle.std.specs.Prelude.{◌≡◌, ◌+◌, ◌<◌, ◌≤◌, ◌^◌, ℕ, List, [], length, map, IfSome, OnErr, OnOk};
+ghost use Rattle.std.specs.Prelude.{◌≡◌, ◌+◌, ◌<◌, ◌^◌, ℕ, List, [], length, map, IfSome, OnErr, OnOk};
 ghost use Rattle.std.specs.List.{All};
 ghost use Rattle.serve_turns.specs.shared_book.Words.{view_of, IsSeatOf};
 ghost use Rattle.serve_turns.specs.link_serving.Passage.{IsLinkAt, IsNewLink};

@@ -1,5 +1,5 @@
 //! A thread that serves one link.
-ghost use Rattle.std.specs.Prelude.{◌≡◌, ◌+◌, ◌<◌, ◌≤◌, ◌^◌, ℕ, List, None, Some, length, get_or, IfOk, IfErr};
+ghost use Rattle.std.specs.Prelude.{◌≡◌, ◌+◌, ◌<◌, ◌^◌, ℕ, List, None, Some, length, get_or, IfOk, IfErr};
 ghost use Rattle.serve_turns.specs.shared_book.Words.{lasting, view_of, AreOfOneBook, IsSeatAt, IsSeatOf};
 ghost use Rattle.serve_turns.specs.link_serving.Passage.{IsNewLink, ServesOn};
 ghost use Rattle.serve_turns.specs.link_serving.Serving.{IsNewSeat, Leaves, Link, LinksServed};

@@ -546,9 +546,9 @@ unfolding error_in
 room_stops o count e = absurd (memory_apart count (ap (λ (r : Result Reply ServeError). error_in errors.Memory r) e))
 
 -- one that goes on hasn't stopped
-pub goes_not : (o : Option ℕ) (count : ℕ) (r : Result Reply ServeError) (new : Option ℕ) (faults faults' : ℕ) → None ≡ o → o ≡ Some count
-    → (r ≡ fails_as (errors.Stopped count)) × (new ≡ Some count) × (faults' ≡ faults)
-goes_not o count r new faults faults' e f = absurd (none_some o count (sym e) f)
+pub goes_not : {B : Type 0} (o : Option ℕ) (count : ℕ) (r : Result Reply ServeError) (new old : B) → None ≡ o → o ≡ Some count
+    → (r ≡ fails_as (errors.Stopped count)) × (new ≡ old)
+goes_not o count r new old e f = absurd (none_some o count (sym e) f)
 
 -- ---- the disk's count of faults where it stops
 

@@ -4,7 +4,6 @@ use Rattle.std.specs.Prelude.{⊤}
 use Rattle.spec_exchange.specs.State as model
 use Rattle.spec_exchange.specs.Step.{connection_of}
 use Rattle.spec_exchange.specs.Step as rules
-use Rattle.spec_exchange.specs.Verdict as verdicts
 use Rattle.spec_exchange.specs.Table.{put}
 use Rattle.crypto_sessions.specs.ntlmv2.Judging.{AcceptorState}
 use Rattle.server_checks.specs.session_table.Logons.{LogonsShown, begun_in, shown_of}

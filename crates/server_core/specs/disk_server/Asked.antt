@@ -1,5 +1,5 @@
 -- What of an event its reply is written by.
-use Rattle.std.specs.Prelude.{◌≡◌, ℕ, nat_le, Bool, true, false, ◌&&◌, if◌then◌else◌, List, length, Option, Some, None, ⊤}
+use Rattle.std.specs.Prelude.{◌≡◌, ℕ, nat_le, Bool, false, ◌&&◌, if◌then◌else◌, List, length, Option, Some, None, ⊤}
 use Rattle.server_core.specs.declared.event_replies.progress.Logon.{Logon}
 use Rattle.server_checks.specs.declared.setups.setup.SetupHeard.{SetupHeard}
 use Rattle.spec_commands.specs.ReplyBody.{reply_body}

@@ -1,5 +1,5 @@
 -- The reply that connections see, from the server's answer.
-use Rattle.std.specs.Prelude.{◌≡◌, ◌≤◌, ◌<◌, ◌⊎◌, ◌==◌, ℕ, Bool, true, not, ◌&&◌, ◌||◌, if◌then◌else◌, length, Option, Some, None, is_some, ⊤}
+use Rattle.std.specs.Prelude.{◌≡◌, ◌≤◌, ◌<◌, ◌⊎◌, ◌==◌, ℕ, Bool, true, not, ◌||◌, if◌then◌else◌, length, Option, Some, None, is_some, ⊤}
 use Rattle.server_core.specs.declared.event_replies.progress.Logon.{Logon}
 use Rattle.spec_crypto.specs.declared.sessions.material.Signer.{Signer}
 use Rattle.spec_exchange.specs.Status.{user_session_deleted}

@@ -133,8 +133,8 @@ pub record KeepsBodies {D : Type 0} (seen : D → List ℕ) (may_leave : D → L
   pub durable : Only (seen left) (may_leave left)
   pub any_moment : LeavesOnly moment left_since disk left (λ c. may_leave disk c ⊎ StandsFor c bodies)
 
--- Why a start is refused, and how it leaves the disk: as it was where its bytes are no journal, and else with the bodies that it stood
--- for; where it failed, with these or these and the one that a recovery adds.
+-- Why a start is refused, and how it leaves the disk: as it was where its bytes break the grammar, and else with the bodies that it
+-- stood for; where it failed, with these or these and the one that a recovery adds.
 pub record StartRefused {D : Type 0} (told : Type 0) (seen : D → List ℕ) (may_leave : D → List ℕ → Type 0) (moment : D → ℕ)
     (left_since : D → ℕ → List ℕ → Type 0) (faults : D → ℕ) (disk left : D) (cause : JournalError) : Type 0 where
   pub caused : RestartRefused told seen faults disk left cause

@@ -32,7 +32,7 @@ returns-in-Err-clause-takes g c = record {
   turns = [];
   own = sym (append-nil (view_of c.args.seat.now).own);
   comes = λ z h f all shows bound.
-      frame_fails z h c.args.state.now.conn.id f c.args.state.now.setups c.args.frame.now c.in-Err.why
+      frame_fails z h c.args.state.now.conn.id f c.args.state.now.setups c.args.frame.items c.in-Err.why
       (c.in-Err.ensures.checks c.args.state.now.conn.id z.guid f shows);
 }
 
@@ -40,7 +40,7 @@ pub returns-in-Err-dealt_for-clause-takes : goal.returns-in-Err-dealt_for-clause
 returns-in-Err-dealt_for-clause-takes g c = record {
   turns = [];
   own = sym (append-nil (view_of c.args.seat.now).own);
-  comes = λ z h f all shows bound. frame_lacks z h c.args.state.now.conn.id f c.args.state.now.setups c.args.frame.now;
+  comes = λ z h f all shows bound. frame_lacks z h c.args.state.now.conn.id f c.args.state.now.setups c.args.frame.items;
 }
 
 pub returns-clause-takes : goal.returns-clause-takes
@@ -51,15 +51,15 @@ returns-clause-takes g c =
       turns = takes.turns;
       own = takes.own;
       comes = λ z h f all shows bound.
-          let q = checked_so z k c.now-now.result f c.args.frame.now c.check.new.conn c.in-Ok.asked shows.heard bound
+          let q = checked_so z k c.now-now.result f c.args.frame.items c.check_own.new.conn c.in-Ok.asked shows.heard bound
           (c.in-Ok.ensures.checks k z.guid f shows) in
           let st = first_found h takes.turns in
-          frame_stops z h k f c.args.state.now.setups c.args.frame.now takes.turns q.F q.heard c.now-now.result c.fresh_for-fresh.result
-          st.stand.server st.stand.logons takes.at_once st.is c.check.new.conn.id
-          (record c.args.state.now { conn = c.check.new.conn; news = None })
+          frame_stops z h k f c.args.state.now.setups c.args.frame.items takes.turns q.F q.heard c.now-now.result c.fresh_for-fresh.result
+          st.stand.server st.stand.logons takes.at_once st.is c.check_own.new.conn.id
+          (record c.args.state.now { conn = c.check_own.new.conn; news = None })
           c.take_messages.new.state c.take_messages.new.asked c.take_messages.new.dealt c.in-Err-take_messages.why q.shows.number refl
           (takes.ends z h st.stand.server st.stand.logons q.F.server_end q.F all
-          (subst (λ i. ShowsEnd i z.guid c.check.new.conn q.F.server_end) (sym q.shows.number) q.shows) q.frames q.alone);
+          (subst (λ i. ShowsEnd i z.guid c.check_own.new.conn q.F.server_end) (sym q.shows.number) q.shows) q.frames q.alone);
     }
 
 pub returns-in-Ok-take_messages-clause-takes : goal.returns-in-Ok-take_messages-clause-takes
@@ -70,17 +70,17 @@ returns-in-Ok-take_messages-clause-takes g c =
       turns = takes.turns;
       own = takes.own;
       comes = λ z h f all shows bound.
-          let q = checked_so z k c.now-now.result f c.args.frame.now c.check.new.conn c.in-Ok.asked shows.heard bound
+          let q = checked_so z k c.now-now.result f c.args.frame.items c.check_own.new.conn c.in-Ok.asked shows.heard bound
           (c.in-Ok.ensures.checks k z.guid f shows) in
           let st = first_found h takes.turns in
-          frame_comes z h k f c.args.state.now.setups c.args.frame.now takes.turns q.F q.heard c.now-now.result c.fresh_for-fresh.result
-          st.stand.server st.stand.logons takes.at_once st.is c.check.new.conn.id
-          (record c.args.state.now { conn = c.check.new.conn; news = None })
+          frame_comes z h k f c.args.state.now.setups c.args.frame.items takes.turns q.F q.heard c.now-now.result c.fresh_for-fresh.result
+          st.stand.server st.stand.logons takes.at_once st.is c.check_own.new.conn.id
+          (record c.args.state.now { conn = c.check_own.new.conn; news = None })
           c.take_messages.new.state c.finish.new.state c.in-Ok.asked c.take_messages.new.asked c.take_messages.new.dealt c.finish.result
           q.shows.number refl c.finish.ensures.setups q.frames.sealed takes.kept q.time q.seals q.greets q.asked q.bound
           (subst (λ (o : Conn). ShowsEnd k z.guid o q.F.server_end) (sym takes.conn) q.shows)
           (takes.ends z h st.stand.server st.stand.logons q.F.server_end q.F all
-          (subst (λ i. ShowsEnd i z.guid c.check.new.conn q.F.server_end) (sym q.shows.number) q.shows) q.frames q.alone)
+          (subst (λ i. ShowsEnd i z.guid c.check_own.new.conn q.F.server_end) (sym q.shows.number) q.shows) q.frames q.alone)
           (λ s L cs ss w end answers. c.finish.ensures.replies z s L q.F.server_end cs ss w end answers);
     }
 

@@ -27,7 +27,7 @@ loop-preserved g c =
           c.as_slice-text.result.now c.next_frame.result c.put_answer.result c.in_default.field-0
           (c.in-Ok-Some.is ∙ ap Ok c.in-Ok-Some.field-0-is) c.next_frame.ensures c.loop.invariant.on
           (subst (λ b. FrameTaken (view_of c.loop.seat) c.loop.state b (Ok c.in-Ok.answer) c.take_frame.new.state
-          (view_of c.take_frame.new.seat)) c.as_slice.ensures c.in-Ok.ensures.takes)
+          (view_of c.take_frame.new.seat)) c.into_vec.ensures c.in-Ok.ensures.takes)
           c.as_slice-text.ensures.value c.in_default.is c.put_answer.ensures)
           c.look_on.ensures.own;
     }
@@ -41,7 +41,7 @@ returns-in-Err-put_answer-clause-frames g c =
     c.as_slice-text.result.now c.in-Err-put_answer.why c.next_frame.result c.put_answer.result
     (c.in-Ok-Some.is ∙ ap Ok c.in-Ok-Some.field-0-is) c.next_frame.ensures c.loop.invariant.on
     (subst (λ b. FrameTaken (view_of c.loop.seat) c.loop.state b (Ok c.in-Ok.answer) c.take_frame.new.state
-    (view_of c.take_frame.new.seat)) c.as_slice.ensures c.in-Ok.ensures.takes)
+    (view_of c.take_frame.new.seat)) c.into_vec.ensures c.in-Ok.ensures.takes)
     c.as_slice-text.ensures.value c.in-Err-put_answer.is c.put_answer.ensures)
     c.look_on.ensures.own
 
@@ -62,7 +62,7 @@ returns-in-Err-take_frame-clause-frames g c =
     c.next_frame.new.stream c.in-Ok-Some.frame _ c.loop.link c.in-Err-take_frame.why c.next_frame.result
     (c.in-Ok-Some.is ∙ ap Ok c.in-Ok-Some.field-0-is) c.next_frame.ensures c.loop.invariant.on
     (subst (λ b. FrameTaken (view_of c.loop.seat) c.loop.state b (Err c.in-Err-take_frame.why) c.take_frame.new.state
-    (view_of c.take_frame.new.seat)) c.as_slice.ensures c.in-Err-take_frame.ensures.takes)
+    (view_of c.take_frame.new.seat)) c.into_vec.ensures c.in-Err-take_frame.ensures.takes)
 
 pub look_on-requires-clause-due : goal.look_on-requires-clause-due
 look_on-requires-clause-due g c = λ history.
@@ -77,5 +77,5 @@ look_on-requires-clause-due g c = λ history.
     c.loop.stream c.next_frame.new.stream c.in-Ok-Some.frame c.in-Ok.answer c.as_slice-text.result.now begun.link.value
     c.loop.link c.next_frame.result way (c.in-Ok-Some.is ∙ ap Ok c.in-Ok-Some.field-0-is) c.next_frame.ensures
     (subst (λ b. FrameTaken (view_of c.loop.seat) c.loop.state b (Ok c.in-Ok.answer) c.take_frame.new.state
-    (view_of c.take_frame.new.seat)) c.as_slice.ensures c.in-Ok.ensures.takes)
+    (view_of c.take_frame.new.seat)) c.into_vec.ensures c.in-Ok.ensures.takes)
     c.as_slice-text.ensures.value c.take_frame.new.seat.ends history

@@ -1,4 +1,3 @@
-use Rattle.std.proofs.Common.{refl}
 use Rattle.server_core.proofs.disk_server.asked.logon_in.Goals as goal
 
 pub returns-in_ok-logon-in-Setup : goal.returns-in_ok-logon-in-Setup

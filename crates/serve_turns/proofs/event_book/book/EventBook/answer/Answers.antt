@@ -20,7 +20,6 @@ returns-in-Some g c =
       stops = λ count is. stopped ∙ is;
       halted = λ count was. (
         ap (λ (o : Option ℕ). some_count o) (sym stopped ∙ was),
-        was,
         refl,
       );
       fault = λ users s L records goes count is.

@@ -8,6 +8,6 @@ returns g c = record {
   no_frame = refl;
   serves = λ users s L records shows. c.event.ensures.serves users s L records shows c.requires;
   halts = λ users s L records shows. c.event.ensures.halts users s L records shows;
-  halted = λ count was. let stays = c.event.ensures.halted count was in (ap Some stays.0, stays.1, stays.2);
+  halted = λ count was. let stays = c.event.ensures.halted count was in (ap Some stays.0, stays.1);
   fault = λ users s L records goes count stop. c.event.ensures.fault users s L records goes.0 goes.1 count stop;
 }

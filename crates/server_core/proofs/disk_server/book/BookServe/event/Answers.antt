@@ -7,7 +7,7 @@ returns-in-Some g c = record {
   short = tt;
   serves = λ users s L records h served. tt;
   halts = λ users s L records h. halts_stopped _ _ c.in-Some.ensures;
-  halted = λ count was. (stops_same _ _ count c.in-Some.ensures was, was, refl);
+  halted = λ count was. (stops_same _ _ count c.in-Some.ensures was, refl);
   fault = λ users s L records h goes count stop. absurd (never_again _ _ c.in-Some.ensures goes);
   stops = λ count stop. stops_goes _ _ count c.in-Some.ensures stop;
 }
@@ -17,7 +17,7 @@ returns-in-None g c = record {
   short = c.go_on.ensures.short;
   serves = λ users s L records h served. c.go_on.ensures.serves users s L records h served;
   halts = λ users s L records h. c.go_on.ensures.halts users s L records h;
-  halted = λ count was. goes_not _ count _ _ _ _ c.in-None.ensures was;
+  halted = λ count was. goes_not _ count _ _ _ c.in-None.ensures was;
   fault = λ users s L records h goes count stop. c.go_on.ensures.fault users s L records h count stop;
   stops = λ count stop. c.go_on.ensures.stops count stop;
 }
