@@ -13,12 +13,14 @@ use Rattle.spec_world.specs.Courses.{Line, Settles}
 use Rattle.spec_world.specs.Settings.{WorldSettings}
 use Rattle.spec_world.specs.Statements.{Negotiated}
 
--- The four sentences of the headline: the first three without a forge and a flip, the last one of any run. And
--- completeness, without a forge
--- and a flip: lines that end in settling leave no operation unsettled; and where none of them is a cut, a drop, a restart or a crash, and
--- nothing was given up while an operation was unsettled, each operation ends by the server's reply, or for want of a slot or an open.
+-- The four sentences of the headline: the first three without a forge and a flip, also of the lines in front of a script's first one, at
+-- each moment; the last one of any run. And completeness, without a forge and a flip: lines that end in settling leave no operation
+-- unsettled; and where none of them is a cut, a drop, a restart or a crash, and nothing was given up while an operation was unsettled, each
+-- operation ends by the server's reply, or for want of a slot or an open.
 pub record DrillHolds (z : WorldSettings) (ls : List Line) : Type 0 where
   pub acts_once : AreHonest ls → (es : List network.Event) × ActsOnce z (course_of z ls) es
+  pub in_front : (before after : List Line) → ls ≡ before ++ after → AreHonest before
+      → (es : List network.Event) × ActsOnce z (course_of z before) es
   pub negotiated : Negotiated (course_of z ls).world
   pub settled : (before : List Line) → ls ≡ before ++ Settles ∷ [] → AreHonest ls → LeavesNone z ls
   pub each_ends : (before : List Line) → ls ≡ before ++ Settles ∷ [] → AreHonest ls → are_quiet ls ≡ true
