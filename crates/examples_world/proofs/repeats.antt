@@ -1,4 +1,5 @@
 pub mod PutUp
 pub mod Twice
 pub mod Redirected
+pub mod Secrets
 pub mod Misread

@@ -24,7 +24,10 @@ pub use connections::{
     binding_server_example, noted_response_example, noted_seal_example, paid_request_example,
     session_flags_example, session_id_example, turn_example,
 };
-pub use repeats::{given_twice_example, misread_example, put_up_example, redirected_example};
+pub use repeats::{
+    client_secrets_example, given_twice_example, misread_example, put_up_example,
+    redirected_example, server_secrets_example,
+};
 pub use runs::{
     binding_example, cancel_example, first_related_example, given_example, id_taken_twice_example,
     made_and_closed_example, no_credit_example, no_memory_example, no_mishap_example,

@@ -1,16 +1,43 @@
 //! Worked examples of a network that repeats, reorders and redirects, computed by the checker: two channels of one session, each with a
-//! signing key of its own.
+//! signing key of its own; and which secrets are behind signatures.
 
 ghost use Rattle.std.specs.Prelude.{◌≡◌, ℕ, [], ◌∷◌, true, false, Some};
 ghost use Rattle.spec_exchange.specs.Operations.{Unsettled};
 ghost use Rattle.spec_hostile.specs.RepeatRuns.{Give, is_heard, is_served};
-ghost use Rattle.spec_hostile.specs.SignedFor.{OnOpening};
+ghost use Rattle.spec_crypto.specs.sessions.Chain.{chain};
+ghost use Rattle.spec_world.specs.Logon.{Interim};
+ghost use Rattle.spec_hostile.specs.SignedFor.{InSession, OnOpening, no_secret, own_secret};
+ghost use Rattle.examples_world.specs.connections.Parts.{said_by};
 ghost use Rattle.examples_world.specs.repeats.Linked.{acts_of_one, given, is_signed_at, outcome_in, signed_places, put_bare, put_echo, status_at};
+ghost use Rattle.examples_world.specs.repeats.Linked.{places_signed};
+ghost use Rattle.examples_world.specs.repeats.Secrets.{accepted_secret, accepting_end, final_reply, line_reply, logon_secret, noted_behind};
+ghost use Rattle.examples_world.specs.repeats.Secrets.{put_setup, secret_behind, secrets_of, signed_up};
 
 /// A request that carries a signature was signed for the opening of its channel; another one wasn't signed.
 pub fn put_up_example()
     ensures signed { signed_places (put_echo ∷ []) ≡ OnOpening 0 1 ∷ [] }
     ensures bare { signed_places (put_bare ∷ []) ≡ [] }
+{}
+
+/// A line's request is signed with the secret of its own end, a SESSION_SETUP that binds with that of the client's session, which is
+/// the one of the end that accepted it.
+pub fn client_secrets_example()
+    ensures line { secrets_of (signed_up (put_echo ∷ [])) ≡ record { base = 1 ∷ []; value = chain ((0 ∷ []) ∷ []) } ∷ [] }
+    ensures setup { secrets_of (signed_up (put_setup ∷ [])) ≡ logon_secret ∷ [] }
+    ensures session { places_signed (signed_up (put_setup ∷ [])) ≡ InSession 9 ∷ [] }
+    ensures accepted { accepted_secret ≡ logon_secret }
+    ensures own { own_secret accepting_end ≡ logon_secret }
+{}
+
+/// A final response is signed with the secret of the client's end that accepts it: the same exported key, the same five messages. So are
+/// the replies behind it on that connection, and in its session the interim response of a later binding, which leaves the session's secret.
+pub fn server_secrets_example()
+    ensures first { secret_behind (noted_behind false) (final_reply false) ≡ logon_secret }
+    ensures bound { secret_behind (noted_behind true) (final_reply true) ≡ logon_secret }
+    ensures first_line { secret_behind (noted_behind false) line_reply ≡ logon_secret }
+    ensures bound_line { secret_behind (noted_behind true) line_reply ≡ logon_secret }
+    ensures interim { secret_behind (noted_behind false) (said_by (Interim true)) ≡ logon_secret }
+    ensures session { secret_behind (noted_behind true) (said_by (Interim true)) ≡ no_secret }
 {}
 
 /// A request that is given twice is answered once: the second time its message id is gone, and the server's end closes. An ECHO doesn't act.

@@ -1,3 +1,9 @@
 pub mod Sending
 pub mod Served
 pub mod Rising
+pub mod Bearing
+pub mod Paying
+pub mod Talking
+pub mod Frames
+pub mod Plain
+pub mod PlainRuns

@@ -4,3 +4,4 @@ pub mod Staying
 pub mod Refusing
 pub mod Hearing
 pub mod Runs
+pub mod Rows

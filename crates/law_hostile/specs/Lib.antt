@@ -8,3 +8,5 @@ pub mod placed
 pub mod acts
 pub mod empties
 pub mod ids
+pub mod finals
+pub mod premises

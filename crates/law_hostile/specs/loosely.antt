@@ -1,1 +1,2 @@
 pub mod LooseRuns
+pub mod LooseRows

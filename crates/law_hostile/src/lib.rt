@@ -6,10 +6,12 @@
 
 mod acts;
 mod empties;
+mod finals;
 mod ids;
 mod loosely;
 mod negotiating;
 mod placed;
+mod premises;
 mod puts;
 mod sifting;
 mod taken_ids;
@@ -17,10 +19,12 @@ mod unforged;
 
 pub use acts::{acts_are_guarded_law, faulty_acts_not_law};
 pub use empties::lists_are_empty_law;
-pub use ids::own_ids_rise_law;
-pub use loosely::{loose_newer_law, loose_once_law};
+pub use finals::{accepted_was_made_law, made_was_signed_law, signed_was_made_law};
+pub use ids::{own_frames_law, own_ids_rise_law};
+pub use loosely::{loose_newer_law, loose_once_law, loose_steps_example};
 pub use negotiating::repeat_negotiation_law;
 pub use placed::{heard_is_own_law, signed_for_opening_law};
+pub use premises::short_runs_law;
 pub use puts::{put_stays_law, signed_reply_was_put_law, signed_was_put_law};
 pub use sifting::lists_may_sift_law;
 pub use taken_ids::{frames_take_once_law, opening_takes_once_law, signed_takes_once_law};

@@ -1,6 +1,7 @@
--- A network that hands any message that was ever sent to any end, in any order, any number of times or never. The ends are those
--- of the world over bytes, and take each step there: between two events its lists are empty, and all that an end put on them
--- stands here, in one list for each direction, in the order in which it was put, counted from 0.
+-- A network that hands any request that was ever put up to any server's end, and any reply that was ever put down to any client's
+-- end, in any order, any number of times or never. The ends are those of the world over bytes, and take each step there: between two
+-- events its lists are empty, and all that an end put on them stands here, in one list for each direction, in the order in which it
+-- was put, counted from 0.
 use Rattle.std.specs.Prelude.{ℕ, ◌+◌, Bool, true, false, ◌&&◌, if◌then◌else◌, List, [], ◌∷◌, ◌++◌, Option, Some, None, slice_get}
 use Rattle.spec_exchange.specs.Table.{put}
 use Rattle.spec_exchange.specs.Network.{Event, Submit, Open, Push, Cut, Drop, Restart, Serve, Take, Crash, Wait, Finish, Sent}

@@ -22,11 +22,14 @@ use Rattle.examples_world.specs.runs.Meeting.{dialog_sent}
 abbrev pub keys_of_channel : ℕ → Keys
 keys_of_channel k = if k == 0 then some_keys else record some_keys { signing = other_signer }
 
--- on each channel an operation waits for the response to the message id 1: operation 1 on channel 0, operation 2 on channel 1
+-- On each channel an operation waits for the response to the message id 1: operation 1 on channel 0, operation 2 on channel 1. Its
+-- exported key and the message that its dialog hashed are lists of one number.
 abbrev pub linked_client_end : ℕ → ClientEnd
 linked_client_end k = record no_client_end {
   purse = record { held = 5; next = 2 };
   awaited = put (λ id. None) 1 (Some (ForOp (k + 1)));
+  base = (k + 1) ∷ [];
+  transcript = (k ∷ []) ∷ [];
   keys = keys_of_channel k;
   channel = k + 1;
 }

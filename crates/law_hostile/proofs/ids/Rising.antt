@@ -32,7 +32,7 @@ record Rising (next openings : ℕ → ℕ) (us : List UpFrame) : Type 0 where
 -- ---- lists
 
 -- an index of a longer list is one of the list before it, or its last
-last_get : (us : List UpFrame) (x : UpFrame) (n : ℕ) (y : UpFrame) → slice_get (us ++ x ∷ []) n ≡ Some y
+pub last_get : (us : List UpFrame) (x : UpFrame) (n : ℕ) (y : UpFrame) → slice_get (us ++ x ∷ []) n ≡ Some y
     → ((n < length us) × (slice_get us n ≡ Some y)) ⊎ ((n ≡ length us) × (x ≡ y))
 last_get [] x zero y h = inr (refl, (let q : Some x ≡ Some y = h in cc))
 last_get [] x (suc n) y h = absurd (none_in [] n y refl h)
@@ -101,13 +101,13 @@ one_more next more openings us x up l i =
     rising_by n m u v lt c o (inr p) (inl q) = absurd (let a = p.0 in let b = q.0 in omega (arith, a, b, lt))
     rising_by n m u v lt c o (inr p) (inr q) = absurd (let a = p.0 in let b = q.0 in omega (arith, a, b, lt))
 
-nothing_more : (us : List UpFrame) → us ++ [] ≡ us
+pub nothing_more : (us : List UpFrame) → us ++ [] ≡ us
 nothing_more [] = refl
 nothing_more (u ∷ us) = ap (λ vs. u ∷ vs) (nothing_more us)
 
 -- ---- what is collected
 
-put_none : (k n : ℕ) (bs : List (List ℕ)) → puts_up k n bs [] ≡ []
+pub put_none : (k n : ℕ) (bs : List (List ℕ)) → puts_up k n bs [] ≡ []
 unfolding puts_up
 put_none k n [] = refl
 put_none k n (b ∷ bs) = refl
@@ -282,7 +282,7 @@ done_ids z r (Finish refusal) s h = plain_ids z r (Finish refusal) s refl h
 
 -- ---- Give
 
-never_apart : (k : ℕ) (P : Type 0) → (k == k) ≡ false → P
+pub never_apart : (k : ℕ) (P : Type 0) → (k == k) ≡ false → P
 never_apart k P off = absurd (let q : (k == k) ≡ true = eq-eqb k k refl in cc)
 
 up_ids : (z : WorldSettings) (r : RepeatWorld) (k : ℕ) (u : UpFrame) → is_served r.world k ≡ true → Holds r

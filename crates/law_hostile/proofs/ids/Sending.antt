@@ -37,7 +37,7 @@ pub record Puts (c d : Conn) : Type 0 where
 abbrev pub PutsAll : (ℕ → Conn) → (ℕ → Conn) → Type 0
 PutsAll f g = (j : ℕ) → (f j).up ≡ [] → Puts (f j) (g j)
 
-abbrev SameUps : (ℕ → Conn) → (ℕ → Conn) → Type 0
+abbrev pub SameUps : (ℕ → Conn) → (ℕ → Conn) → Type 0
 SameUps f g = (j : ℕ) → ((g j).up ≡ (f j).up) × ((g j).next_id ≡ (f j).next_id)
 
 -- ---- tables
@@ -54,11 +54,11 @@ none_put c d e f = record { keeps = le_same c.next_id d.next_id f; puts = inl e 
 puts_same : (f g : ℕ → Conn) → SameUps f g → PutsAll f g
 puts_same f g s j e = none_put (f j) (g j) ((s j).0 ∙ e) (s j).1
 
-same_self : (f : ℕ → Conn) → SameUps f f
+pub same_self : (f : ℕ → Conn) → SameUps f f
 same_self f j = (refl, refl)
 
 -- another row at k, whose list and next id are the old one's
-same_put : (f : ℕ → Conn) (k : ℕ) (d : Conn) → d.up ≡ (f k).up → d.next_id ≡ (f k).next_id → SameUps f (put f k d)
+pub same_put : (f : ℕ → Conn) (k : ℕ) (d : Conn) → d.up ≡ (f k).up → d.next_id ≡ (f k).next_id → SameUps f (put f k d)
 same_put f k d e n j = elim (j == k) as (λ b. j == k ≡ b
     → ((if b then d else f j).up ≡ (f j).up) × ((if b then d else f j).next_id ≡ (f j).next_id)) [
       | true ↦ λ t. let s = eqb-true j k t in subst (λ i. (d.up ≡ (f i).up) × (d.next_id ≡ (f i).next_id)) (sym s) (e, n)
@@ -103,7 +103,7 @@ one_sent c x n e l none =
       });
     }
 
-charged : (n : ℕ) → 1 ≤ charge n
+pub charged : (n : ℕ) → 1 ≤ charge n
 charged n = either (λ m. 1 ≤ m) (n == 0) 1 ((n - 1) / 65536 + 1) (λ _. omega arith) (λ _. at_least ((n - 1) / 65536))
   where
     at_least : (m : ℕ) → 1 ≤ m + 1
@@ -111,7 +111,7 @@ charged n = either (λ m. 1 ≤ m) (n == 0) 1 ((n - 1) / 65536 + 1) (λ _. omega
 
 -- ---- the client's steps
 
-closed_same : (v : Values) (k : ℕ) (a : Act) → SameUps v.conns (closed_by v k a).conns
+pub closed_same : (v : Values) (k : ℕ) (a : Act) → SameUps v.conns (closed_by v k a).conns
 closed_same v k CloseChannels = λ j. (refl, refl)
 closed_same v k CloseChannel = same_put v.conns k _ refl refl
 closed_same v k Nothing = same_self v.conns
@@ -127,7 +127,7 @@ cut_by_same v k (Sends g) = same_put v.conns k _ refl refl
 cut_by_same v k (Asks g) = same_put v.conns k _ refl refl
 cut_by_same v k AllSettled = same_put v.conns k _ refl refl
 
-cut_same : (v : Values) (k : ℕ) → SameUps v.conns (cut_off v k).conns
+pub cut_same : (v : Values) (k : ℕ) → SameUps v.conns (cut_off v k).conns
 cut_same v k =
     either (λ (u : Values). SameUps v.conns u.conns) (v.client.ready k) _ _
     (λ _. cut_by_same v k (act v.client (IsCut k))) (λ _. same_put v.conns k _ refl refl)

@@ -66,7 +66,7 @@ since_joined k n old behind w e =
 since_none : (k n : ℕ) (old : List UpFrame) → AllFor k n (drop (length old) old)
 since_none k n old = subst (λ us. AllFor k n us) (sym (drop_all old)) (none_for k n)
 
-opening_ups : (r : RepeatWorld) (e : Event) → (with_opening r e).ups ≡ r.ups
+pub opening_ups : (r : RepeatWorld) (e : Event) → (with_opening r e).ups ≡ r.ups
 opening_ups r e =
     either (λ (v : RepeatWorld). v.ups ≡ r.ups) (is_opening e && is_possible r.world.values e) _ r (λ _. refl) (λ _. refl)
 

@@ -31,11 +31,11 @@ IsTold r e = e.to_server ≡ false → WasPutDown r e.message
 
 -- ---- lists
 
-in_back : {X : Type 0} (xs ys : List X) (n : ℕ) (x : X) → slice_get ys n ≡ Some x → (m : ℕ) × (slice_get (xs ++ ys) m ≡ Some x)
+pub in_back : {X : Type 0} (xs ys : List X) (n : ℕ) (x : X) → slice_get ys n ≡ Some x → (m : ℕ) × (slice_get (xs ++ ys) m ≡ Some x)
 in_back [] ys n x h = (n, h)
 in_back (v ∷ xs) ys n x h = let m = in_back xs ys n x h in (m.0 + 1, rw (add-one) m.1)
 
-in_either : {X : Type 0} (xs ys : List X) (n : ℕ) (x : X) → slice_get (xs ++ ys) n ≡ Some x
+pub in_either : {X : Type 0} (xs ys : List X) (n : ℕ) (x : X) → slice_get (xs ++ ys) n ≡ Some x
     → ((m : ℕ) × (slice_get xs m ≡ Some x)) ⊎ ((m : ℕ) × (slice_get ys m ≡ Some x))
 in_either [] ys n x h = inr (n, h)
 in_either (v ∷ xs) ys zero x h = inl (0, h)
@@ -301,7 +301,7 @@ served_told z t k e (Some u) all = by_served (is_served t.repeating.world k) ref
 
 -- ---- the client's entries are no replies
 
-entry_asks : (t : Watched) (k : ℕ) (r : RepeatWorld) (m : List ℕ) → (entry_up t k r m).to_server ≡ true
+pub entry_asks : (t : Watched) (k : ℕ) (r : RepeatWorld) (m : List ℕ) → (entry_up t k r m).to_server ≡ true
 entry_asks t k r m = either (λ (e : SignedEntry). e.to_server ≡ true) (is_setup (header_in m)) _ _ (λ _. refl) (λ _. refl)
 
 not_told : (v : RepeatWorld) (e : SignedEntry) → e.to_server ≡ true → IsTold v e

@@ -1,0 +1,13 @@
+use Rattle.law_hostile.proofs.loosely.Rows.{request_lost, reply_lost, request_ahead, reply_ahead, one_heard, none_moved, none_heard}
+use Rattle.law_hostile.proofs.loosely.loose_steps_example.Goals as goal
+
+pub returns : goal.returns
+returns c = record {
+  request_lost = request_lost;
+  reply_lost = reply_lost;
+  request_ahead = request_ahead;
+  reply_ahead = reply_ahead;
+  heard = one_heard;
+  unmoved = none_moved;
+  refused = none_heard;
+}

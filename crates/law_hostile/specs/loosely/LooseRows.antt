@@ -1,0 +1,46 @@
+-- A world in which three requests wait on a connection, and three replies: what the events between those of the model leave of them.
+use Rattle.std.specs.Prelude.{ℕ, List, [], ◌∷◌, false, map, None}
+use Rattle.spec_exchange.specs.Commands.{Command, Aside}
+use Rattle.spec_exchange.specs.State.{Empty}
+use Rattle.spec_exchange.specs.Network.{World, Sent, Received, ForOp, op_of}
+use Rattle.law_hostile.specs.loosely.LooseRuns.{LooseEvent, loose_happens}
+
+-- a request of operation g
+abbrev pub asks_for : Command → ℕ → Sent
+asks_for command g = record {
+  token = ForOp g;
+  message = record {
+    connection = 0;
+    client_guid = 0;
+    session_id = 0;
+    tree_id = 0;
+    message_id = g;
+    channel_sequence = 0;
+    replay = false;
+    fault = None;
+    command = command;
+  };
+}
+
+abbrev pub replies_to : ℕ → Received
+replies_to g = record { token = ForOp g; reply = record { status = 0; session_id = 0; tree_id = 0; body = Empty }; place = g }
+
+-- of operations 1 to 3
+abbrev pub waiting : World → World
+waiting w = record w {
+  conns = λ k. record (w.conns k) {
+    up = asks_for (Aside 0) 1 ∷ asks_for (Aside 0) 2 ∷ asks_for (Aside 0) 3 ∷ [];
+    down = replies_to 1 ∷ replies_to 2 ∷ replies_to 3 ∷ [];
+  };
+}
+
+-- whose requests, and whose replies, wait on connection 0 behind an event
+abbrev pub ups_behind : World → LooseEvent → List ℕ
+ups_behind w e = map (λ x. op_of x.token) ((loose_happens (waiting w) e).conns 0).up
+
+abbrev pub downs_behind : World → LooseEvent → List ℕ
+downs_behind w e = map (λ y. op_of y.token) ((loose_happens (waiting w) e).conns 0).down
+
+-- how many messages the server took until then
+abbrev pub places_behind : World → LooseEvent → ℕ
+places_behind w e = (loose_happens (waiting w) e).log.places
