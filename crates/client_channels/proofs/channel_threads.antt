@@ -1,0 +1,6 @@
+mod Each
+mod Ending
+mod Rising
+mod Seated
+mod Splitting
+mod Submitting

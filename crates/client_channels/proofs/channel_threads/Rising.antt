@@ -1,0 +1,196 @@
+-- Numbers that bound channels are given, in the order of the history.
+use Rattle.std.proofs.Common.{◌≡◌, ◌⊎◌, ◌<◌, ◌≤◌, ℕ, zero, suc, ◌+◌, Bool, true, false, List, [], ◌∷◌, Some, None, if◌then◌else◌, arith}
+use Rattle.std.proofs.Common.{inl, inr, refl, sym, ap, subst, ◌∙◌}
+use Rattle.std.specs.Prelude.{is_some, nat_lt, slice_get, unwrap_or, Option as Perhaps}
+use Rattle.client_ends.specs.declared.ends.config.Bound.{Bound}
+use Rattle.client_events.specs.declared.event_calls.steps.Act.{Act}
+use Rattle.client_events.specs.declared.event_calls.steps.Act.TheVariants as acts
+use Rattle.client_events.specs.declared.event_calls.steps.Event.{Event}
+use Rattle.client_steps.specs.declared.whole_client.client.Client.{Client as Core}
+use Rattle.serve_turns.specs.declared.shared_book.view.Entry.{Entry}
+use Rattle.serve_turns.specs.shared_book.Histories.{Replays}
+use Rattle.client_book.specs.Beginning.{IsNextIn, Shared, behind_begun}
+use Rattle.client_book.specs.Steps.{FailsBy, GivesUp, Goes, Happens, Stops, TellsAct, ended_on, failing, is_nothing, shared_of}
+use Rattle.client_book.specs.declared.book.ClientBook.{ClientBook}
+use Rattle.client_book.specs.declared.turn.Told.{Told}
+use Rattle.client_book.specs.declared.turn.Told.TheVariants as tells
+use Rattle.client_book.specs.declared.turn.Turn.{Turn}
+use Rattle.client_book.specs.declared.turn.Turn.TheVariants as turns
+use Rattle.client_channels.specs.channel_threads.Numbers.{GivesAt, AcceptsSession, NoneAccepted, BoundNumbersRise}
+use Rattle.client_channels.specs.channel_turns.Sharing.{TurnSteps}
+use Rattle.client_channels.specs.declared.channel_turns.shared_client.ClientTurns.{ClientTurns}
+
+-- ---- what is told
+
+abbrev binds : Told → Bool
+binds (tells.Bind bound number) = true
+binds _ = false
+
+-- it is told to be bound to nothing, where something else is told
+not_both : (told other : Told) → binds other ≡ false → told ≡ other → (b : Bound) (n : ℕ) → told ≡ tells.Bind b n → ⊥
+not_both told other unbound is b n e = let both : false ≡ true = sym unbound ∙ ap binds (sym is ∙ e) in cc
+
+not_by_act : (act : Act) (client : Core) (salt : ℕ) (told : Told) → TellsAct act client salt told → (b : Bound) (n : ℕ)
+    → told ≡ tells.Bind b n → ⊥
+not_by_act acts.Nothing client salt told is b n e = not_both told tells.Nothing refl is b n e
+not_by_act (acts.Sends g) client salt told h b n e = not_both told (tells.Send h.request) refl h.is b n e
+not_by_act (acts.Asks g) client salt told h b n e = not_both told (tells.Send h.request) refl h.is b n e
+not_by_act acts.CloseChannel client salt told is b n e = not_both told tells.Close refl is b n e
+not_by_act acts.CloseChannels client salt told is b n e = not_both told tells.Close refl is b n e
+not_by_act acts.AllSettled client salt told is b n e = not_both told tells.Done refl is b n e
+
+not_by_event : (old new : ClientBook) (x : Event) (told : Told) → Happens old x told new → (b : Bound) (n : ℕ) → told ≡ tells.Bind b n → ⊥
+not_by_event old new x told h b n e = not_by_act h.act new.client old.salt told h.tells b n e
+
+not_by_failing : (few : Bool) (old new : ClientBook) (s : Shared) (told : Told) → FailsBy few old s told new → (b : Bound) (n : ℕ)
+    → told ≡ tells.Bind b n → ⊥
+not_by_failing true old new s told (rests, shared, is) b n e = not_both told tells.Nothing refl is b n e
+not_by_failing false old new s told (inl (h, shared, dead)) b n e = not_by_event old new _ told h b n e
+not_by_failing false old new s told (inr (rests, shared, is, live)) b n e = not_both told tells.Close refl is b n e
+
+-- the next number, which is then the highest
+abbrev IsNext : ClientBook → ClientBook → ℕ → Type 0
+IsNext old new n = (n ≡ old.numbers + 1) × (new.numbers ≡ n)
+
+next_begun : (old new : ClientBook) (told : Told) (b : Bound) (n : ℕ) → told ≡ tells.Bind b n → shared_of new ≡ behind_begun told
+    (shared_of old)
+    → IsNextIn told (shared_of old) → IsNext old new n
+next_begun old new told b n e shared next =
+    let given : IsNextIn (tells.Bind b n) (shared_of old) = subst (λ (t : Told). IsNextIn t (shared_of old)) e next in
+    let behind : shared_of new ≡ behind_begun (tells.Bind b n) (shared_of old) =
+    subst (λ (t : Told). shared_of new ≡ behind_begun t (shared_of old)) e shared in
+    (given.1, ap (λ (s : Shared). s.numbers) behind)
+
+next_of : (old new : ClientBook) (turn : Turn) (told : Told) → Goes old turn told new → (b : Bound) (n : ℕ) → told ≡ tells.Bind b n
+    → IsNext old new n
+next_of old new (turns.Submit number kind) told (h, shared) b n e = absurd (not_by_event old new _ told h b n e)
+next_of old new (turns.Begin channel first shuns) told (rests, shared, next, is) b n e = next_begun old new told b n e shared next
+next_of old new (turns.Failed channel) told h b n e = absurd
+    (not_by_failing (nat_lt (failing channel (shared_of old)).failed 8) old new (failing channel (shared_of old)) told h b n e)
+next_of old new (turns.Accept session keys) told (rests, is, shared) b n e = absurd (not_both told tells.Nothing refl is b n e)
+next_of old new (turns.Ready channel session tree) told (h, shared) b n e = absurd (not_by_event old new _ told h b n e)
+next_of old new (turns.Refused channel why) told (h, shared) b n e = absurd (not_by_event old new _ told h b n e)
+next_of old new (turns.Leave channel) told (rests, is, shared) b n e = absurd (not_both told tells.Nothing refl is b n e)
+next_of old new (turns.Finish why) told (h, shared) b n e = absurd (not_by_event old new _ told h b n e)
+next_of old new (turns.Push channel credits) told (h, shared) b n e = absurd (not_by_event old new _ told h b n e)
+next_of old new (turns.Hear channel answer) told h b n e = absurd (not_by_event old new _ told h.happens b n e)
+next_of old new (turns.Cut channel) told (h, shared) b n e = absurd (not_by_event old new _ told h b n e)
+next_of old new turns.Lack told h b n e = absurd h
+
+-- ---- which numbers stay
+
+same_numbers : (new : ClientBook) (s : Shared) → shared_of new ≡ s → new.numbers ≡ s.numbers
+same_numbers new s e = ap (λ (x : Shared). x.numbers) e
+
+behind_told : (told : Told) (s : Shared) → IsNextIn told s → s.numbers ≤ (behind_begun told s).numbers
+behind_told tells.Nothing s next = omega arith
+behind_told (tells.Make previous) s next = omega arith
+behind_told (tells.Bind bound number) s next = let more = next.1 in omega arith
+behind_told (tells.Send request) s next = omega arith
+behind_told tells.Close s next = omega arith
+behind_told tells.Done s next = omega arith
+behind_told tells.Stop s next = omega arith
+
+behind_dialog : (nothing : Bool) (channel : ℕ) (s : Shared) → (if nothing then ended_on channel s else s).numbers ≡ s.numbers
+behind_dialog true channel s = refl
+behind_dialog false channel s = refl
+
+behind_failing : (few : Bool) (old new : ClientBook) (s : Shared) (told : Told) → FailsBy few old s told new → new.numbers ≡ s.numbers
+behind_failing true old new s told (rests, shared, is) = same_numbers new s shared
+behind_failing false old new s told (inl (h, shared, dead)) = same_numbers new _ shared
+behind_failing false old new s told (inr (rests, shared, is, live)) = same_numbers new s shared
+
+from_same : (a b : ℕ) → b ≡ a → a ≤ b
+from_same a b e = omega arith
+
+stays : (old new : ClientBook) (turn : Turn) (told : Told) → (AcceptsSession turn → ⊥) → Goes old turn told new → old.numbers ≤ new.numbers
+stays old new (turns.Submit number kind) told other (h, shared) = from_same old.numbers new.numbers (same_numbers new _ shared)
+stays old new (turns.Begin channel first shuns) told other (rests, shared, next, is) =
+    let same = same_numbers new _ shared in let more = behind_told told (shared_of old) next in omega arith
+stays old new (turns.Failed channel) told other h = from_same old.numbers new.numbers
+    (behind_failing (nat_lt (failing channel (shared_of old)).failed 8) old new (failing channel (shared_of old)) told h)
+stays old new (turns.Accept session keys) told other h = absurd (other tt)
+stays old new (turns.Ready channel session tree) told other (h, shared) =
+    from_same old.numbers new.numbers (same_numbers new _ shared ∙ behind_dialog (is_nothing told) channel (shared_of old))
+stays old new (turns.Refused channel why) told other (h, shared) = from_same old.numbers new.numbers (same_numbers new _ shared)
+stays old new (turns.Leave channel) told other (rests, is, shared) = from_same old.numbers new.numbers (same_numbers new _ shared)
+stays old new (turns.Finish why) told other (h, shared) = from_same old.numbers new.numbers (same_numbers new _ shared)
+stays old new (turns.Push channel credits) told other (h, shared) = from_same old.numbers new.numbers (same_numbers new _ shared)
+stays old new (turns.Hear channel answer) told other h = from_same old.numbers new.numbers (same_numbers new _ h.rest)
+stays old new (turns.Cut channel) told other (h, shared) = from_same old.numbers new.numbers (same_numbers new _ shared)
+stays old new turns.Lack told other h = absurd h
+
+-- ---- over a history
+
+-- memory ran out, or a number not below this one was given in the session that was accepted last
+abbrev Has : ℕ → ClientTurns → Type 0
+Has m b = (b.book.stopped ≡ true) ⊎ (m ≤ b.book.numbers)
+
+has_on : (m : ℕ) (old new : ClientTurns) (turn : Turn) (told : Told) → TurnSteps old turn told new → (AcceptsSession turn → ⊥)
+    → Has m old → Has m new
+has_on m old new turn told (inl stops) other h = inl stops.stopped
+has_on m old new turn told (inr (going, goes)) other (inl stopped) = absurd (let both : true ≡ false = sym stopped ∙ going in cc)
+has_on m old new turn told (inr (going, goes)) other (inr low) =
+    let more = stays old.book new.book turn told other goes in inr (omega arith)
+
+-- a number that is given is the next one
+given : (old new : ClientTurns) (turn : Turn) (told : Told) (b : Bound) (n : ℕ) → TurnSteps old turn told new → told ≡ tells.Bind b n
+    → (old.book.stopped ≡ false) × IsNext old.book new.book n
+given old new turn told b n (inl stops) e = absurd (not_both told tells.Stop refl stops.is b n e)
+given old new turn told b n (inr (going, goes)) e = (going, next_of old.book new.book turn told goes b n e)
+
+above_given : (m n : ℕ) (old new : ClientTurns) → (old.book.stopped ≡ false) × IsNext old.book new.book n → Has m old → m < n
+above_given m n old new (going, next) (inl stopped) = absurd (let both : true ≡ false = sym stopped ∙ going in cc)
+above_given m n old new (going, next) (inr low) = let more = next.0 in omega arith
+
+first_of : {X : Type 0} (x y : X) → Some x ≡ Some y → x ≡ y
+first_of {X} x y e = ap (λ (o : Perhaps X). unwrap_or o x) e
+
+none_at : {X : Type 0} (x : X) → None ≡ Some x → ⊥
+none_at {X} x e = let both : false ≡ true = ap (λ (o : Perhaps X). is_some o) e in absurd (cc)
+
+abbrev Log : Type 0
+Log = List (Entry Turn Told)
+
+-- what the first turn of a history gives
+at_first : (e : Entry Turn Told) (es : Log) (n : ℕ) (from next : ClientTurns) → TurnSteps from e.event e.reply next → GivesAt (e ∷ es) 0 n
+    → (from.book.stopped ≡ false) × IsNext from.book next.book n
+at_first e es n from next step g =
+    given from next e.event e.reply g.bound n step (ap (λ (x : Entry Turn Told). x.reply) (first_of e g.entry g.stands) ∙ g.gives)
+
+-- and a later one
+at_later : (e : Entry Turn Told) (es : Log) (place n : ℕ) → GivesAt (e ∷ es) (suc place) n → GivesAt es place n
+at_later e es place n g = record { entry = g.entry; bound = g.bound; stands = g.stands; gives = g.gives }
+
+-- a number that is given while no further session is accepted
+above_from : (m n : ℕ) (from to : ClientTurns) (log : Log) (j : ℕ) → Replays TurnSteps from log to → Has m from → GivesAt log j n
+    → ((k : ℕ) (e : Entry Turn Told) → k < j → slice_get log k ≡ Some e → AcceptsSession e.event → ⊥) → m < n
+above_from m n from to [] j replays h g none = absurd (none_at g.entry g.stands)
+above_from m n from to (e ∷ es) zero (next, step, rest) h g none = above_given m n from next (at_first e es n from next step g) h
+above_from m n from to (e ∷ es) (suc j) (next, step, rest) h g none =
+    above_from m n next to es j rest (has_on m from next e.event e.reply step (none 0 e (omega arith) refl) h) (at_later e es j n g)
+    (λ k x lt at. none (suc k) x (omega (arith, lt)) at)
+
+above_none : (n : ℕ) (from to : ClientTurns) (log : Log) (i : ℕ) → Replays TurnSteps from log to → GivesAt log i n → 0 < n
+above_none n from to [] i replays g = absurd (none_at g.entry g.stands)
+above_none n from to (e ∷ es) zero (next, step, rest) g = let more = (at_first e es n from next step g).1.0 in omega arith
+above_none n from to (e ∷ es) (suc i) (next, step, rest) g = above_none n next to es i rest (at_later e es i n g)
+
+above_both : (m n : ℕ) (from to : ClientTurns) (log : Log) (i j : ℕ) → Replays TurnSteps from log to → i < j → GivesAt log i m
+    → GivesAt log j n
+    → NoneAccepted log i j → m < n
+above_both m n from to [] i j replays lt g h none = absurd (none_at g.entry g.stands)
+above_both m n from to (e ∷ es) i zero (next, step, rest) lt g h none = absurd (omega (arith, lt))
+above_both m n from to (e ∷ es) zero (suc j) (next, step, rest) lt g h none =
+    let is = (at_first e es m from next step g).1.1 in
+    above_from m n next to es j rest (inr (from_same m next.book.numbers is)) (at_later e es j n h)
+    (λ k x less at. none (suc k) x (omega arith) (omega (arith, less)) at)
+above_both m n from to (e ∷ es) (suc i) (suc j) (next, step, rest) lt g h none =
+    above_both m n next to es i j rest (omega (arith, lt)) (at_later e es i m g) (at_later e es j n h)
+    (λ k x low less at. none (suc k) x (omega (arith, low)) (omega (arith, less)) at)
+
+pub numbers_rise : (from to : ClientTurns) (log : List (Entry Turn Told)) → Replays TurnSteps from log to → BoundNumbersRise log
+numbers_rise from to log replays = record {
+  above = λ i n g. above_none n from to log i replays g;
+  rise = λ i j m n lt g h none. above_both m n from to log i j replays lt g h none;
+}

@@ -1,0 +1,7 @@
+-- What follows of a value that is there.
+use Rattle.std.proofs.Common.{Result, Ok, Err}
+use Rattle.std.specs.Prelude.{IfOk}
+
+pub if_ok_map : {A E : Type 0} (P Q : A → Type 0) (r : Result A E) → ((a : A) → P a → Q a) → IfOk r P → IfOk r Q
+if_ok_map P Q (Ok a) f h = f a h
+if_ok_map P Q (Err e) f h = tt

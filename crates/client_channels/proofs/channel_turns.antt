@@ -1,0 +1,5 @@
+mod Applied
+mod Hearing
+mod Linking
+mod Rounding
+mod Stepping
