@@ -16,7 +16,7 @@ use Rattle.drill_command.specs.Playing.{Ran, played, run_of}
 use Rattle.drill_command.specs.TopCall.{CommandAnswers, Drills, CommandEnds, CommandMakes, CommandRefuses, SumsUp, CommandWrites}
 use Rattle.drill_command.specs.Writing.{Fronts}
 use Rattle.drill_command.specs.declared.words.Asked.{Asked}
-use Rattle.drill_command.proofs.Limits.{keeps_limit}
+use Rattle.script_words.proofs.ByteLimit.{keeps_limit}
 use Rattle.drill_command.proofs.Written.{front_of, whole_front}
 
 -- ---- a script that was read

@@ -1,4 +1,3 @@
-pub mod Limits
 pub mod Said
 pub mod Played
 pub mod Ended

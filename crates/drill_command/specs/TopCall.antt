@@ -22,7 +22,7 @@ use Rattle.drill_command.specs.declared.words.Asked.{Asked}
 use Rattle.drill_command.specs.declared.words.Asked.TheVariants.{Drill, Gen}
 
 abbrev pub usage : List ℕ
-usage = codes "usage: smb311 drill, gen SEED OPS, serve ADDR [COUNT LEVEL]\n"
+usage = codes "usage: smb311 drill, gen SEED OPS, serve ADDR [COUNT LEVEL], run ADDR\n"
 
 -- the status that the program ends with
 abbrev pub status_of : Ending → ℕ

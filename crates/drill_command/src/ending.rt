@@ -22,7 +22,7 @@ pub enum Ending {
     Memory = 8,
 }
 
-const USAGE: &str = "usage: smb311 drill, gen SEED OPS, serve ADDR [COUNT LEVEL]\n";
+const USAGE: &str = "usage: smb311 drill, gen SEED OPS, serve ADDR [COUNT LEVEL], run ADDR\n";
 
 pub(crate) fn usage<O: Sink>(sink: &mut O) -> Ending
     ensures { top.IsUsage (O.written sink.old) (O.written sink.new) (O.faults sink.old) (O.faults sink.new) result }

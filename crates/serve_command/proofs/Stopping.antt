@@ -1,5 +1,5 @@
 -- A connection that is told to have ended because the server stopped tells the count at which it did.
-use Rattle.std.proofs.Common.{◌≡◌, ◌⊎◌, inl, inr, ℕ, zero, suc, ◌+◌, ◌-◌, ◌==◌, ◌≤◌, ◌<◌, Bool, true, false, not, ◌&&◌, List, [], ◌∷◌, ◌++◌}
+use Rattle.std.proofs.Common.{◌≡◌, ◌⊎◌, inl, inr, ℕ, zero, suc, ◌+◌, ◌-◌, ◌==◌, ◌<◌, Bool, true, false, not, List, [], ◌∷◌, ◌++◌}
 use Rattle.std.proofs.Common.{length, slice_get, Option, Some, None, is_some, Result, Ok, Err, refl, sym, ap, subst, ◌∙◌, arith}
 use Rattle.std.specs.Prelude.{if◌then◌else◌, ⊤}
 use Rattle.spec_exchange.specs.State as model
@@ -36,7 +36,7 @@ use Rattle.serve_turns.specs.declared.link_serving.ended.ConnEnd.TheVariants as 
 use Rattle.serve_turns.specs.declared.link_serving.ended.Ended.{Ended}
 use Rattle.serve_turns.specs.declared.link_serving.ended.Ended.TheVariants.{By, Closed}
 use Rattle.serve_turns.specs.declared.shared_book.view.Entry.{Entry}
-use Rattle.serve_turns.specs.event_book.History.{Course, GivenIf, Meets, MeetsAt, MeetsOn, MeetsOther, Off, On, Placed, RunsBy, Stand, Standing}
+use Rattle.serve_turns.specs.event_book.History.{Course, GivenIf, Meets, MeetsOn, Off, On, Placed, RunsBy, Stand, Standing}
 use Rattle.serve_turns.specs.event_book.History.{StopsAt}
 use Rattle.serve_turns.specs.shared_book.Histories.{entries_of, entry_if}
 

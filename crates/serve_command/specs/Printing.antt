@@ -11,7 +11,7 @@ use Rattle.serve_command.specs.declared.server_settings.refusal.SettingsRefusal.
 use Rattle.serve_command.specs.declared.server_settings.refusal.SettingsRefusal.TheVariants.{Line, NoUser}
 
 abbrev pub usage_line : List ℕ
-usage_line = codes "usage: smb311 drill, gen SEED OPS, serve ADDR [COUNT LEVEL]\n"
+usage_line = codes "usage: smb311 drill, gen SEED OPS, serve ADDR [COUNT LEVEL], run ADDR\n"
 
 unfoldable pub no_user_line : ℕ → List ℕ
 no_user_line line = codes "line " ++ (decimal line ++ codes " no-user\n")

@@ -84,7 +84,7 @@ has_stopped last = is_some (stopped_of last.server.server)
 
 module _ (written written' : Option (List ℕ)) (sink sink' : ℕ) where
   -- By whether the server stopped, and whether the count of faults of its disk rose: that the disk failed goes before all else. Nothing is
-  -- told of a server that stopped without a fault.
+  -- told of a server that stopped where the count isn't above what it was before the start.
   abbrev pub Behind : Option Bound → Halt → List (Option Ended) → (stopped risen : Bool) → Ending → Type 0
   Behind bound halt ends true true ending = IsQuiet written written' sink sink' DiskFailed ending
   Behind bound halt ends true false ending = IsQuiet written written' sink sink' Memory ending

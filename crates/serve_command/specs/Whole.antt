@@ -140,8 +140,8 @@ module _ {D : Type 0} (told : Type 0) (seen : D → List ℕ) (may_leave : D →
   OnDiskAt book (Off count) = (stopped_of book.server.server ≡ Some count) × (count ≡ faults (disk_of book.server.server))
 
   -- The server at each place of the history, from the one that began to the one that was there in the end. Each step is the event's at its
-  -- place, with its reply, and at each place the disk is as the place found it. The server stops in an event in which the disk's count of
-  -- faults rose.
+  -- place, with its reply. At each place where the server goes on its disk, if it tells its bytes, stands for the records up to there; at
+  -- each behind a stop its count of faults is the one told. The server stops in an event in which that count rose.
   pub record IsOnDisk (opening : ServerBook D) (log : List (Entry Turn Answer)) (h : Course) (last : ServerBook D) : Type 0 where
     pub books : ℕ → ServerBook D
     pub begins : books 0 ≡ opening
@@ -162,8 +162,8 @@ module _ {D : Type 0} (told : Type 0) (seen : D → List ℕ) (may_leave : D →
   -- Of the server that began, the history, the connections, and the server that was there in the end: the history runs in the model; each
   -- connection's turns are its seat's entries, and what it wrote are the answers to what came, and that is all that passed over the link of
   -- its number; no entry is anybody else's; there are as many connections as links, each of one of the links; links, seats and numbers are
-  -- each one connection's own; of which it is told how they ended, they ended so; the disk stands for the records at each place; a server
-  -- that stopped is told by its disk's count of faults; and no nonce came twice.
+  -- each one connection's own; of which it is told how they ended, they ended so; at each place where the server goes on its disk, if it
+  -- tells its bytes, stands for the records; a server that stopped is told by its disk's count of faults; and no nonce came twice.
   pub record WasServedWhole (over : ℕ → Passage → Type 0) (count : ℕ) (opening : ServerBook D) (from : Stand) (ends : List (Option Ended))
       (last : ServerBook D)
       : Type 0 where

@@ -20,4 +20,4 @@ pub use due::due_law;
 pub use ending::Ending;
 pub use opening::settled;
 pub use printing::usage;
-pub use server_settings::{Bound, Said, SettingsRefusal, Setup, config_in, read_words};
+pub use server_settings::{Bound, Said, SettingsRefusal, Setup, address, config_in, read_words};

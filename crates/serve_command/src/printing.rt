@@ -1,12 +1,11 @@
 //! The usage of the command.
-ghost use Rattle.std.specs.Prelude.{◌≡◌};
 ghost use Rattle.serve_command.specs.Printing.{Prints, usage_line};
 ghost use Rattle.serve_command.specs.declared.ending.Ending.TheVariants.{Usage};
 
 use crate::ending::Ending;
 use base_outside::{Failed, Sink, write_all};
 
-const USAGE: &str = "usage: smb311 drill, gen SEED OPS, serve ADDR [COUNT LEVEL]\n";
+const USAGE: &str = "usage: smb311 drill, gen SEED OPS, serve ADDR [COUNT LEVEL], run ADDR\n";
 
 /// Says what the command's words are.
 pub fn usage<O: Sink>(sink: &mut O) -> Ending

@@ -10,4 +10,4 @@ pub use refusal::SettingsRefusal;
 pub(crate) use refusal::settings_line;
 pub(crate) use settings::printed_by;
 pub use settings::{Setup, config_in};
-pub use words::{Bound, Said, read_words};
+pub use words::{Bound, Said, address, read_words};

@@ -1,5 +1,6 @@
 //! What the program does: the server's command where the first of its words is `serve`, and else `drill` or `gen`.
 
+mod running;
 mod serving;
 mod top;
 mod words;

@@ -236,7 +236,7 @@ fn the_usage_is_told(rt: HostRuntime) -> Result<(), Fail> {
     assert_eq!(rt; usage(&mut sink) as u8, 2);
     assert_eq!(rt;
         sink.bytes(),
-        b"usage: smb311 drill, gen SEED OPS, serve ADDR [COUNT LEVEL]\n".as_slice()
+        b"usage: smb311 drill, gen SEED OPS, serve ADDR [COUNT LEVEL], run ADDR\n".as_slice()
     );
     Ok(())
 }

@@ -7,7 +7,7 @@ use Rattle.spec_exchange.specs.Table.{put}
 use Rattle.spec_world.specs.Answering.{Seal}
 use Rattle.spec_world.specs.Connection.{Going, answered}
 use Rattle.spec_world.specs.Ends as world
-use Rattle.spec_world.specs.Ends.{ServerEnd, Logons, first_server_end}
+use Rattle.spec_world.specs.Ends.{ServerEnd, Logons}
 use Rattle.spec_world.specs.Given.{Given, GivenStep, dealt_of, dealt_step, given_of}
 use Rattle.spec_world.specs.Hearing.{Frame, check_frame}
 use Rattle.spec_world.specs.Settings.{ServerSettings}

@@ -11,7 +11,7 @@ use Rattle.spec_world.specs.Answering.{SaidReply}
 use Rattle.spec_world.specs.Connection.{Going, heard_message, said_failed, said_to, went_heard, went_turn}
 use Rattle.spec_world.specs.Ends.{ServerEnd, Logons}
 use Rattle.spec_world.specs.Given as gives
-use Rattle.spec_world.specs.Given.{Given, Answered, NoMemory, Stops, counted_setups, dealt_all, dealt_by, dealt_heard, dealt_next, dealt_turn}
+use Rattle.spec_world.specs.Given.{Given, Answered, NoMemory, Stops, dealt_all, dealt_by, dealt_heard, dealt_next, dealt_turn}
 use Rattle.spec_world.specs.Given.{has_event, is_past_setups, went_answered, went_refused}
 use Rattle.spec_world.specs.Hearing.{Checked, is_setup}
 use Rattle.spec_world.specs.Logon.{Progress, Stays, Interim, Final, progress}

@@ -88,7 +88,7 @@ fn next_port(pieces: &mut Pieces<'_>) -> Option<u16>
 
 /// An address as `a.b.c.d:port`, in decimal numbers without leading zeros; the port is not 0.
 #[tactic(auto, unfolding(crate::specs::server_settings::Words::address_of))]
-fn address(word: &[u8]) -> Option<Address>
+pub fn address(word: &[u8]) -> Option<Address>
     ensures { result ≡ says.address_of (pieces 58 word.now) }
 {
     let mut pieces = Pieces::new(word, b':');

@@ -1,6 +1,16 @@
--- How the server's command ends, as the words ask for it, and its status. What `drill` and `gen` come to stands with them.
-use Rattle.std.specs.Prelude.{◌≡◌, ℕ, Bool, false, List, [], ◌∷◌, Option, Some, None}
+-- How the server's and the client's command end, as the words ask for it, and their statuses. What `drill` and `gen` come to stands
+-- with them.
+use Rattle.std.specs.Prelude.{◌≡◌, ℕ, Bool, false, if◌then◌else◌, List, [], ◌∷◌, codes, Option, Some, None}
+use Rattle.std.specs.Str.{bytes_eq}
 use Rattle.journal.specs.declared.disk_journal.journal.JournalError.{JournalError}
+use Rattle.client_ends.specs.declared.ends.config.ClientConfig.{ClientConfig}
+use Rattle.client_steps.specs.declared.whole_client.client.Client.{Client}
+use Rattle.client_values.specs.declared.operations.values.OpKind.{OpKind}
+use Rattle.run_command.specs.Running.{RunEnds}
+use Rattle.run_command.specs.declared.ending.Ending.{Ending as RunEnding}
+use Rattle.run_command.specs.declared.ending.Ending.TheVariants as runs
+use Rattle.script_words.specs.Pieces.{pieces}
+use Rattle.serve_command.specs.server_settings.Words.{address_of}
 use Rattle.serve_command.specs.server_settings.Words.{is_serve}
 use Rattle.serve_command.specs.declared.server_settings.words.Said.{Said}
 use Rattle.base_outside.specs.declared.streams.address.Address.{Address}
@@ -43,3 +53,38 @@ module _ {D N : Type 0} (told : Type 0) (seen : D → List ℕ) (may_leave : D �
       × Prints written written' sink sink' usage_line Usage ending
   Serves (Some said) ending = ServingEnds told seen may_leave faults listens_at links net_faults link_told sent over refuses said disk left left'
       source source' written written' sink sink' net net' disk' ending
+
+-- ---- the client's
+
+abbrev pub is_run : List ℕ → Bool
+is_run word = bytes_eq word (codes "run")
+
+-- the first word is the client's
+abbrev pub asks_client : List (List ℕ) → Bool
+asks_client [] = false
+asks_client (word ∷ more) = is_run word
+
+-- `run ADDRESS`, and no other words
+abbrev pub run_said : List (List ℕ) → Option Address
+run_said [] = None
+run_said (word ∷ []) = None
+run_said (word ∷ place ∷ []) = if is_run word then address_of (pieces 58 place) else None
+run_said (word ∷ place ∷ next ∷ more) = None
+
+abbrev pub run_status : RunEnding → ℕ
+run_status runs.Done = 0
+run_status runs.Script = 3
+run_status runs.SourceFailed = 4
+run_status runs.SinkFailed = 5
+run_status runs.Memory = 8
+run_status runs.Unknown = 11
+
+-- The same is told of source, sink and net. `over` says what channels come to, and there are the 32 bytes of a seed and the 16 of a GUID.
+module _ {N : Type 0} (over : ℕ → List OpKind → ClientConfig → List ℕ → Client → Type 0) (seed guid : List ℕ) (net net' : N)
+    (left left' : Option (List ℕ)) (source source' : ℕ) (written written' : Option (List ℕ)) (sink sink' : ℕ) where
+  -- by what the words say: where that is nothing, the usage is printed, and source and net are as they were
+  abbrev pub Runs : Option Address → ℕ → Type 0
+  Runs None status = (left' ≡ left) × (source' ≡ source) × (net' ≡ net)
+      × ((ending : Ending) × (status ≡ serve_status ending) × Prints written written' sink sink' usage_line Usage ending)
+  Runs (Some at) status = (ending : RunEnding) × (status ≡ run_status ending)
+      × RunEnds over seed guid left left' source source' written written' sink sink' net net' ending

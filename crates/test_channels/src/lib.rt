@@ -1,0 +1,8 @@
+//! Tests of the command `run` over channels against the command that serves, over links in memory. It is a room because
+//! a crate with tests is proved twice. Nothing stands on it.
+#![tactic(auto)]
+
+#[cfg(test)]
+mod calls;
+#[cfg(test)]
+mod commands;
