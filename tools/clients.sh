@@ -1,7 +1,8 @@
 #!/bin/bash
 # Tries real clients on a server: tools/clients.sh PROGRAM serve, PROGRAM by its whole path. It is begun as PROGRAM serve ADDR with its
 # settings on standard input, in a new folder. One line a check, and a count at the end; the status is 0 where none failed.
-# It wants Debian's smbclient (4.17), python3-impacket (0.10), python3-smbc (1.0) and rclone (1.60); what is missing is said, and its checks are left out.
+# It wants Debian's smbclient and samba (4.17), python3-impacket (0.10), python3-smbc (1.0) and rclone (1.60); what is missing is said, and its
+# checks are left out.
 # The checks of NTLM without SPNEGO, as Linux's kernel sends it, and of marks over a start want Python's package cryptography.
 # SIZES (bytes of the files that are put and got) and PORT may be given; LIMIT is how many seconds a client may take.
 top=$(cd "$(dirname "$0")/.." && pwd)
@@ -242,5 +243,11 @@ for kind in sealed signed; do
   [ -n "$has_smbclient" ] && check "smbclient $kind: a server that takes any token" smb "${protection[@]}" -c ls
   stop
 done
+# The other way round: the command run against Samba's server.
+if [ -x /usr/sbin/smbd ] && [ "$(id -u)" = 0 ]; then
+  lines_of /usr/bin/python3 "$top/tools/run_samba.py" "${program[0]}"
+else
+  echo "run: left out, since there is no smbd here, or no root"
+fi
 echo "$well checks passed, $failed failed"
 [ $failed = 0 ]

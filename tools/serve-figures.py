@@ -456,4 +456,5 @@ def main():
         print(f"| {figure} | {own:.4g} | {theirs:.4g} | {own / theirs if theirs else float('nan'):.2g} |")
 
 
-main()
+if __name__ == "__main__":
+    main()
