@@ -230,8 +230,8 @@ def hear(trial, edits, said):
         lost = re.match(r"help: `Goals` has no `([^`]+)`; rattle asks for (.*)", line)
         if lost:
             asked.setdefault(now, {})[lost[1]] = re.findall("`([^`]+)`", lost[2].split(";")[0])
-        at = re.match(r"(?:note: )?(?:\./)?((?:src|proofs)/\S+?):(\d+):\d+: ", line)
-        edit = at and (trial.lines.get((at[1], int(at[2]))) or owners.get(os.path.dirname(at[1])))
+        at = re.match(r"(?:note: )?(?:\./)?((?:src|proofs)/[^\s:]+)(?::(\d+):\d+)?: ", line)
+        edit = at and (trial.lines.get((at[1], int(at[2] or 0))) or owners.get(os.path.dirname(at[1])))
         if edit:
             edit.notes.append(line)
     for edit in edits:
@@ -347,9 +347,9 @@ def judged(room, texts, functions, edits):
 
 
 def tried_together(room, name):
-    """Tries a room's edits, or the one of that name, and returns how many aren't refused."""
+    """Tries a room's edits, or those of these names (between commas), and returns how many aren't refused."""
     edits, texts, functions = edits_of(room)
-    edits = [edit for edit in edits if name in ("", edit.name)]
+    edits = [edit for edit in edits if not name or edit.name in name.split(",")]
     if not edits:
         sys.exit("edits/%s has none %s" % (room, name))
     lacking = [name for name in all_below(room, lines_of()[1]) if not os.path.exists(os.path.join(folder(name), "out", "rlib", "stamp"))]
