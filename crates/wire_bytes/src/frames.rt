@@ -4,6 +4,7 @@
 mod deframer;
 mod frame;
 mod front;
+mod long;
 
 pub use deframer::{Deframer, Frame};
 pub use frame::frame_of;

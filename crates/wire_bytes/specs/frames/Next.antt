@@ -1,5 +1,5 @@
 -- What the calls on frames answer.
-use Rattle.std.specs.Prelude.{◌≡◌, ℕ, ◌<◌, ◌≤◌, min, List, length, Option, Some, None, Result, Ok, Err, ⊤}
+use Rattle.std.specs.Prelude.{◌≡◌, ℕ, ◌+◌, ◌<◌, ◌≤◌, min, List, length, drop, Option, Some, None, Result, Ok, Err, ⊤}
 use Rattle.spec_wire.specs.messages.Frames.{Waits, Whole, Breaks, front, frame_spelling}
 use Rattle.spec_wire.specs.declared.messages.refusal.FrameError.{FrameError}
 use Rattle.spec_wire.specs.declared.messages.refusal.FrameError.TheVariants as errors
@@ -20,3 +20,11 @@ IsFrameOf message (Ok frame) = (length message ≤ 1114112) × (frame ≡ frame_
 IsFrameOf message (Err errors.Memory) = ⊤
 IsFrameOf message (Err (errors.BadLead lead)) = ⊥
 IsFrameOf message (Err (errors.TooLong n)) = (1114112 < length message) × (n ≡ min (length message) 4294967295)
+
+-- the message at the front of a stream, if it is whole
+abbrev pub FirstIs : List ℕ → Result (Option Frame) FrameError → Type 0
+FirstIs stream (Ok (Some f)) = (4 + length f.bytes ≤ length stream) × (front stream ≡ Whole f.bytes (drop (4 + length f.bytes) stream))
+FirstIs stream (Ok None) = front stream ≡ Waits
+FirstIs stream (Err errors.Memory) = ⊤
+FirstIs stream (Err (errors.BadLead lead)) = front stream ≡ Breaks (errors.BadLead lead)
+FirstIs stream (Err (errors.TooLong n)) = front stream ≡ Breaks (errors.TooLong n)

@@ -1,4 +1,4 @@
-ghost use Rattle.std.specs.Prelude.{◌≡◌, ◌<◌, length, MatchResult};
+ghost use Rattle.std.specs.Prelude.{◌≡◌, ◌<◌, ◌≤◌, length, MatchResult};
 ghost use Rattle.spec_wire.specs.messages.Places.{number};
 
 use crate::byte_lists::{Cursor, Short};
@@ -12,7 +12,8 @@ pub struct Halves {
 
 /// The halves of an id of 16 bytes: a FileId (MS-SMB2 2.2.14.1), a ClientGuid or a CreateGuid. Less than 16 bytes are too few.
 pub fn halves_of(id: &[u8]) -> Result<Halves, Short>
-    ensures { MatchResult result (λ h. (h.low ≡ number 8 id.now 0) × (h.high ≡ number 8 id.now 8)) (λ _. length id.now < 16) }
+    ensures { MatchResult result (λ h. (h.low ≡ number 8 id.now 0) × (h.high ≡ number 8 id.now 8) × (16 ≤ length id.now))
+        (λ _. length id.now < 16) }
 {
     let mut cursor = Cursor::new(id);
     let low = cursor.get_u64()?;

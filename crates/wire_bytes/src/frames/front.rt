@@ -5,7 +5,7 @@ ghost use Rattle.spec_wire.specs.messages.Frames.{Waits, Whole, Breaks, front, t
 use spec_wire::FrameError;
 
 // The length in three bytes behind the first, the highest first.
-fn length_of(stream: &[u8]) -> u32
+pub(crate) fn length_of(stream: &[u8]) -> u32
     requires { 4 ≤ length stream.now }
     ensures { result ≡ told_length stream.now }
 {
