@@ -4,6 +4,7 @@ mod Crash
 mod Gates
 mod Grown
 mod Lists
+mod Looks
 mod Meaning
 mod Mend
 mod Moments

@@ -2,13 +2,15 @@
 //! no table of the server. The server's records and recovery stand on it.
 #![tactic(auto)]
 
+mod checksum;
 mod disk_journal;
 pub mod record_bodies;
 pub mod record_bytes;
 
+pub use checksum::{Sum, checksum_of, sums_law, vectors_example};
 pub use disk_journal::{
     BytesList, Found, Journal, JournalError, RefusedStart, broken_means_nothing, one_break,
-    one_meaning, prepare, repair,
+    one_form, one_meaning, prepare, repair,
 };
 pub use record_bodies::{body_law, elements_of, guid_of, spelled};
 pub use record_bytes::{

@@ -1,12 +1,13 @@
-//! The checksum of an entry, and what a journal stands for whose entries carry it.
+//! The checksum of an entry, and what it tells of a changed byte.
 //!
 //! Each law is a public function with an empty body, whose contract is the statement.
 
 ghost use Rattle.std.specs.Prelude.{◌≡◌, ◌≢◌, ℕ, ◌<◌, ◌^◌, List, [], ◌∷◌, ◌++◌, length, replicate};
-ghost use Rattle.law_snapshots.specs.checksums.Castagnoli.{AreBytes, behind_bytes, crc32c};
-ghost use Rattle.law_snapshots.specs.checksums.Summed.{NoSummedEntryAt, SummedHolds, checksum_of_entry, summed_front};
-ghost use Rattle.law_snapshots.specs.checksums.Vectors.{digits, downwards, read_command, upwards};
-ghost use Rattle.spec_wire.specs.journal.Grammar.{AllFit, JournalHolds};
+ghost use Rattle.spec_journal.specs.Castagnoli.{AreBytes, behind_bytes, crc32c};
+ghost use Rattle.spec_journal.specs.Forms.{NoEntryAt, form_front};
+ghost use Rattle.spec_journal.specs.Vectors.{digits, downwards, read_command, upwards};
+ghost use Rattle.spec_journal.specs.declared.form.Form.TheVariants.{Summed};
+ghost use Rattle.spec_wire.specs.journal.Grammar.{AllFit, entry};
 ghost use Rattle.spec_wire.specs.messages.Places.{le};
 
 /// The published values: of the digits 1 to 9; and those of RFC 3720 B.4, of 32 bytes of zeros, of ones, of 0 to 31, of 31 to 0, and of a
@@ -22,7 +23,7 @@ pub fn checksum_example()
 
 /// Of one body of one byte the journal of the second form is worked by hand.
 pub fn summed_example()
-    ensures { summed_front ((65 ∷ []) ∷ []) ++ 0 ∷ [] ≡ 115 ∷ 109 ∷ 98 ∷ 51 ∷ 49 ∷ 49 ∷ 106 ∷ 50 ∷ 1 ∷ 1 ∷ 0 ∷ 0 ∷ 0
+    ensures { form_front Summed ((65 ∷ []) ∷ []) ++ 0 ∷ [] ≡ 115 ∷ 109 ∷ 98 ∷ 51 ∷ 49 ∷ 49 ∷ 106 ∷ 50 ∷ 1 ∷ 1 ∷ 0 ∷ 0 ∷ 0
         ∷ 0x26 ∷ 0x87 ∷ 0x73 ∷ 0xce ∷ 65 ∷ 0 ∷ [] }
 {}
 
@@ -34,20 +35,11 @@ pub fn checksum_law()
     ensures small { (bytes : List ℕ) → AreBytes bytes → crc32c bytes < 2 ^ 32 }
 {}
 
-/// Bytes stand for at most one list of bodies in the second form (`one`), and not in both forms (`apart`). Where an open gate has no entry
-/// behind it they stand for none (`nothing`), and that gate is the only one (`gate`).
-pub fn summed_law()
-    ensures one { (bytes : List ℕ) (a b : List (List ℕ)) → SummedHolds bytes a → SummedHolds bytes b → a ≡ b }
-    ensures apart { (bytes : List ℕ) (a b : List (List ℕ)) → JournalHolds bytes a → SummedHolds bytes b → ⊥ }
-    ensures nothing { (bytes : List ℕ) (bodies : List (List ℕ)) (at : ℕ) → SummedHolds bytes bodies → NoSummedEntryAt bytes at → ⊥ }
-    ensures gate { (bytes : List ℕ) (a b : ℕ) → NoSummedEntryAt bytes a → NoSummedEntryAt bytes b → a ≡ b }
-{}
-
 /// A byte of a body that is another than the one that was written is found: behind the bodies before it, its gate has no entry, whatever
 /// follows.
 pub fn changed_byte_law()
     ensures { (before : List (List ℕ)) (front rest more : List ℕ) (b c : ℕ) → AllFit before → length (front ++ b ∷ rest) < 2 ^ 32
         → AreBytes front → AreBytes rest → b < 256 → c < 256 → b ≢ c
-        → NoSummedEntryAt (summed_front before ++ 1 ∷ (le 4 (length (front ++ b ∷ rest))
-        ++ (le 4 (checksum_of_entry (front ++ b ∷ rest)) ++ ((front ++ c ∷ rest) ++ more)))) (length (summed_front before)) }
+        → NoEntryAt (form_front Summed before ++ 1 ∷ (le 4 (length (front ++ b ∷ rest))
+        ++ (le 4 (crc32c (entry (front ++ b ∷ rest))) ++ ((front ++ c ∷ rest) ++ more)))) (length (form_front Summed before)) }
 {}

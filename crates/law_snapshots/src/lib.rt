@@ -10,7 +10,7 @@ pub mod restarts;
 pub mod snapshots;
 
 pub use behind::{alike_law, behind_law};
-pub use checksums::{changed_byte_law, checksum_law, summed_law};
+pub use checksums::{changed_byte_law, checksum_law};
 pub use drafts::{compaction_law, cost_law, draft_law};
 pub use restarts::restart_over_law;
 pub use snapshots::{held_law, snapshot_fits_law, snapshot_law};

@@ -86,10 +86,11 @@ module _ {D : Type 0} (told : Type 0) (seen : D → List ℕ) (may_leave : D →
       record {
         bodies = bodies;
         spelled = j.spelled;
-        stands = inr (record { gate = f.gate; rest = []; spelled = f.file; closed = f.closed; fit = f.fit });
+        stands = inr (record { form = (journal_of server).form; gate = f.gate; rest = f.rest; spelled = f.file; closed = f.closed; fit = f.fit });
         stays = λ bytes left. inr (record {
+          form = (journal_of server).form;
           gate = f.gate;
-          rest = [];
+          rest = f.rest;
           spelled = f.durable bytes left ∙ f.file;
           closed = f.closed;
           fit = f.fit;

@@ -5,7 +5,7 @@ use Rattle.spec_exchange.specs.Fold.{recovered, recovery_records}
 use Rattle.spec_exchange.specs.State as model
 use Rattle.std.specs.Prelude.{◌++◌}
 use Rattle.base_outside.specs.streams.Faults.{Rose}
-use Rattle.spec_wire.specs.journal.Grammar.{StandsFor}
+use Rattle.spec_journal.specs.Forms.{StandsFor}
 use Rattle.spec_world.specs.Answering.{Seal}
 use Rattle.spec_world.specs.Ends.{no_logons}
 use Rattle.spec_world.specs.Settings.{ServerSettings}

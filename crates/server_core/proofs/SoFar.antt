@@ -6,7 +6,8 @@ use Rattle.std.specs.Prelude.{Result, Ok, Err, IfErr, MatchResult}
 use Rattle.spec_exchange.specs.Fold.{nothing_yet, fold_from}
 use Rattle.spec_exchange.specs.State as model
 use Rattle.spec_exchange.specs.State.{Server}
-use Rattle.spec_wire.specs.journal.Grammar.{front}
+use Rattle.spec_journal.specs.declared.form.Form.{Form}
+use Rattle.spec_journal.specs.Forms.{form_front, sum_size}
 use Rattle.spec_wire.specs.journal.Moments.{Quiet}
 use Rattle.journal.specs.disk_journal.Gather.{Gathered}
 use Rattle.journal.specs.disk_journal.Journal.{JournalState, JournalSettled, HandsOut, JournalNextAnswers}
@@ -45,10 +46,10 @@ at_drop [] (suc k) body more e = cc
 at_drop (b ∷ all) zero body more e = cc
 at_drop (b ∷ all) (suc k) body more e = at_drop all k body more e
 
-refused_at : (d : Durable) (bodies all : List (List ℕ)) (body : List ℕ) (rs : List model.Record) (at k n : ℕ)
-    → at ≡ length (front (take k all)) → bodies ++ drop k all ≡ all → drop k all ≡ body ∷ drop n all → IsReadFrom d nothing_yet bodies rs
-    → ((u : Server) → Fits u → DurableShown d u → BodyRefused u.version body (NotAJournal at)) → FoldRefused all (NotAJournal at)
-refused_at d bodies all body rs at k n is split next was refused =
+refused_at : (form : Form) (d : Durable) (bodies all : List (List ℕ)) (body : List ℕ) (rs : List model.Record) (at k n : ℕ)
+    → at ≡ length (form_front form (take k all)) → bodies ++ drop k all ≡ all → drop k all ≡ body ∷ drop n all → IsReadFrom d nothing_yet bodies rs
+    → ((u : Server) → Fits u → DurableShown d u → BodyRefused u.version body (NotAJournal at)) → FoldRefused form all (NotAJournal at)
+refused_at form d bodies all body rs at k n is split next was refused =
     let same : bodies ≡ take k all = append_cancel_right bodies (take k all) (drop k all) (split ∙ sym (take-append-drop k all)) in (
       k,
       body,
@@ -99,14 +100,14 @@ module _ {D : Type 0} (told : Type 0) (seen : D → List ℕ) (may_leave : D →
       ∙ ap (λ (j : JournalState D). record j { disk = new.disk; taken = new.taken; next = new.next }) a
 
   pub nearer : (now new : JournalState D) (body : List ℕ) (o : Option (List ℕ)) (r : Result (Option (List ℕ)) JournalError)
-      → r ≡ Ok o → o ≡ Some body → JournalNextAnswers faults now r new → new.used - new.next < now.used - now.next
+      → r ≡ Ok o → o ≡ Some body → JournalNextAnswers faults now r new → new.end - new.next < now.end - now.next
   nearer now new body o r is some k =
       let one : JournalNextAnswers faults now (Ok (Some body)) new =
       subst (λ (x : Result (Option (List ℕ)) JournalError). JournalNextAnswers faults now x new) (some_of r o (Some body) is some) k in
-      let used : new.used ≡ now.used = ap (λ (j : JournalState D). j.used) one.1 in
-      let next : new.next ≡ now.next + 5 + length body = ap (λ (j : JournalState D). j.next) one.1 in
-      let inside : new.next < new.used = one.2 in
-      omega (arith, used, next, inside)
+      let end : new.end ≡ now.end = ap (λ (j : JournalState D). j.end) one.1 in
+      let next : new.next ≡ now.next + 5 + sum_size now.form + length body = ap (λ (j : JournalState D). j.next) one.1 in
+      let inside : new.next < new.end = one.2 in
+      omega (arith, end, next, inside)
 
   pub so_far_more : (old now new : JournalState D) (begun d e : Durable) (body : List ℕ) (o : Option (List ℕ))
       (r : Result (Option (List ℕ)) JournalError) (q : Result Unit JournalError) (v : Unit {0}) → SoFar old begun now d
@@ -130,7 +131,7 @@ module _ {D : Type 0} (told : Type 0) (seen : D → List ℕ) (may_leave : D →
               ∙ (ap (λ (v : List (List ℕ)). was.bodies ++ v) (sym handed.0) ∙ was.gathered.front t bs s);
           quiet = quiet_behind told seen may_leave moment left_since old.disk now.disk new.disk was.gathered.quiet quiet;
           advances = (
-            advanced old now new (now.taken + 1) (now.next + 5 + length body) was.gathered.advances.0 k.1,
+            advanced old now new (now.taken + 1) (now.next + 5 + sum_size now.form + length body) was.gathered.advances.0 k.1,
             k.3 ∙ was.gathered.advances.1,
           );
         };
@@ -193,19 +194,19 @@ module _ {D : Type 0} (told : Type 0) (seen : D → List ℕ) (may_leave : D →
 
   -- ---- a call was refused
 
-  by_hands : (now new : JournalState D) (bodies : List (List ℕ)) (x : JournalError) → HandsOut seen may_leave now bodies (Err x) new
-      → FoldRefused bodies x
-  by_hands now new bodies Memory h = tt
-  by_hands now new bodies (DiskFault n) h = tt
-  by_hands now new bodies (NotAJournal at) h = absurd h
-  by_hands now new bodies (Full would limit) h = tt
-  by_hands now new bodies (Stopped n) h = tt
+  by_hands : (form : Form) (now new : JournalState D) (bodies : List (List ℕ)) (x : JournalError) → HandsOut seen may_leave now bodies (Err x) new
+      → FoldRefused form bodies x
+  by_hands form now new bodies Memory h = tt
+  by_hands form now new bodies (DiskFault n) h = tt
+  by_hands form now new bodies (NotAJournal at) h = absurd h
+  by_hands form now new bodies (Full would limit) h = tt
+  by_hands form now new bodies (Stopped n) h = tt
 
   pub unread : (old now new : JournalState D) (begun d : Durable) (r : Result (Option (List ℕ)) JournalError) (x : JournalError)
       → SoFar old begun now d → r ≡ Err x → Hands now r new → told → (bodies : List (List ℕ))
-      → JournalSettled seen may_leave old bodies → FoldRefused bodies x
+      → JournalSettled seen may_leave old bodies → FoldRefused old.form bodies x
   unread old now new begun d r x was is hands t bodies settled =
-      by_hands now new bodies x (subst (λ (y : Result (Option (List ℕ)) JournalError). HandsOut seen may_leave now bodies y new) is
+      by_hands old.form now new bodies x (subst (λ (y : Result (Option (List ℕ)) JournalError). HandsOut seen may_leave now bodies y new) is
       (hands t bodies (was.gathered.same t bodies settled)))
 
   by_answers : (old now new : JournalState D) (begun d : Durable) (x : JournalError) → SoFar old begun now d
@@ -250,19 +251,21 @@ module _ {D : Type 0} (told : Type 0) (seen : D → List ℕ) (may_leave : D →
   broken_at : (old now new : JournalState D) (begun d : Durable) (gate : ℕ) (body : List ℕ) (at : ℕ) → SoFar old begun now d
       → old.taken ≡ 0 → gate ≡ now.next → Hands now (Ok (Some body)) new → at ≡ gate
       → ((u : Server) → Fits u → DurableShown d u → BodyRefused u.version body (NotAJournal at)) → told → DurableShown begun nothing_yet
-      → (bodies : List (List ℕ)) → JournalSettled seen may_leave old bodies → FoldRefused bodies (NotAJournal at)
+      → (bodies : List (List ℕ)) → JournalSettled seen may_leave old bodies → FoldRefused old.form bodies (NotAJournal at)
   broken_at old now new begun d gate body at was none here out place refused t shown bodies settled =
       let s = was.gathered.same t bodies settled in
       let handed = out t bodies s in
       let split : was.bodies ++ drop now.taken bodies ≡ bodies =
       was.gathered.front t bodies settled ∙ ap (λ (n : ℕ). drop n bodies) none in
       let w = was.read shown in
-      refused_at d was.bodies bodies body w.0 at now.taken new.taken (place ∙ (here ∙ s.next)) split handed.0 w.1 refused
+      let form : now.form ≡ old.form = ap (λ (j : JournalState D). j.form) was.gathered.advances.0 in
+      refused_at old.form d was.bodies bodies body w.0 at now.taken new.taken
+      (place ∙ (here ∙ (s.next ∙ ap (λ (f : Form). length (form_front f (take now.taken bodies))) form))) split handed.0 w.1 refused
 
   by_body : (old now new : JournalState D) (begun d : Durable) (gate : ℕ) (body : List ℕ) (x : JournalError) → SoFar old begun now d
       → old.taken ≡ 0 → gate ≡ now.next → Hands now (Ok (Some body)) new → BodyCause gate x
       → ((u : Server) → Fits u → DurableShown d u → BodyRefused u.version body x) → told → DurableShown begun nothing_yet
-      → (bodies : List (List ℕ)) → JournalSettled seen may_leave old bodies → FoldRefused bodies x
+      → (bodies : List (List ℕ)) → JournalSettled seen may_leave old bodies → FoldRefused old.form bodies x
   by_body old now new begun d gate body Memory was none here out cause refused t shown bodies settled = tt
   by_body old now new begun d gate body (DiskFault n) was none here out cause refused t shown bodies settled = tt
   by_body old now new begun d gate body (NotAJournal at) was none here out cause refused t shown bodies settled =
@@ -275,7 +278,7 @@ module _ {D : Type 0} (told : Type 0) (seen : D → List ℕ) (may_leave : D →
       → r ≡ Ok o → o ≡ Some body → old.taken ≡ 0 → gate ≡ now.next → Hands now r new → q ≡ Err x → IfErr q (λ y. BodyCause gate y)
       → ((u : Server) → Fits u → DurableShown d u → MatchResult q (λ _. FoldedBy e u body) (λ y. BodyRefused u.version body y))
       → told → (s : Server) → s ≡ nothing_yet → DurableShown begun s → (bodies : List (List ℕ)) → JournalSettled seen may_leave old bodies
-      → FoldRefused bodies x
+      → FoldRefused old.form bodies x
   unfolded old now new begun d e gate body o r q x was is some none here hands stopped cause apply t s nothing shown bodies settled =
       by_body old now new begun d gate body x was none here
       (subst (λ (y : Result (Option (List ℕ)) JournalError). Hands now y new) (some_of r o (Some body) is some) hands)

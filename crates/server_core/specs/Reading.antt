@@ -2,7 +2,8 @@
 use Rattle.std.specs.Prelude.{◌≡◌, ◌⊎◌, ℕ, List, [], ◌∷◌, ◌++◌, length, take, true, false, slice_get, Some, ⊤}
 use Rattle.spec_exchange.specs.Fold.{nothing_yet, fold, fold_from}
 use Rattle.spec_exchange.specs.State as model
-use Rattle.spec_wire.specs.journal.Grammar.{front}
+use Rattle.spec_journal.specs.declared.form.Form.{Form}
+use Rattle.spec_journal.specs.Forms.{form_front}
 use Rattle.journal.specs.record_bytes.Grammar.{SpellsRecords, BreaksRecords}
 use Rattle.journal.specs.record_bytes.Meaning.{records_of}
 use Rattle.journal.specs.declared.record_bytes.fault.RecordError.{RecordError}
@@ -56,15 +57,15 @@ HandedOut told seen may_leave journal bodies = told → (all : List (List ℕ)) 
 
 -- ---- what stops it
 
--- the first body that no server writes, told by its gate
-abbrev pub FoldRefused : List (List ℕ) → JournalError → Type 0
-FoldRefused bodies (causes.NotAJournal at) = (k : ℕ) × (body : List ℕ) × (records : List model.Record)
-    × (slice_get bodies k ≡ Some body) × (at ≡ length (front (take k bodies))) × BodiesSpell (take k bodies) records
+-- the first body that no server writes, told by its gate in a journal of this form
+abbrev pub FoldRefused : Form → List (List ℕ) → JournalError → Type 0
+FoldRefused form bodies (causes.NotAJournal at) = (k : ℕ) × (body : List ℕ) × (records : List model.Record)
+    × (slice_get bodies k ≡ Some body) × (at ≡ length (form_front form (take k bodies))) × BodiesSpell (take k bodies) records
     × (all_sound records ≡ true) × NoServerWrites (fold records).version body
-FoldRefused bodies causes.Memory = ⊤
-FoldRefused bodies (causes.DiskFault n) = ⊤
-FoldRefused bodies (causes.Full would limit) = ⊤
-FoldRefused bodies (causes.Stopped n) = ⊤
+FoldRefused form bodies causes.Memory = ⊤
+FoldRefused form bodies (causes.DiskFault n) = ⊤
+FoldRefused form bodies (causes.Full would limit) = ⊤
+FoldRefused form bodies (causes.Stopped n) = ⊤
 
 -- a body that isn't read is no list of records, or memory ran out
 abbrev pub cause_of : RecordError → ℕ → JournalError

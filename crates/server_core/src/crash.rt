@@ -6,7 +6,7 @@ ghost use Rattle.std.specs.Prelude.{ℕ, List};
 ghost use Rattle.server_core.specs.crash.Left.{AgainOf, IsRecorded, LeftOf};
 ghost use Rattle.spec_exchange.specs.Fold.{Configuration};
 ghost use Rattle.spec_exchange.specs.State.{Record, Server, ServerEvent};
-ghost use Rattle.spec_wire.specs.journal.Grammar.{BreaksAt, StandsFor};
+ghost use Rattle.spec_journal.specs.Forms.{BreaksAt, StandsFor};
 ghost use Rattle.server_core.specs.journaled_tables.Holds.{EventLeavesBodies};
 ghost use Rattle.server_core.specs.Reading.{BodiesSpell};
 ghost use Rattle.server_core.specs.restart_tables.Restart.{IsNoBody};

@@ -32,7 +32,7 @@ pub fn fold_bodies<D: Disk>(
     ensures stays { D.told → (bodies : List (List ℕ)) → JournalSettled D.seen D.may_leave journal.old bodies
         → OnOk result (JournalSettled D.seen D.may_leave journal.new bodies) }
     ensures refused { D.told → (s : model.Server) → IsNothing s → DurableShown state.old s → (bodies : List (List ℕ))
-        → JournalSettled D.seen D.may_leave journal.old bodies → IfErr result (λ x. FoldRefused bodies x) }
+        → JournalSettled D.seen D.may_leave journal.old bodies → IfErr result (λ x. FoldRefused journal.old.form bodies x) }
     ensures quiet { Quiet D.told D.seen D.may_leave D.moment D.left_since journal.old.disk journal.new.disk }
     ensures cause { MatchResult result (λ _. ⊤) (λ x. ReadRefused D.faults journal.old.disk x journal.new) }
 {

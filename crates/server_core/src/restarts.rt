@@ -6,7 +6,7 @@
 ghost use Rattle.std.specs.Prelude.{◌≡◌, ℕ, List, true};
 ghost use Rattle.spec_exchange.specs.Fold.{Configuration, recovered};
 ghost use Rattle.spec_exchange.specs.State as model;
-ghost use Rattle.spec_wire.specs.journal.Grammar.{BreaksAt, StandsFor};
+ghost use Rattle.spec_journal.specs.Forms.{BreaksAt, StandsFor};
 ghost use Rattle.law_records.specs.recovery.Recovers.{RecordRecovers};
 ghost use Rattle.law_records.specs.recovery.Restarted.{EntriesLeft, Restarted};
 ghost use Rattle.law_server.specs.tables.Fits.{Fits, all_sound};

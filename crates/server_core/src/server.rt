@@ -3,7 +3,7 @@ ghost use Rattle.std.specs.Prelude.{◌≡◌, ℕ, Err, IfErr, IfOk, List, Matc
 ghost use Rattle.spec_exchange.specs.State as model;
 ghost use Rattle.spec_exchange.specs.Step.{due, step, with_deadlines};
 ghost use Rattle.store_files.specs.file_tree.Stored.{AreFiles};
-ghost use Rattle.spec_wire.specs.journal.Grammar.{StandsFor};
+ghost use Rattle.spec_journal.specs.Forms.{StandsFor};
 ghost use Rattle.spec_wire.specs.journal.Moments.{LeavesOnly};
 ghost use Rattle.server_checks.specs.event_heard.Heard.{heard_event, is_setup_heard};
 ghost use Rattle.server_checks.specs.declared.event_heard.event.ServerEvent.{ServerEvent};

@@ -3,7 +3,8 @@ use Rattle.std.proofs.Common.{◌≡◌, inl, ℕ, ◌+◌, ◌≤◌, List, [],
 use Rattle.std.proofs.Common.{arith, length-append, length-drop}
 use Rattle.std.proofs.lemmas.List.{drop_all, append-nil, take_at}
 use Rattle.base_outside.specs.streams.Disk.{WritesAt, Torn, Follows}
-use Rattle.spec_wire.specs.journal.Grammar.{magic, StandsFor}
+use Rattle.spec_wire.specs.journal.Grammar.{magic}
+use Rattle.spec_journal.specs.Forms.{StandsFor}
 use Rattle.spec_wire.specs.journal.Moments.{LeavesOnly}
 use Rattle.journal.specs.disk_journal.Entry.{IsEntryShort}
 use Rattle.journal.proofs.disk_journal.Moments.{weakened}

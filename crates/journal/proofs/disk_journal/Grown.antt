@@ -1,61 +1,119 @@
--- A journal that one more body was added to.
-use Rattle.std.proofs.Common.{◌≡◌, inl, inr, ℕ, ◌+◌, ◌^◌, ◌<◌, List, [], ◌∷◌, ◌++◌, length, sym, ◌∙◌, ap, arith}
+-- Bodies in front of one more.
+use Rattle.std.proofs.Common.{◌≡◌, inl, inr, ℕ, ◌+◌, ◌^◌, ◌<◌, List, [], ◌∷◌, ◌++◌, length, refl, sym, ◌∙◌, ap, arith}
 use Rattle.std.proofs.Common.{append_assoc, length-append, false, Ok, Err, Result}
 use Rattle.std.proofs.lemmas.List.{append-nil}
 use Rattle.std.specs.Result.{OnOk, is_err}
+use Rattle.spec_journal.specs.Castagnoli.{crc32c}
 use Rattle.spec_wire.specs.messages.Places.{le}
 use Rattle.spec_wire.proofs.messages.Numbers.{length-le}
-use Rattle.spec_wire.specs.journal.Grammar.{magic, entry, opened, front, AllFit, JournalHolds}
+use Rattle.spec_wire.specs.journal.Grammar.{magic, entry, opened, front, AllFit}
+use Rattle.spec_journal.specs.declared.form.Form.{Form}
+use Rattle.spec_journal.specs.declared.form.Form.TheVariants.{Plain, Summed}
+use Rattle.spec_journal.specs.Forms.{form_mark, sum_size, form_sum, form_entry, form_opened, form_front, JournalHolds}
 use Rattle.journal.specs.disk_journal.Entry.{StaysClosed, IsClosedOrOpened}
 use Rattle.journal.specs.disk_journal.Journal.{BeforeOrAfter}
 
-pub opened-push : (bodies : List (List ℕ)) (body rest : List ℕ) → opened bodies ++ 1 ∷ (entry body ++ rest)
-    ≡ opened (bodies ++ body ∷ []) ++ rest
-opened-push [] body rest = ap (λ (l : List ℕ). 1 ∷ (l ++ rest)) (sym (append-nil (entry body)))
-opened-push (b ∷ bodies) body rest =
-    ap (λ (l : List ℕ). 1 ∷ l) (append_assoc (entry b) (opened bodies) (1 ∷ (entry body ++ rest)))
-    ∙ ap (λ (l : List ℕ). 1 ∷ (entry b ++ l)) (opened-push bodies body rest)
-    ∙ ap (λ (l : List ℕ). 1 ∷ l) (sym (append_assoc (entry b) (opened (bodies ++ body ∷ [])) rest))
+-- ---- lengths
+
+pub length-sum : (form : Form) (body : List ℕ) → length (form_sum form body) ≡ sum_size form
+length-sum Plain body = refl
+length-sum Summed body = length-le 4 (crc32c (entry body))
+
+pub length-mark : (form : Form) → length (form_mark form) ≡ 8
+length-mark Plain = refl
+length-mark Summed = refl
+
+pub length-entry : (form : Form) (body : List ℕ) → length (form_entry form body) ≡ 4 + sum_size form + length body
+length-entry form body =
+    let outer : length (form_entry form body) ≡ length (le 4 (length body)) + length (form_sum form body ++ body) =
+    length-append (le 4 (length body)) (form_sum form body ++ body) in
+    let inner : length (form_sum form body ++ body) ≡ length (form_sum form body) + length body = length-append (form_sum form body) body in
+    let four : length (le 4 (length body)) ≡ 4 = length-le 4 (length body) in
+    omega (arith, outer, inner, four, length-sum form body)
+
+-- ---- one body more
+
+opened-push : (form : Form) (bodies : List (List ℕ)) (body rest : List ℕ) → form_opened form bodies ++ 1 ∷ (form_entry form body ++ rest)
+    ≡ form_opened form (bodies ++ body ∷ []) ++ rest
+opened-push form [] body rest = ap (λ (l : List ℕ). 1 ∷ (l ++ rest)) (sym (append-nil (form_entry form body)))
+opened-push form (b ∷ bodies) body rest =
+    ap (λ (l : List ℕ). 1 ∷ l) (append_assoc (form_entry form b) (form_opened form bodies) (1 ∷ (form_entry form body ++ rest)))
+    ∙ ap (λ (l : List ℕ). 1 ∷ (form_entry form b ++ l)) (opened-push form bodies body rest)
+    ∙ ap (λ (l : List ℕ). 1 ∷ l) (sym (append_assoc (form_entry form b) (form_opened form (bodies ++ body ∷ [])) rest))
 
 -- an entry whose gate is open belongs to what stands before the next gate
-pub front-push : (bodies : List (List ℕ)) (body rest : List ℕ) → front bodies ++ 1 ∷ (entry body ++ rest)
-    ≡ front (bodies ++ body ∷ []) ++ rest
-front-push bodies body rest =
-    append_assoc magic (opened bodies) (1 ∷ (entry body ++ rest))
-    ∙ ap (λ (l : List ℕ). magic ++ l) (opened-push bodies body rest)
-    ∙ sym (append_assoc magic (opened (bodies ++ body ∷ [])) rest)
+pub front-push : (form : Form) (bodies : List (List ℕ)) (body rest : List ℕ) → form_front form bodies ++ 1 ∷ (form_entry form body ++ rest)
+    ≡ form_front form (bodies ++ body ∷ []) ++ rest
+front-push form bodies body rest =
+    append_assoc (form_mark form) (form_opened form bodies) (1 ∷ (form_entry form body ++ rest))
+    ∙ ap (λ (l : List ℕ). form_mark form ++ l) (opened-push form bodies body rest)
+    ∙ sym (append_assoc (form_mark form) (form_opened form (bodies ++ body ∷ [])) rest)
 
-pub length-front-push : (bodies : List (List ℕ)) (body : List ℕ) → length (front (bodies ++ body ∷ []))
+pub length-front-push : (form : Form) (bodies : List (List ℕ)) (body : List ℕ) → length (form_front form (bodies ++ body ∷ []))
+    ≡ length (form_front form bodies) + 5 + sum_size form + length body
+length-front-push form bodies body =
+    let sizes : length (form_front form bodies ++ 1 ∷ (form_entry form body ++ [])) ≡ length (form_front form (bodies ++ body ∷ []) ++ []) =
+    ap length (front-push form bodies body []) in
+    let left : length (form_front form bodies ++ 1 ∷ (form_entry form body ++ [])) ≡ length (form_front form bodies) + length
+    (1 ∷ (form_entry form body ++ [])) = length-append (form_front form bodies) (1 ∷ (form_entry form body ++ [])) in
+    let middle : length (form_entry form body ++ []) ≡ length (form_entry form body) = ap length (append-nil (form_entry form body)) in
+    let inner : length (form_entry form body) ≡ 4 + sum_size form + length body = length-entry form body in
+    let right : length (form_front form (bodies ++ body ∷ []) ++ []) ≡ length (form_front form (bodies ++ body ∷ [])) =
+    ap length (append-nil (form_front form (bodies ++ body ∷ []))) in
+    omega (arith, sizes, left, middle, inner, right)
+
+-- ---- without checksums
+
+plain_opened : (bodies : List (List ℕ)) → opened bodies ≡ form_opened Plain bodies
+plain_opened [] = refl
+plain_opened (b ∷ bodies) = ap (λ (l : List ℕ). 1 ∷ (entry b ++ l)) (plain_opened bodies)
+
+plain_front : (bodies : List (List ℕ)) → front bodies ≡ form_front Plain bodies
+plain_front bodies = ap (λ (l : List ℕ). magic ++ l) (plain_opened bodies)
+
+pub length-plain-push : (bodies : List (List ℕ)) (body : List ℕ) → length (front (bodies ++ body ∷ []))
     ≡ length (front bodies) + 5 + length body
-length-front-push bodies body =
-    let sizes : length (front bodies ++ 1 ∷ (entry body ++ [])) ≡ length (front (bodies ++ body ∷ []) ++ []) =
-    ap length (front-push bodies body []) in
-    let left : length (front bodies ++ 1 ∷ (entry body ++ [])) ≡ length (front bodies) + length
-    (1 ∷ (entry body ++ [])) = length-append (front bodies) (1 ∷ (entry body ++ [])) in
-    let middle : length (entry body ++ []) ≡ length (entry body) = ap length (append-nil (entry body)) in
-    let inner : length (entry body) ≡ length (le 4 (length body)) + length body = length-append (le 4 (length body)) body in
-    let four : length (le 4 (length body)) ≡ 4 = length-le 4 (length body) in
-    let right : length (front (bodies ++ body ∷ []) ++ []) ≡ length (front (bodies ++ body ∷ [])) =
-    ap length (append-nil (front (bodies ++ body ∷ []))) in
-    omega arith
+length-plain-push bodies body =
+    let more : length (front (bodies ++ body ∷ [])) ≡ length (form_front Plain (bodies ++ body ∷ [])) =
+    ap length (plain_front (bodies ++ body ∷ [])) in
+    let now : length (front bodies) ≡ length (form_front Plain bodies) = ap length (plain_front bodies) in
+    let step : length (form_front Plain (bodies ++ body ∷ [])) ≡ length (form_front Plain bodies) + 5 + 0 + length body =
+    length-front-push Plain bodies body in
+    omega (arith, more, now, step)
 
 pub all_fit_push : (bodies : List (List ℕ)) (body : List ℕ) → AllFit bodies → length body < 2 ^ 32 → AllFit (bodies ++ body ∷ [])
 all_fit_push [] body fit small = (small, tt)
 all_fit_push (b ∷ bodies) body fit small = (fit.0, all_fit_push bodies body fit.1 small)
 
 -- a gate that stays closed behind these bodies
-pub stands : (bodies : List (List ℕ)) (bytes : List ℕ) → AllFit bodies → StaysClosed (front bodies) bytes → JournalHolds bytes bodies
-stands bodies bytes fit stays = record { gate = stays.gate; rest = stays.rest; spelled = stays.file; closed = stays.closed; fit = fit }
+pub stands : (form : Form) (bodies : List (List ℕ)) (bytes : List ℕ) → AllFit bodies → StaysClosed (form_front form bodies) bytes
+    → JournalHolds bytes bodies
+stands form bodies bytes fit stays = record {
+  form = form;
+  gate = stays.gate;
+  rest = stays.rest;
+  spelled = stays.file;
+  closed = stays.closed;
+  fit = fit;
+}
+
+-- an entry with its closed gate, and what stands behind that
+pub pushed : (form : Form) (bodies : List (List ℕ)) (body rest : List ℕ)
+    → form_front form bodies ++ 1 ∷ ((form_entry form body ++ 0 ∷ []) ++ rest) ≡ form_front form (bodies ++ body ∷ []) ++ 0 ∷ rest
+pushed form bodies body rest =
+    ap (λ (l : List ℕ). form_front form bodies ++ 1 ∷ l) (append_assoc (form_entry form body) (0 ∷ []) rest)
+    ∙ front-push form bodies body (0 ∷ rest)
 
 -- a gate that is closed, or open before a whole entry
-pub either : (bodies : List (List ℕ)) (body bytes : List ℕ) → AllFit bodies → length body < 2 ^ 32
-    → IsClosedOrOpened (front bodies) (entry body ++ 0 ∷ []) bytes → BeforeOrAfter bodies body bytes
-either bodies body bytes fit small (inl stays) = inl (inr (stands bodies bytes fit stays))
-either bodies body bytes fit small (inr whole) =
+pub either : (form : Form) (bodies : List (List ℕ)) (body bytes : List ℕ) → AllFit bodies → length body < 2 ^ 32
+    → IsClosedOrOpened (form_front form bodies) (form_entry form body ++ 0 ∷ []) bytes → BeforeOrAfter bodies body bytes
+either form bodies body bytes fit small (inl stays) = inl (inr (stands form bodies bytes fit stays))
+either form bodies body bytes fit small (inr whole) =
     inr (inr (record {
+      form = form;
       gate = 0;
-      rest = [];
-      spelled = whole ∙ front-push bodies body (0 ∷ []);
+      rest = whole.0;
+      spelled = whole.1 ∙ pushed form bodies body whole.0;
       closed = omega arith;
       fit = all_fit_push bodies body fit small;
     }))

@@ -3,11 +3,12 @@ use Rattle.std.proofs.Common.{◌≡◌, ◌⊎◌, inl, inr, ℕ, ◌+◌, ◌-
 use Rattle.std.proofs.Common.{ap, subst, arith, append_assoc, length-append, Option, Some, None}
 use Rattle.std.proofs.lemmas.List.{take_at}
 use Rattle.base_outside.specs.streams.Disk.{CutShort, Follows, Only, Elapses}
-use Rattle.spec_wire.specs.journal.Grammar.{BreaksAt, front, StandsFor}
+use Rattle.spec_journal.specs.declared.form.Form.{Form}
+use Rattle.spec_journal.specs.Forms.{BreaksAt, form_front, StandsFor}
 use Rattle.spec_wire.specs.journal.Moments.{LeavesOnly, Quiet}
-use Rattle.journal.specs.disk_journal.Entry.{StaysClosed}
+use Rattle.journal.specs.disk_journal.Entry.{ClosedAt, StaysClosed}
 use Rattle.journal.specs.disk_journal.Read.{EndsWith}
-use Rattle.journal.specs.disk_journal.Repair.{ClosedAt, Examined, Mends}
+use Rattle.journal.specs.disk_journal.Repair.{Examined, Mends}
 use Rattle.journal.specs.declared.disk_journal.read.Found.{Found}
 use Rattle.journal.specs.declared.disk_journal.read.Found.TheVariants.{Behind}
 use Rattle.journal.proofs.disk_journal.Grown.{stands}
@@ -94,49 +95,58 @@ module _ {D : Type 0} (told : Type 0) (seen : D → List ℕ) (may_leave : D →
 pub none_in_short : (bytes : List ℕ) (bodies : List (List ℕ)) → length bytes ≤ 9 → StandsFor bytes bodies → bodies ≡ []
 none_in_short bytes bodies short stands = stands_for_one bytes bodies [] stands (inl (short, refl))
 
-pub held : (bytes : List ℕ) (gate count : ℕ) (e : EndsWith bytes gate count) → StandsFor bytes e.bodies
-held bytes gate count e = inr (record { gate = e.shut; rest = e.rest; spelled = e.spelled; closed = e.closed; fit = e.fit })
+pub held : (bytes : List ℕ) (form : Form) (gate used count : ℕ) (e : EndsWith form bytes gate used count) → StandsFor bytes e.bodies
+held bytes form gate used count e = inr (record {
+  form = form;
+  gate = e.shut;
+  rest = e.rest;
+  spelled = e.spelled;
+  closed = e.closed;
+  fit = e.fit;
+})
 
 -- nor do bytes break the grammar that are at most nine, or hold bodies
 pub short_unbroken : (bytes : List ℕ) (at : ℕ) → length bytes ≤ 9 → BreaksAt bytes at → ⊥
 short_unbroken bytes at short breaks = omega (arith, breaks.0)
 
-pub held_unbroken : (bytes : List ℕ) (gate count at : ℕ) → EndsWith bytes gate count → BreaksAt bytes at → ⊥
-held_unbroken bytes gate count at e breaks = breaks_for_none bytes e.bodies at (held bytes gate count e) breaks
+pub held_unbroken : (bytes : List ℕ) (form : Form) (gate used count at : ℕ) → EndsWith form bytes gate used count → BreaksAt bytes at → ⊥
+held_unbroken bytes form gate used count at e breaks = breaks_for_none bytes e.bodies at (held bytes form gate used count e) breaks
 
-pub closed_at : (bytes there : List ℕ) (gate count : ℕ) (e : EndsWith bytes gate count) → there ≡ bytes
-    → ClosedAt gate (front e.bodies) e.shut e.rest there
-closed_at bytes there gate count e same = record { file = same ∙ e.spelled; place = sym e.place; closed = e.closed }
+pub closed_at : (bytes there : List ℕ) (form : Form) (gate used count : ℕ) (e : EndsWith form bytes gate used count) → there ≡ bytes
+    → ClosedAt gate (form_front form e.bodies) e.shut e.rest there
+closed_at bytes there form gate used count e same = record { file = same ∙ e.spelled; place = sym e.place; closed = e.closed }
 
 -- a gate that stays closed behind the bodies found keeps those that the bytes stood for
-pub stays_same : (bytes : List ℕ) (gate count : ℕ) (e : EndsWith bytes gate count) (bodies : List (List ℕ))
-    → StandsFor bytes bodies → (c : List ℕ) → StaysClosed (front e.bodies) c → StandsFor c bodies
-stays_same bytes gate count e bodies stood c stays =
-    subst (λ (b : List (List ℕ)). StandsFor c b) (stands_for_one bytes e.bodies bodies (held bytes gate count e) stood)
-    (inr (stands e.bodies c e.fit stays))
+pub stays_same : (bytes : List ℕ) (form : Form) (gate used count : ℕ) (e : EndsWith form bytes gate used count) (bodies : List (List ℕ))
+    → StandsFor bytes bodies → (c : List ℕ) → StaysClosed (form_front form e.bodies) c → StandsFor c bodies
+stays_same bytes form gate used count e bodies stood c stays =
+    subst (λ (b : List (List ℕ)). StandsFor c b) (stands_for_one bytes e.bodies bodies (held bytes form gate used count e) stood)
+    (inr (stands form e.bodies c e.fit stays))
 
 -- what was found of a disk, from the arm that it was matched in
 pub found_new : (bytes : List ℕ) (o : Option Found) → o ≡ None → Examined bytes o → length bytes ≤ 9
 found_new bytes o is examined = subst (λ (p : Option Found). Examined bytes p) is examined
 
-pub found_behind : (bytes : List ℕ) (o : Option Found) (f : Found) (gate count : ℕ) → o ≡ Some f → f ≡ Behind gate count
-    → Examined bytes o → EndsWith bytes gate count
-found_behind bytes o f gate count is inside examined = subst (λ (h : Found). Examined bytes (Some h)) inside
+pub found_behind : (bytes : List ℕ) (o : Option Found) (f : Found) (form : Form) (gate used count : ℕ) → o ≡ Some f
+    → f ≡ Behind form gate used count → Examined bytes o → EndsWith form bytes gate used count
+found_behind bytes o f form gate used count is inside examined = subst (λ (h : Found). Examined bytes (Some h)) inside
     (subst (λ (p : Option Found). Examined bytes p) is examined)
 
-pub rests : {D : Type 0} (seen : D → List ℕ) (may_leave : D → List ℕ → Type 0) (old new : D) (gate count : ℕ)
-    (e : EndsWith (seen old) gate count) → seen new ≡ front e.bodies ++ e.shut ∷ [] → Only (seen new) (may_leave new)
-    → Mends seen may_leave old new (Behind gate count)
-rests seen may_leave old new gate count e file durable = (
+pub rests : {D : Type 0} (seen : D → List ℕ) (may_leave : D → List ℕ → Type 0) (old new : D) (form : Form) (gate used count : ℕ)
+    (e : EndsWith form (seen old) gate used count) → seen new ≡ form_front form e.bodies ++ e.shut ∷ [] → Only (seen new) (may_leave new)
+    → Mends seen may_leave old new (Behind form gate used count)
+rests seen may_leave old new form gate used count e file durable = (
   e.bodies,
-  held (seen old) gate count e,
+  held (seen old) form gate used count e,
   record {
     shut = e.shut;
     file = file;
     closed = e.closed;
     place = e.place;
+    told = e.told;
     number = e.number;
     fit = e.fit;
     durable = durable;
   },
+  inr (e.shut ∷ e.rest, e.spelled),
 )

@@ -1,11 +1,11 @@
--- A disk that ends with a closed gate, and what a crash leaves while an entry is put behind it.
+-- A closed gate with any bytes behind it, and what a crash leaves while an entry is put there.
 use Rattle.std.specs.Prelude.{◌≡◌, ◌⊎◌, ℕ, ◌≤◌, List, [], ◌∷◌, ◌++◌, length}
 use Rattle.base_outside.specs.streams.Disk.{Only}
 use Rattle.spec_wire.specs.journal.Grammar.{IsClosed}
 
--- the bytes end with a closed gate at this place
-pub record EntryEndsAt (gate : ℕ) (front : List ℕ) (shut : ℕ) (bytes : List ℕ) : Type 0 where
-  pub file : bytes ≡ front ++ shut ∷ []
+-- The bytes have this front, then a closed gate at this place, and any bytes.
+pub record ClosedAt (gate : ℕ) (front : List ℕ) (shut : ℕ) (rest bytes : List ℕ) : Type 0 where
+  pub file : bytes ≡ front ++ shut ∷ rest
   pub place : length front ≡ gate
   pub closed : IsClosed shut
 
@@ -16,9 +16,9 @@ pub record StaysClosed (front bytes : List ℕ) : Type 0 where
   pub file : bytes ≡ front ++ gate ∷ rest
   pub closed : IsClosed gate
 
--- the gate is closed, or it is open and all of the entry stands behind it
+-- the gate is closed, or it is open and all of the entry stands behind it, with any bytes behind that
 abbrev pub IsClosedOrOpened : List ℕ → List ℕ → List ℕ → Type 0
-IsClosedOrOpened front behind bytes = StaysClosed front bytes ⊎ (bytes ≡ front ++ 1 ∷ behind)
+IsClosedOrOpened front behind bytes = StaysClosed front bytes ⊎ ((rest : List ℕ) × (bytes ≡ front ++ 1 ∷ (behind ++ rest)))
 
 -- at most 9 bytes: the magic and one gate at most
 abbrev pub IsEntryShort : List ℕ → Type 0

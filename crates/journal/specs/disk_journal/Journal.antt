@@ -3,16 +3,21 @@ use Rattle.std.specs.Prelude.{◌≡◌, ◌⊎◌, ℕ, ◌+◌, ◌-◌, ◌^�
 use Rattle.std.specs.Prelude.{take, drop, Option, Some, None, Result, Ok, Err}
 use Rattle.base_outside.specs.streams.Disk.{Only}
 use Rattle.base_outside.specs.streams.Faults.{Rose}
-use Rattle.spec_wire.specs.journal.Grammar.{IsClosed, front, AllFit, StandsFor, BreaksAt}
+use Rattle.spec_wire.specs.journal.Grammar.{IsClosed, front, AllFit}
+use Rattle.spec_journal.specs.Forms.{sum_size, form_front, IsInForm, StandsFor, BreaksAt}
+use Rattle.spec_journal.specs.declared.form.Form.{Form}
+use Rattle.spec_journal.specs.declared.form.Form.TheVariants.{Plain}
 use Rattle.journal.specs.declared.disk_journal.journal.JournalError.{JournalError}
 use Rattle.journal.specs.declared.disk_journal.journal.JournalError.TheVariants as errors
 use Rattle.journal.specs.declared.disk_journal.journal.RefusedStart.{RefusedStart}
 
--- A journal: its disk, how many bytes it uses with the gate at the end, how many bodies stand in it, how
--- many of them were handed out and where the next one's gate stands, at which count of faults it stopped,
--- and how many bytes it has room for without more memory.
+-- A journal: its disk, its form, where it ends, how many bytes it uses with the gate at the end but for checksums, how many bodies
+-- stand in it, how many of them were handed out and where the next one's gate stands, at which count of faults it stopped, and how many
+-- bytes of an entry it has room for without more memory, but for a checksum.
 pub record JournalState (D : Type 0) : Type 0 where
   pub disk : D
+  pub form : Form
+  pub end : ℕ
   pub used : ℕ
   pub count : ℕ
   pub taken : ℕ
@@ -20,17 +25,19 @@ pub record JournalState (D : Type 0) : Type 0 where
   pub stopped : Option ℕ
   pub room : ℕ
 
--- The disk holds these bodies and a closed gate, and nothing on it waits for a sync.
+-- The disk holds these bodies, a closed gate and any bytes behind it, and nothing on it waits for a sync.
 pub record JournalSettled {D : Type 0} (seen : D → List ℕ) (may_leave : D → List ℕ → Type 0) (journal : JournalState D)
     (bodies : List (List ℕ)) : Type 0 where
   pub gate : ℕ
-  pub file : seen journal.disk ≡ front bodies ++ gate ∷ []
+  pub rest : List ℕ
+  pub file : seen journal.disk ≡ form_front journal.form bodies ++ gate ∷ rest
   pub closed : IsClosed gate
+  pub end : journal.end ≡ length (form_front journal.form bodies) + 1
   pub used : journal.used ≡ length (front bodies) + 1
   pub count : journal.count ≡ length bodies
   pub fit : AllFit bodies
   pub some_taken : journal.taken ≤ length bodies
-  pub next : journal.next ≡ length (front (take journal.taken bodies))
+  pub next : journal.next ≡ length (form_front journal.form (take journal.taken bodies))
   pub goes_on : journal.stopped ≡ None
   pub durable : Only (seen journal.disk) (may_leave journal.disk)
 
@@ -71,11 +78,12 @@ Appends faults old body epoch (Ok n) new =
     Allows old (length body) epoch × (n ≡ old.count) × (new.count ≡ old.count + 1)
     × (new.used ≡ old.used + 5 + length body) × (new.stopped ≡ None) × (faults new.disk ≡ faults old.disk)
     × (old.room ≤ new.room) × (new.taken ≡ old.taken) × (new.next ≡ old.next)
+    × (new.form ≡ old.form) × (new.end ≡ old.end + 5 + sum_size old.form + length body)
 Appends faults old body epoch (Err errors.Memory) new = Allows old (length body) epoch × (old.room < length body + 5) × OnlyRoom old new
 Appends faults old body epoch (Err (errors.DiskFault n)) new =
     Allows old (length body) epoch × Rose (faults old.disk) n × (n ≡ faults new.disk) × (new.stopped ≡ Some n)
     × (new.used ≡ old.used) × (new.count ≡ old.count) × (old.room ≤ new.room) × (new.taken ≡ old.taken)
-    × (new.next ≡ old.next)
+    × (new.next ≡ old.next) × (new.form ≡ old.form) × (new.end ≡ old.end)
 Appends faults old body epoch (Err (errors.NotAJournal at)) new = ⊥
 Appends faults old body epoch (Err (errors.Full would limit)) new = (old.stopped ≡ None)
     × (would ≡ journal_capped (old.used + 5 + length body)) × (limit ≡ limit_of epoch) × (limit < would) × (new ≡ old)
@@ -111,7 +119,7 @@ CreateRefused faults disk left (errors.Stopped n) = ⊥
 -- What `create` answers of a disk.
 abbrev pub JournalCreates : {D : Type 0} → (D → ℕ) → D → Result (JournalState D) (RefusedStart D) → Type 0
 JournalCreates faults disk (Ok journal) = (faults journal.disk ≡ faults disk) × (journal.used ≡ 9) × (journal.count ≡ 0)
-    × (journal.taken ≡ 0) × (journal.stopped ≡ None)
+    × (journal.taken ≡ 0) × (journal.stopped ≡ None) × (journal.form ≡ Plain) × (journal.end ≡ 9)
 JournalCreates faults disk (Err refused) = CreateRefused faults disk refused.disk refused.cause
 
 -- Why `recover` refuses a disk: it failed, or its bytes break the grammar there, and then no call of it failed.
@@ -126,7 +134,7 @@ RecoverRefused told seen faults disk left (errors.Stopped n) = ⊥
 abbrev pub JournalRecovers : {D : Type 0} → Type 0 → (D → List ℕ) → (D → ℕ) → D → Result (JournalState D) (RefusedStart D) → Type 0
 JournalRecovers told seen faults disk (Ok journal) = (faults journal.disk ≡ faults disk) × (journal.taken ≡ 0)
     × (journal.stopped ≡ None) × (told → (bodies : List (List ℕ)) × StandsFor (seen disk) bodies
-    × (journal.used ≡ length (front bodies) + 1) × (journal.count ≡ length bodies))
+    × (journal.used ≡ length (front bodies) + 1) × (journal.count ≡ length bodies) × IsInForm journal.form (seen disk) bodies)
 JournalRecovers told seen faults disk (Err refused) = RecoverRefused told seen faults disk refused.disk refused.cause
 
 -- What `next_body` hands out of a journal of these bodies: each once, in order, and none exactly behind the last.
@@ -149,20 +157,21 @@ OnlyRead faults old new = (new ≡ record old { disk = new.disk }) × (faults ne
 abbrev pub JournalStopsAt : {D : Type 0} → (D → ℕ) → ℕ → JournalState D → JournalState D → Type 0
 JournalStopsAt faults n old new = (old.stopped ≡ None) × Rose (faults old.disk) n × (n ≡ faults new.disk)
     × (new.stopped ≡ Some n) × (new.used ≡ old.used) × (new.count ≡ old.count) × (new.room ≡ old.room)
+    × (new.form ≡ old.form) × (new.end ≡ old.end)
 
 -- What `next_body` answers on any disk, and what it leaves.
 abbrev pub JournalNextAnswers : {D : Type 0} → (D → ℕ) → JournalState D → Result (Option (List ℕ)) JournalError → JournalState D → Type 0
 JournalNextAnswers faults old (Ok (Some body)) new = (old.stopped ≡ None) × (new ≡ record old {
   disk = new.disk;
   taken = old.taken + 1;
-  next = old.next + 5 + length body;
-}) × (new.next < new.used)
+  next = old.next + 5 + sum_size old.form + length body;
+}) × (new.next < new.end)
     × (faults new.disk ≡ faults old.disk)
-JournalNextAnswers faults old (Ok None) new = (old.stopped ≡ None) × (old.next + 1 ≡ old.used) × (new ≡ old)
-JournalNextAnswers faults old (Err errors.Memory) new = (old.stopped ≡ None) × (old.next + 1 < old.used) × OnlyRead faults old new
+JournalNextAnswers faults old (Ok None) new = (old.stopped ≡ None) × (old.next + 1 ≡ old.end) × (new ≡ old)
+JournalNextAnswers faults old (Err errors.Memory) new = (old.stopped ≡ None) × (old.next + 1 < old.end) × OnlyRead faults old new
 JournalNextAnswers faults old (Err (errors.DiskFault n)) new = JournalStopsAt faults n old new × (new.taken ≡ old.taken)
     × (new.next ≡ old.next)
-JournalNextAnswers faults old (Err (errors.NotAJournal at)) new = (old.stopped ≡ None) × (old.next + 1 < old.used)
+JournalNextAnswers faults old (Err (errors.NotAJournal at)) new = (old.stopped ≡ None) × (old.next + 1 < old.end)
     × (at ≡ old.next) × OnlyRead faults old new
 JournalNextAnswers faults old (Err (errors.Full would limit)) new = ⊥
 JournalNextAnswers faults old (Err (errors.Stopped n)) new = (old.stopped ≡ Some n) × (new ≡ old)
@@ -187,7 +196,7 @@ RestAnswers faults old (Ok list) new = (old.stopped ≡ None) × JournalAdvances
 RestAnswers faults old (Err errors.Memory) new = (old.stopped ≡ None) × JournalAdvances faults old new
 RestAnswers faults old (Err (errors.DiskFault n)) new = JournalStopsAt faults n old new
 RestAnswers faults old (Err (errors.NotAJournal at)) new = (old.stopped ≡ None) × (at ≡ new.next)
-    × (new.next + 1 < new.used) × JournalAdvances faults old new
+    × (new.next + 1 < new.end) × JournalAdvances faults old new
 RestAnswers faults old (Err (errors.Full would limit)) new = ⊥
 RestAnswers faults old (Err (errors.Stopped n)) new = ⊥
 
@@ -206,6 +215,6 @@ abbrev pub AllAnswers : {D : Type 0} → (D → ℕ) → JournalState D → Resu
 AllAnswers faults old (Ok list) new = (old.stopped ≡ None) × OnlyRead faults old new
 AllAnswers faults old (Err errors.Memory) new = (old.stopped ≡ None) × OnlyRead faults old new
 AllAnswers faults old (Err (errors.DiskFault n)) new = JournalStopsAt faults n old new × (new.taken ≡ old.taken) × (new.next ≡ old.next)
-AllAnswers faults old (Err (errors.NotAJournal at)) new = (old.stopped ≡ None) × (8 ≤ at) × (at + 1 < old.used) × OnlyRead faults old new
+AllAnswers faults old (Err (errors.NotAJournal at)) new = (old.stopped ≡ None) × (8 ≤ at) × (at + 1 < old.end) × OnlyRead faults old new
 AllAnswers faults old (Err (errors.Full would limit)) new = ⊥
 AllAnswers faults old (Err (errors.Stopped n)) new = (old.stopped ≡ Some n) × (new ≡ old)

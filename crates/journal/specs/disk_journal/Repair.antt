@@ -1,25 +1,22 @@
 -- What is found on a disk, and what is left of it.
-use Rattle.std.specs.Prelude.{◌≡◌, ℕ, ◌≤◌, List, [], ◌∷◌, ◌++◌, length, Option, Some, None}
+use Rattle.std.specs.Prelude.{◌≡◌, ℕ, ◌+◌, ◌≤◌, List, [], ◌∷◌, ◌++◌, length, Option, Some, None}
 use Rattle.base_outside.specs.streams.Disk.{Only}
-use Rattle.spec_wire.specs.journal.Grammar.{IsClosed, front, AllFit, StandsFor, BreaksAt}
+use Rattle.spec_wire.specs.journal.Grammar.{IsClosed, front, AllFit}
+use Rattle.spec_journal.specs.Forms.{form_front, IsInForm, StandsFor, BreaksAt}
+use Rattle.spec_journal.specs.declared.form.Form.{Form}
 use Rattle.spec_wire.specs.journal.Moments.{Quiet}
 use Rattle.journal.specs.disk_journal.Read.{EndsWith, IsWithin}
 use Rattle.journal.specs.declared.disk_journal.read.Found.{Found}
 use Rattle.journal.specs.declared.disk_journal.read.Found.TheVariants as found
 
--- The bytes have this front, then a closed gate at this place, and any bytes.
-pub record ClosedAt (gate : ℕ) (front : List ℕ) (shut : ℕ) (rest bytes : List ℕ) : Type 0 where
-  pub file : bytes ≡ front ++ shut ∷ rest
-  pub place : length front ≡ gate
-  pub closed : IsClosed shut
-
 -- The disk holds these bodies and a closed gate at this place, and nothing on it waits for a sync.
 pub record Rests {D : Type 0} (seen : D → List ℕ) (may_leave : D → List ℕ → Type 0) (disk : D) (bodies : List (List ℕ))
-    (gate count : ℕ) : Type 0 where
+    (form : Form) (gate used count : ℕ) : Type 0 where
   pub shut : ℕ
-  pub file : seen disk ≡ front bodies ++ shut ∷ []
+  pub file : seen disk ≡ form_front form bodies ++ shut ∷ []
   pub closed : IsClosed shut
-  pub place : gate ≡ length (front bodies)
+  pub place : gate ≡ length (form_front form bodies)
+  pub told : used ≡ length (front bodies) + 1
   pub number : count ≡ length bodies
   pub fit : AllFit bodies
   pub durable : Only (seen disk) (may_leave disk)
@@ -27,7 +24,7 @@ pub record Rests {D : Type 0} (seen : D → List ℕ) (may_leave : D → List �
 -- What is found on a disk that may be a new one.
 abbrev pub Examined : List ℕ → Option Found → Type 0
 Examined bytes None = length bytes ≤ 9
-Examined bytes (Some (found.Behind gate count)) = EndsWith bytes gate count
+Examined bytes (Some (found.Behind form gate used count)) = EndsWith form bytes gate used count
 Examined bytes (Some (found.Broken at)) = BreaksAt bytes at
 
 abbrev pub MayBeWithin : ℕ → Option Found → Type 0
@@ -36,12 +33,12 @@ MayBeWithin end (Some f) = IsWithin end f
 
 -- What `repair` makes of a disk: one that holds exactly the bodies that the old one stood for, or no journal.
 abbrev pub Mends : {D : Type 0} → (D → List ℕ) → (D → List ℕ → Type 0) → D → D → Found → Type 0
-Mends seen may_leave old new (found.Behind gate count) = (bodies : List (List ℕ)) × StandsFor (seen old) bodies
-    × Rests seen may_leave new bodies gate count
+Mends seen may_leave old new (found.Behind form gate used count) = (bodies : List (List ℕ)) × StandsFor (seen old) bodies
+    × Rests seen may_leave new bodies form gate used count × IsInForm form (seen old) bodies
 Mends seen may_leave old new (found.Broken at) = BreaksAt (seen old) at
 
 -- A disk that isn't a journal was only read.
 abbrev pub LeavesBroken : {D : Type 0} → Type 0 → (D → List ℕ) → (D → List ℕ → Type 0) → (D → ℕ)
     → (D → ℕ → List ℕ → Type 0) → D → D → Found → Type 0
-LeavesBroken told seen may_leave moment left_since old new (found.Behind gate count) = Unit {0}
+LeavesBroken told seen may_leave moment left_since old new (found.Behind form gate used count) = Unit {0}
 LeavesBroken told seen may_leave moment left_since old new (found.Broken at) = Quiet told seen may_leave moment left_since old new

@@ -1,20 +1,20 @@
 // One entry, behind its gate.
-ghost use Rattle.std.specs.Prelude.{◌≡◌, ℕ, ◌-◌, ◌<◌, ◌^◌, List, [], ◌∷◌, ◌++◌, OnOk};
+ghost use Rattle.std.specs.Prelude.{◌≡◌, ℕ, ◌-◌, ◌<◌, ◌^◌, List, [], ◌∷◌, ◌++◌, drop, length, OnOk};
 ghost use Rattle.base_outside.specs.streams.Disk.{Only};
 ghost use Rattle.base_outside.specs.streams.Faults.{CountsFault};
 ghost use Rattle.spec_wire.specs.journal.Moments.{LeavesOnly};
-ghost use Rattle.journal.specs.disk_journal.Entry.{EntryEndsAt, StaysClosed, IsClosedOrOpened};
-ghost use Rattle.journal.specs.disk_journal.Repair.{ClosedAt};
+ghost use Rattle.journal.specs.disk_journal.Entry.{ClosedAt, StaysClosed, IsClosedOrOpened};
 
 use base_outside::{Disk, Failed};
 
-/// Writes what comes behind the closed gate at the end, and opens the gate when that is on the disk.
+/// Writes an entry behind a closed gate, over whatever stands there, and opens the gate when the entry is on the disk.
 pub(crate) fn write_entry<D: Disk>(disk: &mut D, gate: u64, behind: &[u8]) -> Result<(), Failed>
     requires { gate < 2 ^ 63 }
-    ensures done { D.told → (front : List ℕ) (shut : ℕ) → EntryEndsAt gate front shut (D.seen disk.old)
+    ensures done { D.told → (front rest : List ℕ) (shut : ℕ) → ClosedAt gate front shut rest (D.seen disk.old)
         → Only (D.seen disk.old) (D.may_leave disk.old)
-        → OnOk result ((D.seen disk.new ≡ front ++ 1 ∷ behind.now) × Only (D.seen disk.new) (D.may_leave disk.new)) }
-    ensures any_moment { D.told → (front : List ℕ) (shut : ℕ) → EntryEndsAt gate front shut (D.seen disk.old)
+        → OnOk result ((D.seen disk.new ≡ front ++ 1 ∷ (behind.now ++ drop (length behind.now) rest))
+        × Only (D.seen disk.new) (D.may_leave disk.new)) }
+    ensures any_moment { D.told → (front rest : List ℕ) (shut : ℕ) → ClosedAt gate front shut rest (D.seen disk.old)
         → Only (D.seen disk.old) (D.may_leave disk.old)
         → LeavesOnly D.moment D.left_since disk.old disk.new (IsClosedOrOpened front behind.now) }
     ensures cause { CountsFault (D.faults disk.old) (D.faults disk.new) result }

@@ -1,6 +1,8 @@
 // The journal.
 ghost use Rattle.std.specs.Prelude.{◌≡◌, ◌⊎◌, ℕ, ◌+◌, ◌-◌, ◌≤◌, ◌<◌, ◌^◌, List, [], ◌∷◌, ◌++◌, length, IfOk, OnOk, OnErr, vec_capacity};
-ghost use Rattle.spec_wire.specs.journal.Grammar.{BreaksAt, entry, StandsFor};
+ghost use Rattle.spec_wire.specs.messages.Places.{le};
+ghost use Rattle.spec_journal.specs.Castagnoli.{crc32c};
+ghost use Rattle.spec_journal.specs.Forms.{BreaksAt, form_entry, form_sum, StandsFor};
 ghost use Rattle.spec_wire.specs.journal.Moments.{LeavesOnly, Quiet};
 ghost use Rattle.journal.specs.disk_journal.Entry.{IsEntryNew};
 ghost use Rattle.journal.specs.disk_journal.Journal.{JournalState, JournalSettled, JournalAdmits, Appends, Reserves};
@@ -8,11 +10,14 @@ ghost use Rattle.journal.specs.disk_journal.Journal.{JournalCreates, JournalReco
 ghost use Rattle.journal.specs.disk_journal.Journal.{HandsOut, JournalNextAnswers, HandsOutRest, RestAnswers, HandsOutAll};
 ghost use Rattle.journal.specs.disk_journal.Journal.{AllAnswers, BeforeOrAfter};
 
+use crate::checksum::{Sum, sums_law};
 use crate::disk_journal::entry::write_entry;
+use crate::disk_journal::form::sum_bytes;
 use crate::disk_journal::list::BytesList;
 use crate::disk_journal::read::{Found, NoBody, read_body};
 use crate::disk_journal::{prepare, repair};
 use base_outside::Disk;
+use spec_journal::Form;
 use std::alloc::{AllocError, Global};
 use std::marker::Model;
 use thiserror::Error;
@@ -25,8 +30,11 @@ const EPOCH_ROOM: u64 = 134_217_728;
 
 const LIMIT: u64 = 1_073_741_824;
 
-// A gate behind, and a length in front.
+// A gate behind, and a length in front. Checksums aren't counted: so both forms have room for the same bodies.
 const AROUND: u64 = 5;
+
+// The most bytes around a body, a checksum among them.
+const MOST_AROUND: usize = 9;
 
 /// Why a call of the journal was refused.
 #[derive(Clone, Copy, PartialEq, Eq, Debug, Drop, Error)]
@@ -61,14 +69,17 @@ pub struct RefusedStart<D> {
     pub disk: D,
 }
 
-/// A journal on a disk. A contract sees the disk, how many bytes of it the journal uses, how many bodies
-/// stand in it, how many of them were handed out and where the next one's gate stands, the disk's count
-/// of faults at which it stopped, and how many bytes of an entry it has room for without more memory.
+/// A journal on a disk. A contract sees the disk, the journal's form, where it ends and how many bytes it uses
+/// but for checksums, how many bodies stand in it, how many of them were handed out and where the next one's
+/// gate stands, the disk's count of faults at which it stopped, and how many bytes of an entry it has room for
+/// without more memory, but for a checksum.
 #[derive(Drop)]
 pub struct Journal<D: Disk> {
     alloc: Global,
     disk: D,
+    form: Form,
     gate: u64,
+    used: u64,
     count: u64,
     next: u64,
     taken: u64,
@@ -77,58 +88,97 @@ pub struct Journal<D: Disk> {
 }
 
 impl<D: Disk> Model for Journal<D> {
-    ghost use Rattle.std.specs.Prelude.{◌+◌, ◌-◌, ◌≤◌, ◌<◌, ◌^◌, vec_capacity};
+    ghost use Rattle.std.specs.Prelude.{◌+◌, ◌-◌, ◌*◌, ◌≤◌, ◌<◌, ◌^◌, vec_capacity};
     ghost use Rattle.journal.specs.disk_journal.Journal.{JournalState};
 
     ghost Value = { JournalState D };
 
     ghost view = { λ j. record {
       disk = j.disk;
-      used = j.gate + 1;
+      form = j.form;
+      end = j.gate + 1;
+      used = j.used;
       count = j.count;
       taken = j.taken;
       next = j.next;
       stopped = j.stopped;
-      room = vec_capacity j.buffer;
+      room = vec_capacity j.buffer - 4;
     } };
 
-    ghost invariant = { λ j. (j.gate < 2 ^ 64 - 1) × (j.count ≤ j.gate) × (8 ≤ j.next) × (j.next ≤ j.gate) × (j.taken ≤ j.next) };
+    ghost invariant = { λ j. (j.gate < 2 ^ 64 - 1) × (j.used ≤ j.gate + 1) × (j.gate + 1 ≤ 2 * j.used) × (j.count ≤ j.used)
+        × (8 ≤ j.next) × (j.next ≤ j.gate) × (j.taken ≤ j.next) };
 }
 
 // Whether an entry of so many bytes may be added.
-fn admit(stopped: Option<u64>, gate: u64, length: u64, epoch: bool) -> Result<(), JournalError>
-    requires { gate < 2 ^ 64 - 1 }
-    ensures admits { JournalAdmits stopped (gate + 1) length epoch result }
-    ensures bound { OnOk result (gate + 6 + length ≤ 2 ^ 30) }
+fn admit(stopped: Option<u64>, used: u64, length: u64, epoch: bool) -> Result<(), JournalError>
+    ensures admits { JournalAdmits stopped used length epoch result }
+    ensures bound { OnOk result (used + 5 + length ≤ 2 ^ 30) }
 {
     if let Some(count) = stopped {
         return Err(JournalError::Stopped(count));
     }
     let limit = if epoch { LIMIT } else { LIMIT - EPOCH_ROOM };
-    let used = gate.saturating_add(1 + AROUND).saturating_add(length);
-    if used > limit {
-        return Err(JournalError::Full(used, limit));
+    let would = used.saturating_add(AROUND).saturating_add(length);
+    if would > limit {
+        return Err(JournalError::Full(would, limit));
     }
     Ok(())
 }
 
-// What stands behind the gate of an entry: the length, the body and the next closed gate.
-#[tactic(auto, using(wire_bytes::proofs::byte_lists::Endian::le_4))]
-fn fill(buffer: &mut Vec<u8>, body: &[u8]) -> Result<(), AllocError>
-    requires { length body.now < 2 ^ 32 }
-    ensures filled { OnOk result (buffer.new.items ≡ entry body.now ++ 0 ∷ []) }
+// The checksum of an entry, where its form has one, behind what the buffer has.
+fn push_sum(buffer: &mut Vec<u8>, form: Form, front: &[u8], body: &[u8]) -> Result<(), AllocError>
+    requires { front.now ≡ le 4 (length body.now) }
+    ensures pushed { OnOk result (buffer.new.items ≡ buffer.old.items ++ form_sum form body.now) }
     ensures room { vec_capacity buffer.old ≤ vec_capacity buffer.new }
-    ensures full { OnErr result (vec_capacity buffer.old < length body.now + 5) }
+    ensures full { OnErr result (vec_capacity buffer.old < length buffer.old.items + 4) }
 {
+    match form {
+        Form::Plain => Ok(()),
+        Form::Summed => push_value(buffer, value_of(front, body)),
+    }
+}
+
+// The checksum of two parts.
+#[tactic(auto, unfolding(spec_journal::specs::Castagnoli::crc32c))]
+fn value_of(front: &[u8], body: &[u8]) -> u32
+    ensures { result ≡ crc32c (front.now ++ body.now) }
+{
+    sums_law();
+    let mut sum = Sum::new();
+    sum.add(front);
+    sum.add(body);
+    sum.value()
+}
+
+#[tactic(auto, using(wire_bytes::proofs::byte_lists::Endian::le_4))]
+fn push_value(buffer: &mut Vec<u8>, value: u32) -> Result<(), AllocError>
+    ensures pushed { OnOk result (buffer.new.items ≡ buffer.old.items ++ le 4 value) }
+    ensures room { vec_capacity buffer.old ≤ vec_capacity buffer.new }
+    ensures full { OnErr result (vec_capacity buffer.old < length buffer.old.items + 4) }
+{
+    buffer.extend_from_slice(&value.to_le_bytes())?;
+    Ok(())
+}
+
+// What stands behind the gate of an entry: the length, a checksum or none, the body and the next closed gate.
+#[tactic(auto, using(wire_bytes::proofs::byte_lists::Endian::le_4))]
+fn fill(buffer: &mut Vec<u8>, form: Form, body: &[u8]) -> Result<(), AllocError>
+    requires { length body.now < 2 ^ 32 }
+    ensures filled { OnOk result (buffer.new.items ≡ form_entry form body.now ++ 0 ∷ []) }
+    ensures room { vec_capacity buffer.old ≤ vec_capacity buffer.new }
+    ensures full { OnErr result (vec_capacity buffer.old < length body.now + 9) }
+{
+    let front = (body.len() as u32).to_le_bytes();
     buffer.clear();
-    buffer.extend_from_slice(&(body.len() as u32).to_le_bytes())?;
+    buffer.extend_from_slice(&front)?;
+    push_sum(buffer, form, &front, body)?;
     buffer.extend_from_slice(body)?;
     buffer.push(0)?;
     Ok(())
 }
 
 impl<D: Disk> Journal<D> {
-    /// Makes a new journal of a disk of at most 9 bytes on which nothing waits for a sync. A crash at any
+    /// Makes a new journal, without checksums, of a disk of at most 9 bytes on which nothing waits for a sync. A crash at any
     /// moment leaves a disk that stands for no bodies. It refuses with `DiskFault` alone, only where the disk's count of
     /// faults rose, and hands back the disk with that count.
     pub fn create(alloc: Global, mut disk: D) -> Result<Journal<D>, RefusedStart<D>>
@@ -144,7 +194,9 @@ impl<D: Disk> Journal<D> {
         Ok(Journal {
             alloc,
             disk,
+            form: Form::Plain,
             gate: 8,
+            used: 9,
             count: 0,
             next: 8,
             taken: 0,
@@ -159,8 +211,8 @@ impl<D: Disk> Journal<D> {
     /// the same bodies, and a crash at any moment leaves what it could leave before the call, or such bytes; and a disk
     /// whose bytes break the grammar was only read and synced.
     ///
-    /// Where it refuses it hands back the disk. `NotAJournal` carries the first byte that isn't the mark's, or the open
-    /// gate whose entry doesn't fit. `DiskFault` comes only where the disk's count of faults rose, and carries it.
+    /// Where it refuses it hands back the disk. `NotAJournal` carries the first byte that is no mark's, or the open
+    /// gate whose entry doesn't fit or has another checksum. `DiskFault` comes only where the disk's count of faults rose, and carries it.
     pub fn recover(alloc: Global, mut disk: D) -> Result<Journal<D>, RefusedStart<D>>
         ensures settled { IfOk result (λ journal. D.told → (bodies : List (List ℕ)) → StandsFor (D.seen disk) bodies
             → JournalSettled D.seen D.may_leave journal bodies) }
@@ -173,10 +225,19 @@ impl<D: Disk> Journal<D> {
         ensures cause { JournalRecovers D.told D.seen D.faults disk result }
     {
         match repair(&mut disk) {
-            Ok(Found::Behind { gate, count }) => Ok(Journal {
+            Ok(
+                Found::Behind {
+                    form,
+                    gate,
+                    used,
+                    count,
+                },
+            ) => Ok(Journal {
                 alloc,
                 disk,
+                form,
                 gate,
+                used,
                 count,
                 next: 8,
                 taken: 0,
@@ -210,15 +271,16 @@ impl<D: Disk> Journal<D> {
             → BeforeOrAfter bodies body.now (D.seen self.new.disk) }
         ensures cause { Appends D.faults self.old body.now epoch result self.new }
     {
-        admit(self.stopped, self.gate, body.len() as u64, epoch)?;
-        fill(&mut self.buffer, body)?;
+        admit(self.stopped, self.used, body.len() as u64, epoch)?;
+        fill(&mut self.buffer, self.form, body)?;
         if write_entry(&mut self.disk, self.gate, &self.buffer).is_err() {
             let count = self.disk.fault_count();
             // What the disk has of the entry is unknown, so each later call is refused until a recovery has read it.
             self.stopped = Some(count);
             return Err(JournalError::DiskFault(count));
         }
-        self.gate += AROUND + body.len() as u64;
+        self.gate += AROUND + sum_bytes(self.form) + body.len() as u64;
+        self.used += AROUND + body.len() as u64;
         let number = self.count;
         self.count += 1;
         Ok(number)
@@ -229,9 +291,9 @@ impl<D: Disk> Journal<D> {
     pub fn reserve(&mut self, length: u32, epoch: bool) -> Result<(), JournalError>
         ensures { Reserves self.old length epoch result self.new }
     {
-        admit(self.stopped, self.gate, length as u64, epoch)?;
+        admit(self.stopped, self.used, length as u64, epoch)?;
         self.buffer.clear();
-        self.buffer.reserve(length as usize + 5)?;
+        self.buffer.reserve(length as usize + MOST_AROUND)?;
         Ok(())
     }
 
@@ -253,9 +315,9 @@ impl<D: Disk> Journal<D> {
         if self.next == self.gate {
             return Ok(None);
         }
-        match read_body(self.alloc, &mut self.disk, self.next, self.gate) {
+        match read_body(self.alloc, &mut self.disk, self.form, self.next, self.gate) {
             Ok(body) => {
-                self.next += AROUND + body.len() as u64;
+                self.next += AROUND + sum_bytes(self.form) + body.len() as u64;
                 self.taken += 1;
                 Ok(Some(body))
             }
@@ -308,11 +370,11 @@ impl<D: Disk> Journal<D> {
         answer
     }
 
-    /// How many bytes the journal uses, with the gate at its end.
+    /// How many bytes the journal uses, with the gate at its end, but for checksums.
     pub fn used(&self) -> u64
         ensures { result ≡ self.now.used }
     {
-        self.gate + 1
+        self.used
     }
 
     /// Where the gate stands of the body that `next_body` hands out next; where all were, that of the closed one behind the last.

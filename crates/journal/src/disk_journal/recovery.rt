@@ -2,7 +2,7 @@
 ghost use Rattle.std.specs.Prelude.{◌≡◌, ◌⊎◌, ℕ, ◌-◌, ◌<◌, ◌≤◌, ◌^◌, List, length, IfOk, OnOk};
 ghost use Rattle.base_outside.specs.streams.Disk.{Only};
 ghost use Rattle.base_outside.specs.streams.Faults.{CountsFault};
-ghost use Rattle.spec_wire.specs.journal.Grammar.{BreaksAt, StandsFor};
+ghost use Rattle.spec_journal.specs.Forms.{BreaksAt, StandsFor};
 ghost use Rattle.spec_wire.specs.journal.Moments.{LeavesOnly, Quiet};
 ghost use Rattle.journal.specs.disk_journal.Read.{FoundIn, IsWithin};
 ghost use Rattle.journal.specs.disk_journal.Repair.{Examined, MayBeWithin, Mends, LeavesBroken};
@@ -11,6 +11,7 @@ use crate::disk_journal::entry::cut_behind;
 use crate::disk_journal::prepare;
 use crate::disk_journal::read::{Found, survey};
 use base_outside::{Disk, Failed};
+use spec_journal::Form;
 
 // At most 9 bytes that are no journal are taken as a new disk.
 fn or_new(found: Found, end: u64) -> Option<Found>
@@ -45,7 +46,8 @@ fn examine<D: Disk>(disk: &mut D) -> Result<Option<Found>, Failed>
 
 /// Makes a disk that a crash may have left a journal again: syncs, reads the gates, and cuts behind the
 /// closed one, or makes a new journal of at most 9 bytes that are none. It answers where that gate stands
-/// and how many bodies there are, or where the bytes break the grammar; then it only read.
+/// and how many bodies there are, or where the bytes break the grammar; then it only read. So an entry whose
+/// checksum differs is found before anything is cut.
 ///
 /// Whatever it answers, a read then gives bytes that stand for the same bodies, and a crash at any moment leaves what it could
 /// leave before the call, or such bytes; and a disk whose bytes break the grammar was only read and synced. `Failed` comes only
@@ -64,11 +66,28 @@ pub fn repair<D: Disk>(disk: &mut D) -> Result<Found, Failed>
     match examine(disk)? {
         None => {
             prepare(disk)?;
-            Ok(Found::Behind { gate: 8, count: 0 })
+            Ok(Found::Behind {
+                form: Form::Plain,
+                gate: 8,
+                used: 9,
+                count: 0,
+            })
         }
-        Some(Found::Behind { gate, count }) => {
+        Some(
+            Found::Behind {
+                form,
+                gate,
+                used,
+                count,
+            },
+        ) => {
             cut_behind(disk, gate)?;
-            Ok(Found::Behind { gate, count })
+            Ok(Found::Behind {
+                form,
+                gate,
+                used,
+                count,
+            })
         }
         Some(Found::Broken(at)) => Ok(Found::Broken(at)),
     }

@@ -2,7 +2,8 @@
 ghost use Rattle.std.specs.Prelude.{◌≡◌, [], ◌∷◌, ◌++◌, replicate, OnOk};
 ghost use Rattle.base_outside.specs.streams.Disk.{Only};
 ghost use Rattle.base_outside.specs.streams.Faults.{CountsFault};
-ghost use Rattle.spec_wire.specs.journal.Grammar.{magic, StandsFor};
+ghost use Rattle.spec_wire.specs.journal.Grammar.{magic};
+ghost use Rattle.spec_journal.specs.Forms.{StandsFor};
 ghost use Rattle.spec_wire.specs.journal.Moments.{LeavesOnly};
 ghost use Rattle.journal.specs.disk_journal.Entry.{IsEntryShort, IsEntryNew};
 

@@ -8,8 +8,7 @@ use Rattle.std.proofs.lemmas.Nat.{xor_of_32, xor_comm}
 use Rattle.std.proofs.lemmas.Nat.Bits.{bit_at_xor, bit_at-lt, same_from_bits}
 use Rattle.spec_wire.specs.messages.Places.{le}
 use Rattle.spec_wire.specs.journal.Grammar.{entry}
-use Rattle.law_snapshots.specs.checksums.Castagnoli.{AreBytes, coefficients, degrees, times_x, times_power, behind_byte, behind_bytes, crc32c}
-use Rattle.law_snapshots.specs.checksums.Summed.{checksum_of_entry}
+use Rattle.spec_journal.specs.Castagnoli.{AreBytes, coefficients, degrees, times_x, times_power, behind_byte, behind_bytes, crc32c}
 
 pub in_parts : (r : ℕ) (a b : List ℕ) → behind_bytes r (a ++ b) ≡ behind_bytes (behind_bytes r a) b
 unfolding behind_bytes
@@ -164,7 +163,7 @@ entry_of : (front rest : List ℕ) (b n : ℕ) → n ≡ length (front ++ b ∷ 
 entry_of front rest b n e = ap (λ (k : ℕ). le 4 k ++ (front ++ b ∷ rest)) (sym e) ∙ sym (append_assoc (le 4 n) front (b ∷ rest))
 
 pub changed_entry : (front rest : List ℕ) (b c : ℕ) → AreBytes front → AreBytes rest → b < 256 → c < 256 → b ≢ c
-    → checksum_of_entry (front ++ b ∷ rest) ≢ checksum_of_entry (front ++ c ∷ rest)
+    → crc32c (entry (front ++ b ∷ rest)) ≢ crc32c (entry (front ++ c ∷ rest))
 changed_entry front rest b c f g l m n = λ e.
     let size : ℕ = length (front ++ b ∷ rest) in
     changed (le 4 size ++ front) rest b c (bytes_both (le 4 size) front (le_bytes 4 size) f) g l m n

@@ -2,7 +2,7 @@
 use Rattle.std.proofs.Common.{◌≡◌, inl, inr, ℕ, ◌+◌, ◌≤◌, ◌<◌, false, List, [], ◌∷◌, ◌++◌, length}
 use Rattle.std.proofs.Common.{refl, sym, ap, subst, arith, ◌∙◌}
 use Rattle.std.specs.Prelude.{Err, None}
-use Rattle.spec_wire.specs.journal.Grammar.{StandsFor}
+use Rattle.spec_journal.specs.Forms.{StandsFor}
 use Rattle.spec_wire.specs.journal.Moments.{LeavesOnly}
 use Rattle.journal.specs.disk_journal.Journal.{Allows, Appends, JournalState, OnlyRoom, Reserves, JournalSettled, journal_capped}
 use Rattle.journal.specs.declared.disk_journal.journal.JournalError.{JournalError}
@@ -89,8 +89,9 @@ refused faults old new b (causes.Stopped n) (inr r) h a = absurd (let e = sym a.
 stands : {D : Type 0} (seen : D → List ℕ) (may_leave : D → List ℕ → Type 0) (j : JournalState D) (bodies : List (List ℕ))
     → JournalSettled seen may_leave j bodies → (c : List ℕ) → may_leave j.disk c → StandsFor c bodies
 stands seen may_leave j bodies s c left = inr (record {
+  form = j.form;
   gate = s.gate;
-  rest = [];
+  rest = s.rest;
   spelled = s.durable c left ∙ s.file;
   closed = s.closed;
   fit = s.fit;

@@ -5,7 +5,7 @@ use Rattle.spec_exchange.specs.Fold.{Configuration, fold, recovered}
 use Rattle.spec_exchange.specs.State.{Origin, Record, Server, ServerEvent}
 use Rattle.spec_exchange.specs.Records.{origin_at}
 use Rattle.spec_exchange.specs.Step.{connection_of, expire, expire_records, step, with_deadlines}
-use Rattle.spec_wire.specs.journal.Grammar.{BreaksAt, StandsFor}
+use Rattle.spec_journal.specs.Forms.{BreaksAt, StandsFor}
 use Rattle.law_records.specs.recovery.Recovers.{RecordRecovers}
 use Rattle.law_records.specs.recovery.Restarted.{EntriesLeft, Restarted}
 use Rattle.journal.specs.record_bodies.Body.{IsBodyOf, bodies_of}

@@ -1,8 +1,8 @@
 -- What a crash at any moment of an event leaves.
-use Rattle.std.proofs.Common.{◌≡◌, ◌⊎◌, inl, inr, ℕ, List, [], refl, sym, ap, subst, arith, ◌∙◌}
+use Rattle.std.proofs.Common.{◌≡◌, ◌⊎◌, inl, inr, ℕ, List, refl, sym, ap, subst, arith, ◌∙◌}
 use Rattle.spec_exchange.specs.State as model
 use Rattle.spec_exchange.specs.Step.{step}
-use Rattle.spec_wire.specs.journal.Grammar.{StandsFor}
+use Rattle.spec_journal.specs.Forms.{StandsFor}
 use Rattle.spec_wire.specs.journal.Moments.{LeavesOnly}
 use Rattle.journal.specs.disk_journal.Journal.{JournalState, OnlyRoom, JournalSettled}
 use Rattle.journal.specs.record_bodies.Body.{IsBodyOf, bodies_of}
@@ -40,8 +40,9 @@ by_expiry s now ev bodies front o t x b c (inr h) = inr (inr (o, t, bodies_of fr
 stands : {D : Type 0} (seen : D → List ℕ) (may_leave : D → List ℕ → Type 0) (j : JournalState D) (bodies : List (List ℕ))
     → JournalSettled seen may_leave j bodies → (c : List ℕ) → may_leave j.disk c → StandsFor c bodies
 stands seen may_leave j bodies s c left = inr (record {
+  form = j.form;
   gate = s.gate;
-  rest = [];
+  rest = s.rest;
   spelled = s.durable c left ∙ s.file;
   closed = s.closed;
   fit = s.fit;

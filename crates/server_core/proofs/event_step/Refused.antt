@@ -1,5 +1,5 @@
 -- An event that changed no more than the room for it, or the tables without a word: what it answers, and what a crash leaves.
-use Rattle.std.proofs.Common.{◌≡◌, ◌≤◌, inl, inr, ℕ, ◌+◌, ◌==◌, ◌||◌, nat_le, nat_lt, Bool, true, false, List, [], Option, Some, None}
+use Rattle.std.proofs.Common.{◌≡◌, ◌≤◌, inl, inr, ℕ, ◌+◌, ◌==◌, ◌||◌, nat_le, nat_lt, Bool, true, false, List, Option, Some, None}
 use Rattle.std.proofs.Common.{Result, Ok, Err, IfOk, refl, sym, ap, subst, arith, eqb-true, ◌∙◌}
 use Rattle.std.proofs.lemmas.Bool.Decides.{nat_tests}
 use Rattle.spec_exchange.specs.State as model
@@ -7,7 +7,7 @@ use Rattle.spec_exchange.specs.Step.{step}
 use Rattle.store_files.specs.file_tree.Shown.{ShowsFiles}
 use Rattle.store_files.specs.declared.file_tree.tree.Tree.{Tree}
 use Rattle.server_core.proofs.journaled_tables.Behind.{held, held_still, holds_shown}
-use Rattle.spec_wire.specs.journal.Grammar.{StandsFor}
+use Rattle.spec_journal.specs.Forms.{StandsFor}
 use Rattle.spec_wire.specs.journal.Moments.{LeavesOnly}
 use Rattle.store_opens.specs.open_table.Shown.{ShowsOpens}
 use Rattle.store_opens.specs.declared.open_table.table.Opens.{Opens}
@@ -124,8 +124,9 @@ none_from old mid new (Err x) o same h = tt
 stands_for : {D : Type 0} (seen : D → List ℕ) (may_leave : D → List ℕ → Type 0) (j : JournalState D) (bodies : List (List ℕ))
     → JournalSettled seen may_leave j bodies → (c : List ℕ) → may_leave j.disk c → StandsFor c bodies
 stands_for seen may_leave j bodies s c left = inr (record {
+  form = j.form;
   gate = s.gate;
-  rest = [];
+  rest = s.rest;
   spelled = s.durable c left ∙ s.file;
   closed = s.closed;
   fit = s.fit;

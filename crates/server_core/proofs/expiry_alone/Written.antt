@@ -1,9 +1,9 @@
 -- What comes of the body of an expiry that stands alone.
-use Rattle.std.proofs.Common.{◌≡◌, ℕ, List, [], arith, inl, inr, ◌∙◌}
+use Rattle.std.proofs.Common.{◌≡◌, ℕ, List, arith, inl, inr, ◌∙◌}
 use Rattle.std.specs.Prelude.{Err}
 use Rattle.spec_exchange.specs.State.{Server}
 use Rattle.spec_exchange.specs.Step.{expire, with_deadlines}
-use Rattle.spec_wire.specs.journal.Grammar.{StandsFor}
+use Rattle.spec_journal.specs.Forms.{StandsFor}
 use Rattle.spec_wire.specs.journal.Moments.{LeavesOnly}
 use Rattle.journal.specs.disk_journal.Journal.{JournalState, JournalSettled}
 use Rattle.server_checks.specs.Shown.{TablesShown}
@@ -43,8 +43,9 @@ not_memory faults old new front (Stopped n) w e = absurd (cc)
 stands : {D : Type 0} (seen : D → List ℕ) (may_leave : D → List ℕ → Type 0) (j : JournalState D) (bodies : List (List ℕ))
     → JournalSettled seen may_leave j bodies → (c : List ℕ) → may_leave j.disk c → StandsFor c bodies
 stands seen may_leave j bodies s c left = inr (record {
+  form = j.form;
   gate = s.gate;
-  rest = [];
+  rest = s.rest;
   spelled = s.durable c left ∙ s.file;
   closed = s.closed;
   fit = s.fit;

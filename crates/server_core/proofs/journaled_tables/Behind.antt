@@ -29,8 +29,10 @@ settled_room : {D : Type 0} (seen : D → List ℕ) (may_leave : D → List ℕ 
     → JournalSettled seen may_leave j bodies → JournalSettled seen may_leave (record j { room = r }) bodies
 settled_room seen may_leave j r bodies h = record {
   gate = h.gate;
+  rest = h.rest;
   file = h.file;
   closed = h.closed;
+  end = h.end;
   used = h.used;
   count = h.count;
   fit = h.fit;

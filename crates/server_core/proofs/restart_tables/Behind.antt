@@ -8,7 +8,8 @@ use Rattle.spec_exchange.specs.Fold.{nothing_yet, fold, fold_from, full_room, ep
 use Rattle.spec_exchange.specs.Records.{entry_bytes}
 use Rattle.spec_exchange.specs.State as model
 use Rattle.spec_exchange.specs.State.{Server, VersionRecord, EpochRecord}
-use Rattle.spec_wire.specs.journal.Grammar.{BreaksAt, StandsFor, front}
+use Rattle.spec_wire.specs.journal.Grammar.{front}
+use Rattle.spec_journal.specs.Forms.{BreaksAt, StandsFor}
 use Rattle.spec_wire.specs.journal.Moments.{LeavesOnly, Quiet}
 use Rattle.journal.specs.record_bytes.Grammar.{SpellsRecords}
 use Rattle.journal.specs.record_bytes.Meaning.{record_of, records_of}
@@ -269,16 +270,16 @@ module _ {D : Type 0} (told : Type 0) (seen : D → List ℕ) (may_leave : D →
   no_body : (disk : D) (first : JournalState D) (d0 : Durable) (at : ℕ) → IsOf told seen may_leave faults disk first
       → DurableShown d0 nothing_yet
       → (told → (s : Server) → IsNothing s → DurableShown d0 s → (bodies : List (List ℕ)) → JournalSettled seen may_leave first bodies
-      → FoldRefused bodies (NotAJournal at)) → told → IsNoBody (seen disk) at
+      → FoldRefused first.form bodies (NotAJournal at)) → told → IsNoBody (seen disk) at
   no_body disk first d0 at i new refused t =
       let b = i.0.3 t in
       let f = refused t nothing_yet refl new b.0 (i.1 t b.0 b.1) in
-      (b.0, f.0, f.1, f.2, b.1, f.3, f.4, f.5, f.6, f.7)
+      (b.0, f.0, f.1, f.2, b.1, f.3, (first.form, b.4, f.4), f.5, f.6, f.7)
 
   pub unfolded : (disk : D) (first j : JournalState D) (d0 : Durable) (x : JournalError)
       → IsOf told seen may_leave faults disk first → DurableShown d0 nothing_yet → ReadRefused faults first.disk x j
       → (told → (s : Server) → IsNothing s → DurableShown d0 s → (bodies : List (List ℕ)) → JournalSettled seen may_leave first bodies
-      → FoldRefused bodies x) → RestartRefused told seen faults disk j.disk x
+      → FoldRefused first.form bodies x) → RestartRefused told seen faults disk j.disk x
   unfolded disk first j d0 Memory i new cause refused = cause ∙ i.0.0
   unfolded disk first j d0 (DiskFault n) i new cause refused = (cause.1, subst (λ (m : ℕ). Rose m n) i.0.0 cause.0)
   unfolded disk first j d0 (NotAJournal at) i new cause refused =
@@ -354,7 +355,7 @@ module _ {D : Type 0} (told : Type 0) (seen : D → List ℕ) (may_leave : D →
   settled_leaves : (j : JournalState D) (all : List (List ℕ)) (c : List ℕ) → JournalSettled seen may_leave j all → may_leave j.disk c
       → StandsFor c all
   settled_leaves j all c s left =
-      inr (record { gate = s.gate; rest = []; spelled = s.durable c left ∙ s.file; closed = s.closed; fit = s.fit })
+      inr (record { form = j.form; gate = s.gate; rest = s.rest; spelled = s.durable c left ∙ s.file; closed = s.closed; fit = s.fit })
 
   of_append : (disk : D) (all bodies : List (List ℕ)) (j : JournalState D) (records : List model.Record) (body c : List ℕ)
       → IsRead seen may_leave j all bodies records body → BeforeOrAfter all body c → RestartLeaves (may_leave disk) all c
@@ -414,7 +415,7 @@ module _ {D : Type 0} (told : Type 0) (seen : D → List ℕ) (may_leave : D →
   settled_stands : (first : JournalState D) (new : D) (all : List (List ℕ)) → seen new ≡ seen first.disk
       → JournalSettled seen may_leave first all → StandsFor (seen new) all
   settled_stands first new all same s =
-      inr (record { gate = s.gate; rest = []; spelled = same ∙ s.file; closed = s.closed; fit = s.fit })
+      inr (record { form = first.form; gate = s.gate; rest = s.rest; spelled = same ∙ s.file; closed = s.closed; fit = s.fit })
 
   -- where it was only read
   pub quiet_stands : (first : JournalState D) (new : D) → Quiet told seen may_leave moment left_since first.disk new

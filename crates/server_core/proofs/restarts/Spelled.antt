@@ -4,7 +4,7 @@ use Rattle.std.proofs.Common.{subst, ◌∙◌, append_assoc}
 use Rattle.spec_exchange.specs.Fold.{nothing_yet, fold_from}
 use Rattle.spec_exchange.specs.State as model
 use Rattle.spec_exchange.specs.State.{Server}
-use Rattle.spec_wire.specs.journal.Grammar.{BreaksAt, StandsFor}
+use Rattle.spec_journal.specs.Forms.{BreaksAt, StandsFor}
 use Rattle.journal.specs.record_bytes.Grammar.{BreaksRecords, SpellsRecords}
 use Rattle.journal.specs.record_bytes.Meaning.{records_of}
 use Rattle.journal.specs.declared.record_bytes.value.Record.{Record}

@@ -7,7 +7,8 @@ use Rattle.spec_exchange.specs.Fold.{Configuration, full_room, recovered, recove
 use Rattle.spec_exchange.specs.Fold.{configuration_of as configuration_behind}
 use Rattle.spec_exchange.specs.State as model
 use Rattle.spec_exchange.specs.State.{Address}
-use Rattle.spec_wire.specs.journal.Grammar.{BreaksAt, StandsFor, front}
+use Rattle.spec_wire.specs.journal.Grammar.{front}
+use Rattle.spec_journal.specs.Forms.{BreaksAt, StandsFor}
 use Rattle.journal.specs.disk_journal.Journal.{JournalState, JournalSettled, journal_capped}
 use Rattle.server_core.specs.server_start.Begun.{ServerBegins}
 use Rattle.server_checks.specs.Shown.{TablesShown}
@@ -53,7 +54,7 @@ same_configuration t s h =
 
 module _ {D : Type 0} (told : Type 0) (seen : D → List ℕ) (may_leave : D → List ℕ → Type 0) (faults : D → ℕ) where
   stands_settled : (j : JournalState D) (bodies : List (List ℕ)) → JournalSettled seen may_leave j bodies → StandsFor (seen j.disk) bodies
-  stands_settled j bodies s = inr (record { gate = s.gate; rest = []; spelled = s.file; closed = s.closed; fit = s.fit })
+  stands_settled j bodies s = inr (record { form = j.form; gate = s.gate; rest = s.rest; spelled = s.file; closed = s.closed; fit = s.fit })
 
   pub again : MeansOne → SameRecords → told → (old new : ServerState D) (s : model.Server) (L M : Logons) (records : List model.Record)
       → JournaledHolds told seen may_leave old s L records → old.stopped ≡ None

@@ -1,6 +1,6 @@
 -- A body that goes onto the disk: the room for it, what the write comes to, and what a crash meanwhile leaves.
 use Rattle.std.specs.Prelude.{◌≡◌, ◌⊎◌, ℕ, ◌+◌, ◌≤◌, false, List, ◌++◌, Option, Some, Result, Ok, Err, ⊤}
-use Rattle.spec_wire.specs.journal.Grammar.{StandsFor}
+use Rattle.spec_journal.specs.Forms.{StandsFor}
 use Rattle.journal.specs.disk_journal.Journal.{Allows, JournalState}
 use Rattle.journal.specs.declared.disk_journal.journal.JournalError.{JournalError}
 use Rattle.journal.specs.declared.disk_journal.journal.JournalError.TheVariants as causes

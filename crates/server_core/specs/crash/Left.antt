@@ -3,7 +3,7 @@ use Rattle.std.specs.Prelude.{◌≡◌, ◌⊎◌, ℕ, List, ◌++◌, true}
 use Rattle.spec_exchange.specs.Fold.{Configuration, recovered}
 use Rattle.spec_exchange.specs.State.{Record, Server, ServerEvent}
 use Rattle.spec_exchange.specs.Step.{step}
-use Rattle.spec_wire.specs.journal.Grammar.{StandsFor}
+use Rattle.spec_journal.specs.Forms.{StandsFor}
 use Rattle.law_records.specs.recovery.Recovers.{RecordRecovers}
 use Rattle.law_records.specs.recovery.Restarted.{EntriesLeft, Restarted}
 use Rattle.law_server.specs.tables.Fits.{Fits, all_sound}

@@ -5,7 +5,7 @@ use Rattle.spec_exchange.specs.Step.{step}
 use Rattle.law_records.specs.recovery.Recovers.{RecordRecovers}
 use Rattle.law_server.specs.tables.Fits.{Fits, all_sound}
 use Rattle.base_outside.specs.streams.Faults.{Rose}
-use Rattle.spec_wire.specs.journal.Grammar.{StandsFor}
+use Rattle.spec_journal.specs.Forms.{StandsFor}
 use Rattle.journal.specs.disk_journal.Journal.{JournalState, JournalSettled}
 use Rattle.wire_commands.specs.values.Meaning.{reply_of}
 use Rattle.spec_crypto.specs.tokens.Tokens.{Users}

@@ -1,7 +1,7 @@
 -- The body that an event adds to a journal.
 use Rattle.std.specs.Prelude.{◌≡◌, ◌⊎◌, ℕ, List, ◌++◌}
 use Rattle.spec_exchange.specs.State as model
-use Rattle.spec_wire.specs.journal.Grammar.{StandsFor}
+use Rattle.spec_journal.specs.Forms.{StandsFor}
 use Rattle.journal.specs.record_bodies.Body.{IsBodyOf, bodies_of}
 
 -- the bodies that an event's records make: none of none

@@ -3,7 +3,7 @@ use Rattle.std.specs.Prelude.{◌≡◌, ℕ, ◌+◌, List, [], ◌∷◌, ◌+
 use Rattle.spec_exchange.specs.Fold.{fold, recovery_records}
 use Rattle.spec_exchange.specs.Records.{entry_bytes}
 use Rattle.spec_exchange.specs.State as model
-use Rattle.spec_wire.specs.journal.Grammar.{StandsFor}
+use Rattle.spec_journal.specs.Forms.{StandsFor}
 use Rattle.journal.specs.disk_journal.Journal.{JournalState, JournalRecovers, JournalSettled}
 use Rattle.server_core.specs.durable_state.Durable.{DurableShown}
 use Rattle.server_core.specs.declared.durable_state.durable.Durable.{Durable}

@@ -6,7 +6,8 @@ use Rattle.wire_commands.specs.values.Meaning.{address_of}
 use Rattle.spec_exchange.specs.Fold.{Configuration, fold, full_room, recovered, recovery_records}
 use Rattle.spec_exchange.specs.Records.{entry_bytes}
 use Rattle.spec_exchange.specs.State as model
-use Rattle.spec_wire.specs.journal.Grammar.{StandsFor, BreaksAt, front}
+use Rattle.spec_wire.specs.journal.Grammar.{front}
+use Rattle.spec_journal.specs.Forms.{StandsFor, BreaksAt, GateStands}
 use Rattle.spec_wire.specs.journal.Moments.{LeavesOnly, Quiet}
 use Rattle.journal.specs.disk_journal.Journal.{JournalState, FailedAt, JournalSettled, journal_capped}
 use Rattle.journal.specs.declared.disk_journal.journal.JournalError.{JournalError}
@@ -82,7 +83,7 @@ ServerRestarts told seen may_leave faults z disk journal t = (journal.stopped �
 -- the body that begins at this gate is the first that no server writes
 abbrev pub IsNoBody : List ℕ → ℕ → Type 0
 IsNoBody bytes gate = (bodies : List (List ℕ)) × (k : ℕ) × (body : List ℕ) × (records : List model.Record)
-    × StandsFor bytes bodies × (slice_get bodies k ≡ Some body) × (gate ≡ length (front (take k bodies)))
+    × StandsFor bytes bodies × (slice_get bodies k ≡ Some body) × GateStands bytes bodies k gate
     × BodiesSpell (take k bodies) records × (all_sound records ≡ true) × NoServerWrites (fold records).version body
 
 -- A journal, all of whose bodies a server writes, would pass its upper limit by the records that a recovery adds.

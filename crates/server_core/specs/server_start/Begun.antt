@@ -2,7 +2,8 @@
 use Rattle.std.specs.Prelude.{◌≡◌, ℕ, ◌+◌, List, ◌++◌, length, None}
 use Rattle.spec_exchange.specs.Fold.{recovered, recovery_records}
 use Rattle.spec_exchange.specs.State as model
-use Rattle.spec_wire.specs.journal.Grammar.{StandsFor, front}
+use Rattle.spec_wire.specs.journal.Grammar.{front}
+use Rattle.spec_journal.specs.Forms.{StandsFor}
 use Rattle.server_checks.specs.declared.tables.Config.{Config}
 use Rattle.server_core.specs.journaled_tables.Holds.{JournaledHolds}
 use Rattle.server_core.specs.declared.journaled_tables.state.ServerState.{ServerState}

@@ -2,7 +2,7 @@
 ghost use Rattle.std.specs.Prelude.{◌≡◌, ℕ, List, IfErr, IfOk, None, true};
 ghost use Rattle.spec_exchange.specs.Fold.{fold_from, opening_records};
 ghost use Rattle.spec_exchange.specs.State as model;
-ghost use Rattle.spec_wire.specs.journal.Grammar.{StandsFor};
+ghost use Rattle.spec_journal.specs.Forms.{StandsFor};
 ghost use Rattle.spec_wire.specs.journal.Moments.{LeavesOnly, Quiet};
 ghost use Rattle.journal.specs.record_bytes.Meaning.{records_of};
 ghost use Rattle.journal.specs.declared.record_bytes.value.Record.{Record};

@@ -1,6 +1,6 @@
 //! The state that a server begins with.
 ghost use Rattle.std.specs.Prelude.{◌≡◌, ℕ, IfErr, IfOk, List};
-ghost use Rattle.spec_wire.specs.journal.Grammar.{StandsFor};
+ghost use Rattle.spec_journal.specs.Forms.{StandsFor};
 ghost use Rattle.spec_wire.specs.journal.Moments.{LeavesOnly};
 ghost use Rattle.server_core.specs.server_start.Begun.{ServerBegins};
 ghost use Rattle.server_core.specs.restart_tables.Restart.{RestartLeaves, StartRefused};

@@ -1,5 +1,5 @@
 use Rattle.std.proofs.Common.{refl}
-use Rattle.law_snapshots.specs.checksums.Castagnoli.{coefficients, times_x, times_power, behind_byte, behind_bytes, crc32c}
+use Rattle.spec_journal.specs.Castagnoli.{coefficients, times_x, times_power, behind_byte, behind_bytes, crc32c}
 use Rattle.law_snapshots.proofs.checksums.checksum_example.Goals as goal
 
 pub returns : goal.returns

@@ -7,4 +7,4 @@ invariant-loop-body g l = FoldedSoFar g.D.Disk.told g.D.Disk.seen g.D.Disk.may_l
     g.D.Disk.faults l.initial.journal l.initial.state l.journal l.state
 
 abbrev pub decreases-loop-body : goal.decreases-loop-body
-decreases-loop-body g l = l.journal.used - l.journal.next
+decreases-loop-body g l = l.journal.end - l.journal.next

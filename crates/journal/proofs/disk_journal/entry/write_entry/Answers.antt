@@ -2,47 +2,47 @@ use Rattle.journal.proofs.disk_journal.Crash.{wrote, kept, gated, ended, done}
 use Rattle.journal.proofs.disk_journal.entry.write_entry.Goals as goal
 
 pub returns-in_err-write_at-clause-any_moment : goal.returns-in_err-write_at-clause-any_moment
-returns-in_err-write_at-clause-any_moment g c = λ told front shut ends only.
+returns-in_err-write_at-clause-any_moment g c = λ told front rest shut ends only.
     wrote g.D.Disk.seen g.D.Disk.may_leave g.D.Disk.moment g.D.Disk.left_since g.met.D.Disk.only_now front
-    c.args.behind.now c.args.gate shut c.args.disk.now ends only
+    c.args.behind.now rest c.args.gate shut c.args.disk.now ends only
     c.write_at.new.self c.write_at.ensures.crash c.write_at.ensures.time
 
 pub returns-in_err-sync-clause-any_moment : goal.returns-in_err-sync-clause-any_moment
-returns-in_err-sync-clause-any_moment g c = λ told front shut ends only.
+returns-in_err-sync-clause-any_moment g c = λ told front rest shut ends only.
     kept g.D.Disk.seen g.D.Disk.may_leave g.D.Disk.moment g.D.Disk.left_since g.met.D.Disk.only_now front
-    c.args.behind.now c.args.gate shut c.args.disk.now ends only
+    c.args.behind.now rest c.args.gate shut c.args.disk.now ends only
     c.write_at.new.self c.write_at.ensures.crash c.write_at.ensures.time c.sync.new.self c.sync.ensures.crash c.sync.ensures.time
 
 pub returns-in_err-write_at-2-clause-any_moment : goal.returns-in_err-write_at-2-clause-any_moment
-returns-in_err-write_at-2-clause-any_moment g c = λ told front shut ends only.
+returns-in_err-write_at-2-clause-any_moment g c = λ told front rest shut ends only.
     gated g.D.Disk.seen g.D.Disk.may_leave g.D.Disk.moment g.D.Disk.left_since g.met.D.Disk.only_now front
-    c.args.behind.now c.args.gate shut c.args.disk.now ends only
+    c.args.behind.now rest c.args.gate shut c.args.disk.now ends only
     c.write_at.new.self c.write_at.ensures.crash c.write_at.ensures.time c.sync.new.self c.sync.ensures.crash c.sync.ensures.time
     (c.in_ok-write_at.ensures.written told) (c.in_ok-sync.ensures.durable told) (c.sync.ensures.seen told)
     c.write_at-2.new.self c.write_at-2.ensures.crash c.write_at-2.ensures.time
 
 pub returns-in_err-sync-2-clause-any_moment : goal.returns-in_err-sync-2-clause-any_moment
-returns-in_err-sync-2-clause-any_moment g c = λ told front shut ends only.
+returns-in_err-sync-2-clause-any_moment g c = λ told front rest shut ends only.
     ended g.D.Disk.seen g.D.Disk.may_leave g.D.Disk.moment g.D.Disk.left_since g.met.D.Disk.only_now front
-    c.args.behind.now c.args.gate shut c.args.disk.now ends only
+    c.args.behind.now rest c.args.gate shut c.args.disk.now ends only
     c.write_at.new.self c.write_at.ensures.crash c.write_at.ensures.time c.sync.new.self c.sync.ensures.crash c.sync.ensures.time
     (c.in_ok-write_at.ensures.written told) (c.in_ok-sync.ensures.durable told) (c.sync.ensures.seen told)
     c.write_at-2.new.self c.write_at-2.ensures.crash c.write_at-2.ensures.time c.sync-2.new.self c.sync-2.ensures.crash
     c.sync-2.ensures.time
 
 pub returns-clause-any_moment : goal.returns-clause-any_moment
-returns-clause-any_moment g c = λ told front shut ends only.
+returns-clause-any_moment g c = λ told front rest shut ends only.
     ended g.D.Disk.seen g.D.Disk.may_leave g.D.Disk.moment g.D.Disk.left_since g.met.D.Disk.only_now front
-    c.args.behind.now c.args.gate shut c.args.disk.now ends only
+    c.args.behind.now rest c.args.gate shut c.args.disk.now ends only
     c.write_at.new.self c.write_at.ensures.crash c.write_at.ensures.time c.sync.new.self c.sync.ensures.crash c.sync.ensures.time
     (c.in_ok-write_at.ensures.written told) (c.in_ok-sync.ensures.durable told) (c.sync.ensures.seen told)
     c.write_at-2.new.self c.write_at-2.ensures.crash c.write_at-2.ensures.time c.sync-2.new.self c.sync-2.ensures.crash
     c.sync-2.ensures.time
 
 pub returns-clause-done : goal.returns-clause-done
-returns-clause-done g c = λ told front shut ends only.
+returns-clause-done g c = λ told front rest shut ends only.
     done g.D.Disk.seen g.D.Disk.may_leave g.D.Disk.moment g.D.Disk.left_since g.met.D.Disk.only_now front
-    c.args.behind.now c.args.gate shut c.args.disk.now ends only
+    c.args.behind.now rest c.args.gate shut c.args.disk.now ends only
     c.write_at.new.self c.write_at.ensures.crash c.write_at.ensures.time c.sync.new.self c.sync.ensures.crash c.sync.ensures.time
     (c.in_ok-write_at.ensures.written told) (c.in_ok-sync.ensures.durable told) (c.sync.ensures.seen told)
     c.write_at-2.new.self c.write_at-2.ensures.crash c.write_at-2.ensures.time c.sync-2.new.self c.sync-2.ensures.crash

@@ -1,5 +1,5 @@
 use Rattle.std.proofs.Common.{◌⊎◌, ◌<◌, ℕ, ◌++◌, List, arith, length, refl, subst, sym, ◌∙◌}
-use Rattle.spec_wire.specs.journal.Grammar.{StandsFor}
+use Rattle.spec_journal.specs.Forms.{StandsFor}
 use Rattle.spec_wire.specs.journal.Moments.{LeavesOnly}
 use Rattle.journal.specs.disk_journal.Journal.{JournalSettled}
 use Rattle.server_core.proofs.body_writing.Cases.{is_nil, none_more, none_used, nothing_left, one_body, refused, used_more}

@@ -1,28 +1,30 @@
-use Rattle.std.proofs.Common.{◌≡◌, ℕ, ◌<◌, ◌^◌, [], ◌∷◌, ◌++◌, List, length, false, sym, ◌∙◌, ap, subst, arith, length-append}
+use Rattle.std.proofs.Common.{◌≡◌, ℕ, ◌<◌, ◌^◌, [], ◌∷◌, ◌++◌, List, drop, length, false, sym, ◌∙◌, ap, subst, arith, length-append}
 use Rattle.std.proofs.lemmas.List.{take-append-le}
 use Rattle.std.specs.Result.{is_err}
-use Rattle.spec_wire.specs.journal.Grammar.{entry, front}
+use Rattle.spec_wire.specs.journal.Grammar.{front}
+use Rattle.spec_journal.specs.Forms.{form_entry, form_front}
 use Rattle.spec_wire.specs.journal.Moments.{LeavesOnly}
-use Rattle.journal.specs.disk_journal.Entry.{EntryEndsAt, IsClosedOrOpened}
+use Rattle.journal.specs.disk_journal.Entry.{ClosedAt, IsClosedOrOpened}
 use Rattle.journal.specs.disk_journal.Journal.{JournalSettled, BeforeOrAfter}
 use Rattle.journal.proofs.disk_journal.Moments.{weakened}
-use Rattle.journal.proofs.disk_journal.Grown.{all_fit_push, front-push, length-front-push, either, ok_part}
+use Rattle.journal.proofs.disk_journal.Grown.{all_fit_push, length-front-push, length-plain-push, pushed, either, ok_part}
 use Rattle.journal.proofs.disk_journal.journal.Journal.append.Goals as goal
 
 pub returns-then-is_err-clause-any_moment : goal.returns-then-is_err-clause-any_moment
 returns-then-is_err-clause-any_moment g c = λ told bodies settled.
     let s = subst (λ j. JournalSettled g.D.Disk.seen g.D.Disk.may_leave j bodies) (sym c.self.view_is) settled in
-    let ends : EntryEndsAt c.self.inside.gate (front bodies) s.gate (g.D.Disk.seen c.self.inside.disk) = record {
+    let ends : ClosedAt c.self.inside.gate (form_front c.self.inside.form bodies) s.gate s.rest (g.D.Disk.seen c.self.inside.disk) = record {
       file = s.file;
-      place = omega (arith, s.used);
+      place = omega (arith, s.end);
       closed = s.closed;
     } in
-    let behind : c.deref.result.now ≡ entry c.args.body.now ++ 0 ∷ [] = c.deref.ensures.value ∙ c.in_ok-fill.ensures.filled in
+    let behind : c.deref.result.now ≡ form_entry c.self.inside.form c.args.body.now ++ 0 ∷ [] = c.deref.ensures.value ∙ c.in_ok-fill.ensures.filled in
     let small : length c.args.body.now < 2 ^ 32 = omega (arith, c.in_ok-admit.ensures.bound) in
-    let run = c.write_entry.ensures.any_moment told (front bodies) s.gate ends s.durable in
+    let run = c.write_entry.ensures.any_moment told (form_front c.self.inside.form bodies) s.rest s.gate ends s.durable in
     let whole = weakened g.D.Disk.moment g.D.Disk.left_since c.self.inside.disk c.write_entry.new.disk
-    (IsClosedOrOpened (front bodies) c.deref.result.now) (BeforeOrAfter bodies c.args.body.now)
-    (λ f here. either bodies c.args.body.now f s.fit small (subst (λ l. IsClosedOrOpened (front bodies) l f) behind
+    (IsClosedOrOpened (form_front c.self.inside.form bodies) c.deref.result.now) (BeforeOrAfter bodies c.args.body.now)
+    (λ f here. either c.self.inside.form bodies c.args.body.now f s.fit small
+    (subst (λ l. IsClosedOrOpened (form_front c.self.inside.form bodies) l f) behind
     here)) run in
     subst (λ j. LeavesOnly g.D.Disk.moment g.D.Disk.left_since j.disk c.write_entry.new.disk
     (BeforeOrAfter bodies c.args.body.now)) c.self.view_is whole
@@ -30,17 +32,18 @@ returns-then-is_err-clause-any_moment g c = λ told bodies settled.
 pub returns-clause-any_moment : goal.returns-clause-any_moment
 returns-clause-any_moment g c = λ told bodies settled.
     let s = subst (λ j. JournalSettled g.D.Disk.seen g.D.Disk.may_leave j bodies) (sym c.self.view_is) settled in
-    let ends : EntryEndsAt c.self.inside.gate (front bodies) s.gate (g.D.Disk.seen c.self.inside.disk) = record {
+    let ends : ClosedAt c.self.inside.gate (form_front c.self.inside.form bodies) s.gate s.rest (g.D.Disk.seen c.self.inside.disk) = record {
       file = s.file;
-      place = omega (arith, s.used);
+      place = omega (arith, s.end);
       closed = s.closed;
     } in
-    let behind : c.deref.result.now ≡ entry c.args.body.now ++ 0 ∷ [] = c.deref.ensures.value ∙ c.in_ok-fill.ensures.filled in
+    let behind : c.deref.result.now ≡ form_entry c.self.inside.form c.args.body.now ++ 0 ∷ [] = c.deref.ensures.value ∙ c.in_ok-fill.ensures.filled in
     let small : length c.args.body.now < 2 ^ 32 = omega (arith, c.in_ok-admit.ensures.bound) in
-    let run = c.write_entry.ensures.any_moment told (front bodies) s.gate ends s.durable in
+    let run = c.write_entry.ensures.any_moment told (form_front c.self.inside.form bodies) s.rest s.gate ends s.durable in
     let whole = weakened g.D.Disk.moment g.D.Disk.left_since c.self.inside.disk c.write_entry.new.disk
-    (IsClosedOrOpened (front bodies) c.deref.result.now) (BeforeOrAfter bodies c.args.body.now)
-    (λ f here. either bodies c.args.body.now f s.fit small (subst (λ l. IsClosedOrOpened (front bodies) l f) behind
+    (IsClosedOrOpened (form_front c.self.inside.form bodies) c.deref.result.now) (BeforeOrAfter bodies c.args.body.now)
+    (λ f here. either c.self.inside.form bodies c.args.body.now f s.fit small
+    (subst (λ l. IsClosedOrOpened (form_front c.self.inside.form bodies) l f) behind
     here)) run in
     subst (λ j. LeavesOnly g.D.Disk.moment g.D.Disk.left_since j.disk c.write_entry.new.disk
     (BeforeOrAfter bodies c.args.body.now)) c.self.view_is whole
@@ -48,25 +51,28 @@ returns-clause-any_moment g c = λ told bodies settled.
 pub returns-clause-acknowledged : goal.returns-clause-acknowledged
 returns-clause-acknowledged g c = λ told bodies settled.
     let s = subst (λ j. JournalSettled g.D.Disk.seen g.D.Disk.may_leave j bodies) (sym c.self.view_is) settled in
-    let ends : EntryEndsAt c.self.inside.gate (front bodies) s.gate (g.D.Disk.seen c.self.inside.disk) = record {
+    let ends : ClosedAt c.self.inside.gate (form_front c.self.inside.form bodies) s.gate s.rest (g.D.Disk.seen c.self.inside.disk) = record {
       file = s.file;
-      place = omega (arith, s.used);
+      place = omega (arith, s.end);
       closed = s.closed;
     } in
-    let behind : c.deref.result.now ≡ entry c.args.body.now ++ 0 ∷ [] = c.deref.ensures.value ∙ c.in_ok-fill.ensures.filled in
+    let behind : c.deref.result.now ≡ form_entry c.self.inside.form c.args.body.now ++ 0 ∷ [] = c.deref.ensures.value ∙ c.in_ok-fill.ensures.filled in
     let fine : is_err c.write_entry.result ≡ false = sym c.is_err.ensures.value ∙ c.if-is_err.false in
     let small : length c.args.body.now < 2 ^ 32 = omega (arith, c.in_ok-admit.ensures.bound) in
-    let done = ok_part c.write_entry.result _ fine (c.write_entry.ensures.done told (front bodies) s.gate ends s.durable) in (
+    let done = ok_part c.write_entry.result _ fine (c.write_entry.ensures.done told (form_front c.self.inside.form bodies) s.rest s.gate ends s.durable) in (
       s.count,
       record {
         gate = 0;
-        file = done.0 ∙ ap (λ (l : List ℕ). front bodies ++ 1 ∷ l) behind ∙ front-push bodies c.args.body.now (0 ∷ []);
+        rest = drop (length c.deref.result.now) s.rest;
+        file = done.0 ∙ ap (λ (l : List ℕ). form_front c.self.inside.form bodies ++ 1 ∷ (l ++ drop (length c.deref.result.now) s.rest)) behind
+            ∙ pushed c.self.inside.form bodies c.args.body.now (drop (length c.deref.result.now) s.rest);
         closed = omega arith;
-        used = omega (arith, s.used, length-front-push bodies c.args.body.now);
+        end = omega (arith, s.end, c.sum_bytes.ensures, length-front-push c.self.inside.form bodies c.args.body.now);
+        used = omega (arith, s.used, length-plain-push bodies c.args.body.now);
         count = omega (arith, s.count, length-append bodies (c.args.body.now ∷ []));
         fit = all_fit_push bodies c.args.body.now s.fit small;
         some_taken = omega (arith, s.some_taken, length-append bodies (c.args.body.now ∷ []));
-        next = s.next ∙ ap (λ (b : List (List ℕ)). length (front b))
+        next = s.next ∙ ap (λ (b : List (List ℕ)). length (form_front c.self.inside.form b))
             (sym (take-append-le c.self.inside.taken bodies (c.args.body.now ∷ []) s.some_taken));
         goes_on = s.goes_on;
         durable = done.1;

@@ -7,4 +7,4 @@ invariant-loop-body g l = Gathered g.D.Disk.told g.D.Disk.seen g.D.Disk.may_leav
     g.D.Disk.faults l.initial.self l.self l.list
 
 abbrev pub decreases-loop-body : goal.decreases-loop-body
-decreases-loop-body g l = l.self.used - l.self.next
+decreases-loop-body g l = l.self.end - l.self.next

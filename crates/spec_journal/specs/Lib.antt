@@ -1,3 +1,3 @@
 pub mod Castagnoli
 pub mod Vectors
-pub mod Summed
+pub mod Forms
