@@ -3,10 +3,9 @@
 for each algorithm by itself, and compares what `PROGRAM run` tells, and the bytes that Samba then has on its disk. A line a check, as
 clients.sh wants them. It wants root, Debian's samba (4.17) and a free port of the loopback.
 
-Two things of Samba are kept out of the way. It may answer a read, write or flush first with STATUS_PENDING, which the client takes for
-the answer, unless `aio read size` and `aio write size` are 0 and `strict sync` is no. And where a connection is a further channel, the
-process that took it hands it to another one, but may read the next frame itself, which it then drops ("client used more credits than
-granted" in its log): nobody answers, and the run is tried again."""
+It may answer a read, write or flush first with STATUS_PENDING, behind which the client waits on. One thing is kept out of the way: where
+a connection is a further channel, the process that took it hands it to another one, but may read the next frame itself, which it then
+drops ("client used more credits than granted" in its log): nobody answers, and the run is tried again."""
 import contextlib
 import os
 import shutil
@@ -28,9 +27,9 @@ interfaces = "lo;capability=RSS,speed=1000000000"
 bind interfaces only = yes
 disable netbios = yes
 load printers = no
-aio read size = 0
-aio write size = 0
-strict sync = no
+aio read size = 1
+aio write size = 1
+strict sync = yes
 smb ports = {port}
 log file = {room}/log
 private dir = {room}/private

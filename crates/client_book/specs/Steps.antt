@@ -102,11 +102,12 @@ opened_by channel s = record s { opened = s.opened || (channel == 0) }
 abbrev pub ended_on : ℕ → Shared → Shared
 ended_on channel s = opened_by channel (record s { failed = 0 })
 
--- a client without operations, in no session, of which nothing has failed
+-- a client without operations, in no session, with keys of none, of which nothing has failed
 pub record IsNew (salt : ℕ) (b : ClientBook) : Type 0 where
   pub client : (settings : Settings) → ShowsClient b.client (start settings).client
   pub salt_is : b.salt ≡ salt
   pub accepted : b.accepted ≡ 0
+  pub cipher : b.keys.cipher ≡ 0
   pub numbers : b.numbers ≡ 0
   pub failed : b.failed ≡ 0
   pub opened : b.opened ≡ false

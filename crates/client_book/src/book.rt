@@ -1,5 +1,5 @@
 //! The client in its turns.
-ghost use Rattle.std.specs.Prelude.{OnOk, IfOk};
+ghost use Rattle.std.specs.Prelude.{◌≡◌, OnOk, IfOk};
 ghost use Rattle.client_events.specs.event_calls.Events.{ClientEventTells};
 ghost use Rattle.client_events.specs.played_client.Holding.{PlayedSteps};
 ghost use Rattle.client_book.specs.Steps.{ClientSteps, IsNew};
@@ -32,7 +32,9 @@ pub struct ClientBook {
 }
 
 /// Of no session.
-fn no_keys() -> Keys {
+fn no_keys() -> Keys
+    ensures { result.cipher ≡ 0 }
+{
     Keys {
         signing: Signer {
             key: [0; 16],

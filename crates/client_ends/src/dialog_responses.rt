@@ -7,6 +7,6 @@ mod contexts;
 mod negotiated;
 mod setup;
 
-pub use bits::{flags_fit, is_response, seals};
+pub use bits::{flags_fit, is_pending, is_response, seals};
 pub use negotiated::greeting;
 pub use setup::{SetupTold, setup_told, tree_reads};

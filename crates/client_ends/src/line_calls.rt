@@ -2,7 +2,9 @@
 //! 3.2.5.1).
 
 mod incoming;
+mod interim;
 mod outgoing;
 
 pub use incoming::{Answer, hear};
+pub use interim::hear_or_wait;
 pub use outgoing::{has_cipher, send};

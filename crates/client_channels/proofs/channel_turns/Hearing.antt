@@ -1,5 +1,5 @@
 -- What a dialog and a line hear.
-use Rattle.std.proofs.Common.{◌≡◌, ℕ, List, Ok, Err, inl, inr, refl, subst}
+use Rattle.std.proofs.Common.{◌≡◌, ℕ, List, Some, None, Ok, Err, inl, inr, refl, subst}
 use Rattle.client_ends.specs.declared.dialog_calls.heard.Heard.{Heard}
 use Rattle.client_ends.specs.declared.ends.dialog.Dialog.{Dialog}
 use Rattle.client_ends.specs.declared.ends.line.Line.{Line}
@@ -7,10 +7,9 @@ use Rattle.client_ends.specs.declared.ends.line.LineError.TheVariants.{BadReply,
 use Rattle.client_ends.specs.declared.line_calls.incoming.Answer.{Answer}
 use Rattle.client_ends.specs.dialog_calls.Turning.{DialogHears}
 use Rattle.client_ends.specs.ends.Shown.{ShowsDialog, ShowsLine, token_of}
-use Rattle.client_ends.specs.line_calls.Hearing.{LineHears}
+use Rattle.client_ends.specs.line_calls.Interim.{LineGives}
 use Rattle.client_ends.specs.line_calls.Sending.{IsRequest, LineSends}
 use Rattle.spec_exchange.specs.State.{Message}
-use Rattle.spec_world.specs.Dialog.{line_response}
 use Rattle.spec_world.specs.Ends.{ClientEnd}
 use Rattle.wire_bytes.specs.declared.headers.request.Request.{Request}
 use Rattle.client_channels.specs.channel_turns.Asides.{DialogTakes, LineGoes, LineTakes, TakesOrLoses}
@@ -24,12 +23,16 @@ dialog_takes a d message number h behind is hears =
     (h, behind, λ n s. subst (λ (k : ℕ). DialogHears n.stage d n message k behind h) is (hears n s), refl)
 
 pub line_takes : (l : Line) (message : List ℕ) (a : Answer) (behind : Line)
-    → ((n : ClientEnd) → ShowsLine l n → LineHears n (line_response n message) behind (Ok a)) → LineTakes l message (Hears behind a)
-line_takes l message a behind hears = inl (a, behind, hears, refl)
+    → ((n : ClientEnd) → ShowsLine l n → LineGives n message behind (Ok (Some a))) → LineTakes l message (Hears behind a)
+line_takes l message a behind gives = inl (a, behind, gives, refl)
+
+pub line_waits : (l : Line) (message : List ℕ) (behind : Line)
+    → ((n : ClientEnd) → ShowsLine l n → LineGives n message behind (Ok None)) → LineTakes l message (Runs behind)
+line_waits l message behind gives = inr (inl (behind, gives, refl))
 
 pub line_breaks : (l : Line) (message : List ℕ) (behind : Line)
-    → ((n : ClientEnd) → ShowsLine l n → LineHears n (line_response n message) behind (Err BadReply)) → LineTakes l message Breaks
-line_breaks l message behind hears = inr (behind, hears, refl)
+    → ((n : ClientEnd) → ShowsLine l n → LineGives n message behind (Err BadReply)) → LineTakes l message Breaks
+line_breaks l message behind gives = inr (inr (behind, gives, refl))
 
 pub line_goes : (l : Line) (r : Request) (frame : List ℕ) (behind : Line)
     → ((n : ClientEnd) (m : Message) (charge : ℕ) → ShowsLine l n → IsRequest r m charge → m.message_id ≡ n.purse.next

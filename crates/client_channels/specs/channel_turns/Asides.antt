@@ -1,5 +1,5 @@
 -- What a channel does while nothing passes over its link: its turns at the client, and what its dialog or its line does by itself.
-use Rattle.std.specs.Prelude.{◌≡◌, ◌⊎◌, ℕ, zero, suc, List, [], ◌∷◌, ◌++◌, Ok, Err}
+use Rattle.std.specs.Prelude.{◌≡◌, ◌⊎◌, ℕ, zero, suc, List, [], ◌∷◌, ◌++◌, Some, None, Ok, Err}
 use Rattle.client_ends.specs.declared.dialog_calls.heard.Heard.{Heard}
 use Rattle.client_ends.specs.declared.ends.dialog.Dialog.{Dialog}
 use Rattle.client_ends.specs.declared.ends.line.Line.{Line}
@@ -7,10 +7,9 @@ use Rattle.client_ends.specs.declared.ends.line.LineError.TheVariants.{BadReply,
 use Rattle.client_ends.specs.declared.line_calls.incoming.Answer.{Answer}
 use Rattle.client_ends.specs.dialog_calls.Turning.{DialogHears}
 use Rattle.client_ends.specs.ends.Shown.{ShowsDialog, ShowsLine, token_of}
-use Rattle.client_ends.specs.line_calls.Hearing.{LineHears}
+use Rattle.client_ends.specs.line_calls.Interim.{LineGives}
 use Rattle.client_ends.specs.line_calls.Sending.{IsRequest, LineSends}
 use Rattle.spec_exchange.specs.State.{Message}
-use Rattle.spec_world.specs.Dialog.{line_response}
 use Rattle.spec_world.specs.Ends.{ClientEnd}
 use Rattle.wire_bytes.specs.declared.headers.request.Request.{Request}
 use Rattle.client_channels.specs.channel_turns.Sides.{Breaks, Ends, Hears, Joins, Lost, Runs, Says, Sends, Side, TakesTurn, Talks}
@@ -28,12 +27,12 @@ DialogTakes a d message s =
     × ((n : ClientEnd) → ShowsDialog d n → DialogHears n.stage d n message (number_in a) behind h)
     × (s ≡ side_heard h behind)
 
--- a line hears a reply; what isn't one cuts the channel
+-- A line hears a reply, or an interim response, behind which it waits on; what is neither cuts the channel.
 abbrev pub LineTakes : Line → List ℕ → Side → Type 0
 LineTakes l message s =
-    ((a : Answer) × (behind : Line) × ((n : ClientEnd) → ShowsLine l n → LineHears n (line_response n message) behind (Ok a))
-    × (s ≡ Hears behind a))
-    ⊎ ((behind : Line) × ((n : ClientEnd) → ShowsLine l n → LineHears n (line_response n message) behind (Err BadReply)) × (s ≡ Breaks))
+    ((a : Answer) × (behind : Line) × ((n : ClientEnd) → ShowsLine l n → LineGives n message behind (Ok (Some a))) × (s ≡ Hears behind a))
+    ⊎ ((behind : Line) × ((n : ClientEnd) → ShowsLine l n → LineGives n message behind (Ok None)) × (s ≡ Runs behind))
+    ⊎ ((behind : Line) × ((n : ClientEnd) → ShowsLine l n → LineGives n message behind (Err BadReply)) × (s ≡ Breaks))
 
 abbrev pub Takes : Aim → Side → List ℕ → Side → Type 0
 Takes a (Talks d) message s = DialogTakes a d message s

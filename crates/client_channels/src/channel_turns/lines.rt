@@ -17,7 +17,7 @@ use crate::channel_turns::passing::{Course, Parted, Wire, lack, next_frame, part
 use crate::channel_turns::shared_client::ClientTurns;
 use base_outside::{Link, Net};
 use client_book::{Told, Turn, is_nothing};
-use client_ends::line_calls::hear;
+use client_ends::line_calls::hear_or_wait;
 use client_ends::{Answer, Line, LineError, send};
 use serve_turns::{BookSeat, SharedBook};
 use std::sync::Wait;
@@ -129,8 +129,10 @@ fn hear_message<W: Wait, N: Net>(
     ensures hears { (a : Aimed) → (s : Side) × TakesOrLoses a (Runs line.old) message.now s
         × Asides a channel s (view_of seat.old).own (side_unless result (Runs line.new)) (view_of seat.new).own }
 {
-    match hear(line, message.as_slice()) {
-        Ok(answer) => tell_answer(rt, outside, book, seat, channel, answer),
+    match hear_or_wait(line, message.as_slice()) {
+        Ok(Some(answer)) => tell_answer(rt, outside, book, seat, channel, answer),
+        // An interim response: the reply still comes.
+        Ok(None) => None,
         Err(LineError::BadReply) => Some(cut(rt, outside, book, seat, channel)),
         Err(LineError::Memory) => Some(lack(rt, outside, book, seat)),
         Err(LineError::NoCredit(_)) => Some(lack(rt, outside, book, seat)),

@@ -1,5 +1,5 @@
 -- What a line sends, and the end behind it.
-use Rattle.std.proofs.Common.{◌≡◌, ℕ, ◌+◌, ◌^◌, ◌<◌, ◌≤◌, nat_lt, Bool, true, false, not, ◌||◌, if◌then◌else◌, List, ◌++◌, length, Ok, Err}
+use Rattle.std.proofs.Common.{◌≡◌, ℕ, ◌+◌, ◌^◌, ◌<◌, ◌≤◌, nat_lt, Bool, true, false, not, ◌||◌, if◌then◌else◌, List, ◌++◌, length, Ok, Err, Result}
 use Rattle.std.proofs.Common.{refl, sym, ap, subst, ◌∙◌, arith}
 use Rattle.std.proofs.lemmas.Bool.Decides.{nat_tests}
 use Rattle.spec_commands.specs.BodyOf.{body_of, number_of_command}
@@ -19,10 +19,11 @@ use Rattle.spec_world.specs.Ends.{ClientEnd, nonce_at}
 use Rattle.spec_world.specs.Messages.{message_spelling}
 use Rattle.spec_world.specs.Sending.{line_frame, may_seal, request_header, request_text, sealed_on, spent}
 use Rattle.client_ends.specs.declared.ends.line.Line.{Line}
+use Rattle.client_ends.specs.declared.ends.line.LineError.{LineError}
 use Rattle.client_ends.specs.declared.ends.line.LineError.TheVariants.{Spent}
 use Rattle.client_ends.specs.declared.ends.line.Outstanding.{Outstanding}
 use Rattle.client_ends.specs.ends.Shown.{EndKeeps, ShowsLine, ShowsSeals, EndShowsTalk, awaited_in, token_of}
-use Rattle.client_ends.specs.line_calls.Sending.{IsRequest, LineSends}
+use Rattle.client_ends.specs.line_calls.Sending.{IsRequest, LineCounts, LineSends, MakesFrame}
 
 -- ---- the text
 
@@ -227,3 +228,55 @@ frame_fits n body e h = omega (arith, e, h)
 
 pub body_is : (told due : List ℕ) → told ≡ due → length due ≤ 1113996 → length told ≤ 1113996
 body_is told due e h = subst (λ (b : List ℕ). length b ≤ 1113996) (sym e) h
+
+-- ---- nonces
+
+abbrev Outcome : Type 0
+Outcome = Result (List ℕ) LineError
+
+pub signed_counts : (old new : Line) (text frame : List ℕ) → old.encrypts ≡ false → EndKeeps old new → frame ≡ signed new.keys.signing text
+    → LineCounts old new (Ok frame)
+signed_counts old new text frame plain k e = (
+  k.keys,
+  k.encrypts,
+  subst (λ (b : Bool). MakesFrame b old.keys old.nonces new.nonces frame) (sym plain)
+      (record { text = text; frame_is = e ∙ ap (λ (x : Keys). signed x.signing text) k.keys; stays = k.nonces }),
+)
+
+pub sealed_counts : (old mid new : Line) (nonce text frame : List ℕ) → old.encrypts ≡ true → mid.keys ≡ old.keys
+    → mid.encrypts ≡ old.encrypts
+    → (old.nonces.counter < last_counter) × (nonce ≡ nonce_of old.nonces)
+    × (mid.nonces ≡ record old.nonces { counter = old.nonces.counter + 1 })
+    → EndKeeps mid new → frame ≡ sealed new.keys true nonce text → LineCounts old new (Ok frame)
+sealed_counts old mid new nonce text frame on same also given k e =
+    let keys : new.keys ≡ old.keys = k.keys ∙ same in (
+      keys,
+      k.encrypts ∙ also,
+      subst (λ (b : Bool). MakesFrame b old.keys old.nonces new.nonces frame) (sym on)
+          (record {
+            text = text;
+            below = given.0;
+            frame_is = e ∙ (λ i. sealed (keys i) true (given.1 i) text);
+            counts = k.nonces ∙ given.2;
+          }),
+    )
+
+-- what is sent behind a change that keeps a line's keys and nonces
+pub counts_behind : (old mid new : Line) (frame : List ℕ) → EndKeeps old mid → LineCounts mid new (Ok frame) → LineCounts old new (Ok frame)
+counts_behind old mid new frame k h = (
+  h.0 ∙ k.keys,
+  h.1 ∙ k.encrypts,
+  subst (λ (b : Bool). MakesFrame b old.keys old.nonces new.nonces frame) k.encrypts
+      (subst (λ (x : Keys). MakesFrame mid.encrypts x old.nonces new.nonces frame) k.keys
+      (subst (λ (x : NonceState). MakesFrame mid.encrypts mid.keys x new.nonces frame) k.nonces h.2)),
+)
+
+pub keeps_behind : (old mid new : Line) → EndKeeps old mid → EndKeeps mid new → EndKeeps old new
+keeps_behind old mid new k h = record { keys = h.keys ∙ k.keys; encrypts = h.encrypts ∙ k.encrypts; nonces = h.nonces ∙ k.nonces }
+
+pub line_counts_behind : (old mid new : Line) (r : Outcome) → EndKeeps old mid → LineCounts mid new r → LineCounts old new r
+line_counts_behind old mid new (Ok frame) k h = counts_behind old mid new frame k h
+line_counts_behind old mid new (Err why) k h = keeps_behind old mid new k h
+
+pub keeps_all : (l : Line) → EndKeeps l l
+keeps_all l = record { keys = refl; encrypts = refl; nonces = refl }

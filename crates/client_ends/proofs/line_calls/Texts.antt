@@ -49,7 +49,7 @@ plain_text : (n : ClientEnd) (frame : List ℕ) → n.encrypts ≡ false
 plain_text n frame e =
     ap (λ (b : Bool). if b then opened n.keys false frame else if verifies n.keys.signing frame then Some frame else None) e
 
-sealed_text : (n : ClientEnd) (frame : List ℕ) → n.encrypts ≡ true → line_text n frame ≡ opened n.keys false frame
+pub sealed_text : (n : ClientEnd) (frame : List ℕ) → n.encrypts ≡ true → line_text n frame ≡ opened n.keys false frame
 sealed_text n frame e =
     ap (λ (b : Bool). if b then opened n.keys false frame else if verifies n.keys.signing frame then Some frame else None) e
 

@@ -1,9 +1,13 @@
 //! Flags of headers and of SESSION_SETUP.
 ghost use Rattle.std.specs.Prelude.{◌≡◌, ◌<◌, ◌==◌, ◌&&◌, not};
 ghost use Rattle.spec_exchange.specs.Commands.{has_bit as has_bit_of};
+ghost use Rattle.client_ends.specs.line_calls.Interim.{is_pending as pending_due};
 ghost use Rattle.spec_world.specs.Dialog.{is_response as response_due};
 
 use spec_wire::Header;
+
+/// STATUS_PENDING (MS-ERREF 2.3.1)
+const PENDING: u32 = 0x0000_0103;
 
 #[tactic(auto, unfolding(spec_exchange::specs::Commands::has_bit))]
 fn has_bit(number: u32, bit: u32) -> bool
@@ -18,6 +22,18 @@ pub fn is_response(header: &Header) -> bool
     ensures { result ≡ response_due header.now }
 {
     has_bit(header.flags, 1)
+}
+
+/// SMB2_FLAGS_ASYNC_COMMAND, with STATUS_PENDING: an interim response
+pub fn is_pending(header: &Header) -> bool
+    ensures { result ≡ pending_due header.now }
+{
+    let later = has_bit(header.flags, 2);
+    if later {
+        header.status == PENDING
+    } else {
+        false
+    }
 }
 
 fn has_flag(flags: u16, flag: u32) -> bool

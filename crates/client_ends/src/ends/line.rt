@@ -84,6 +84,7 @@ impl Line {
     ghost use Rattle.spec_world.specs.Sending.{spent};
     ghost use Rattle.spec_world.specs.Dialog.{paid_in};
     ghost use Rattle.client_ends.specs.ends.Shown.{token_of, awaited_in, HasEndRoom, EndKeeps, EndShowsTalk};
+    ghost use Rattle.client_ends.specs.line_calls.Interim.{credited};
 
     /// A line without keys, on which nothing was sent. It takes no memory.
     pub fn new(alloc: Global) -> Line
@@ -158,5 +159,14 @@ impl Line {
     {
         self.purse.add(header.credits);
         drop_id(&mut self.awaited, header.message);
+    }
+
+    /// An interim response pays its credits in, and its id waits on. It takes no memory.
+    pub fn credit(&mut self, header: &Header)
+        ensures shows { (n : ClientEnd) → EndShowsTalk self.old n → EndShowsTalk self.new (credited n header.now) }
+        ensures keeps { EndKeeps self.old self.new }
+    {
+        let granted = header.credits;
+        self.purse.add(granted);
     }
 }

@@ -46,7 +46,7 @@ fn why_unsealed(why: SealError) -> LineError
 }
 
 /// The message in a frame that opens.
-fn opened_text(line: &Line, frame: &[u8]) -> Result<Bytes, LineError>
+pub(crate) fn opened_text(line: &Line, frame: &[u8]) -> Result<Bytes, LineError>
     ensures { (n : ClientEnd) → ShowsSeals line.now n → line.now.encrypts ≡ true → Texts (line_text n frame.now) result }
 {
     let ciphered = has_cipher(&line.keys);
@@ -102,9 +102,9 @@ fn text_of(line: &Line, frame: &[u8]) -> Result<Bytes, LineError>
 
 /// What a message answers.
 #[derive(Clone, Copy)]
-struct Found {
-    header: Header,
-    token: u64,
+pub(crate) struct Found {
+    pub header: Header,
+    pub token: u64,
 }
 
 /// A request that waits, where it isn't the dialog's.
@@ -144,7 +144,7 @@ fn answered_by(line: &Line, header: Header) -> Option<Found>
 }
 
 /// The request that a message answers, where it is a response to one of an operation.
-fn answered(line: &Line, m: &[u8]) -> Option<Found>
+pub(crate) fn answered(line: &Line, m: &[u8]) -> Option<Found>
     ensures { (n : ClientEnd) → EndShowsTalk line.now n
         → MatchOption result (Unheard n (if_response (response_in (Some m.now)))) (λ a. IsLineAnswer n m.now a.header a.token) }
 {
@@ -155,7 +155,7 @@ fn answered(line: &Line, m: &[u8]) -> Option<Found>
 }
 
 /// A message is taken.
-fn take_reply(line: &mut Line, message: Bytes) -> Result<Answer, LineError>
+pub(crate) fn take_reply(line: &mut Line, message: Bytes) -> Result<Answer, LineError>
     ensures { (n : ClientEnd) → ShowsLine line.old n → LineHears n (if_response (response_in (Some message))) line.new result }
 {
     match answered(line, message.as_slice()) {

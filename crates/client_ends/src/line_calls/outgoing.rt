@@ -12,7 +12,7 @@ ghost use Rattle.spec_wire.specs.messages.Header.{header_spelling};
 ghost use Rattle.spec_world.specs.Ends.{ClientEnd};
 ghost use Rattle.spec_world.specs.Sending.{request_header};
 ghost use Rattle.client_ends.specs.ends.Shown.{HasEndRoom, ShowsLine, token_of};
-ghost use Rattle.client_ends.specs.line_calls.Sending.{CanSend, IsRequest, LineSends};
+ghost use Rattle.client_ends.specs.line_calls.Sending.{CanSend, IsRequest, LineCounts, LineSends};
 
 use crate::ends::{Line, LineError};
 use crypto_sessions::{Keys, Signer, seal_in_place, sign};
@@ -153,8 +153,9 @@ fn send_signed(line: &mut Line, request: &Request) -> Result<Bytes, LineError>
     requires room { HasEndRoom line.old }
     requires held { counted request.now.header.charge ≤ line.old.purse.held }
     requires plain { line.old.encrypts ≡ false }
-    ensures { (n : ClientEnd) (m : Message) (charge : ℕ) → ShowsLine line.old n → IsRequest request.now m charge
+    ensures sends { (n : ClientEnd) (m : Message) (charge : ℕ) → ShowsLine line.old n → IsRequest request.now m charge
         → m.message_id ≡ n.purse.next → LineSends n m charge (token_of request.now.token) line.new result }
+    ensures counts { LineCounts line.old line.new result }
 {
     let Ok(frame) = room(line.alloc, &[0; 64], request.body.as_slice()) else {
         return Err(LineError::Memory);
@@ -186,8 +187,9 @@ fn send_under(line: &mut Line, request: &Request) -> Result<Bytes, LineError>
     requires held { counted request.now.header.charge ≤ line.old.purse.held }
     requires seals { line.old.encrypts ≡ true }
     requires cipher { HasCipher line.old.keys }
-    ensures { (n : ClientEnd) (m : Message) (charge : ℕ) → ShowsLine line.old n → IsRequest request.now m charge
+    ensures sends { (n : ClientEnd) (m : Message) (charge : ℕ) → ShowsLine line.old n → IsRequest request.now m charge
         → m.message_id ≡ n.purse.next → LineSends n m charge (token_of request.now.token) line.new result }
+    ensures counts { LineCounts line.old line.new result }
 {
     let Ok(frame) = room(line.alloc, &[0; 116], request.body.as_slice()) else {
         return Err(LineError::Memory);
@@ -209,8 +211,9 @@ fn send_sealed(line: &mut Line, request: &Request) -> Result<Bytes, LineError>
     requires room { HasEndRoom line.old }
     requires held { counted request.now.header.charge ≤ line.old.purse.held }
     requires seals { line.old.encrypts ≡ true }
-    ensures { (n : ClientEnd) (m : Message) (charge : ℕ) → ShowsLine line.old n → IsRequest request.now m charge
+    ensures sends { (n : ClientEnd) (m : Message) (charge : ℕ) → ShowsLine line.old n → IsRequest request.now m charge
         → m.message_id ≡ n.purse.next → LineSends n m charge (token_of request.now.token) line.new result }
+    ensures counts { LineCounts line.old line.new result }
 {
     let ciphered = has_cipher(&line.keys);
     if ciphered {
@@ -225,8 +228,9 @@ fn send_paid(line: &mut Line, request: &Request) -> Result<Bytes, LineError>
     requires request { CanSend request.now }
     requires room { HasEndRoom line.old }
     requires held { counted request.now.header.charge ≤ line.old.purse.held }
-    ensures { (n : ClientEnd) (m : Message) (charge : ℕ) → ShowsLine line.old n → IsRequest request.now m charge
+    ensures sends { (n : ClientEnd) (m : Message) (charge : ℕ) → ShowsLine line.old n → IsRequest request.now m charge
         → m.message_id ≡ n.purse.next → LineSends n m charge (token_of request.now.token) line.new result }
+    ensures counts { LineCounts line.old line.new result }
 {
     let encrypts = line.encrypts;
     if encrypts {
@@ -237,13 +241,14 @@ fn send_paid(line: &mut Line, request: &Request) -> Result<Bytes, LineError>
 }
 
 /// Sends a request: it gets the next message id and asks for 512 credits, its charge is spent, its token waits for a
-/// response, and the frame is sealed where the line seals, else signed. Of the request's header the line takes all but
-/// the message id, the credits, NextCommand and the signature. Where credits, nonces or memory don't suffice the line
-/// stays as it is.
+/// response, and the frame is sealed where the line seals, under its next nonce, else signed. Of the request's header the
+/// line takes all but the message id, the credits, NextCommand and the signature. Where credits, nonces or memory don't
+/// suffice the line stays as it is.
 pub fn send(line: &mut Line, request: &Request) -> Result<Bytes, LineError>
     requires { CanSend request.now }
-    ensures { (n : ClientEnd) (m : Message) (charge : ℕ) → ShowsLine line.old n → IsRequest request.now m charge
+    ensures sends { (n : ClientEnd) (m : Message) (charge : ℕ) → ShowsLine line.old n → IsRequest request.now m charge
         → m.message_id ≡ n.purse.next → LineSends n m charge (token_of request.now.token) line.new result }
+    ensures counts { LineCounts line.old line.new result }
 {
     let held = line.credits();
     let cost = cost_of(request);

@@ -6,6 +6,7 @@ returns c = record {
   client = c.new.ensures;
   salt_is = refl;
   accepted = refl;
+  cipher = c.no_keys.ensures;
   numbers = refl;
   failed = refl;
   opened = refl;

@@ -23,7 +23,7 @@ returns-in-Ok-clause-says g c = λ a.
     (g.G.Gate.bars c.args.gate.now) a c.args.channel before said c.args.wire.now.stream c.args.wire.now.link
     (view_of c.args.seat.now).own (view_of c.args.seat.now).own
     (aside_one a c.args.channel Moves before said (view_of c.args.seat.now).own (view_of c.args.seat.now).own
-    (line_goes c.args.line.now c.args.request.now c.in-Ok.frame c.send.new.line c.in-Ok.ensures, refl)))
+    (line_goes c.args.line.now c.args.request.now c.in-Ok.frame c.send.new.line c.in-Ok.ensures.sends, refl)))
     (c.put.ensures.puts a c.send.new.line)
 
 pub returns-in-Err-Spent-clause-says : goal.returns-in-Err-Spent-clause-says
@@ -39,7 +39,7 @@ returns-in-Err-Spent-clause-says g c = λ a.
     (aside_one a c.args.channel Moves before Breaks (view_of c.args.seat.now).own (view_of c.args.seat.now).own (
       line_spent c.args.line.now c.args.request.now c.send.new.line
           (λ n m charge s is next. subst (λ e. LineSends n m charge (token_of c.args.request.now.token) c.send.new.line (Err e))
-          c.in-Err-Spent.field-0-is (c.in-Err-Spent.ensures n m charge s is next)),
+          c.in-Err-Spent.field-0-is (c.in-Err-Spent.ensures.sends n m charge s is next)),
       refl,
     )))
     (c.cut.ensures.cuts a)

@@ -1,3 +1,4 @@
+use Rattle.client_ends.proofs.line_calls.Sent.{keeps_all}
 use Rattle.client_ends.proofs.line_calls.outgoing.send_sealed.Goals as goal
 
 pub send_under-requires : goal.send_under-requires
@@ -10,5 +11,7 @@ send_under-requires c = record {
 }
 
 pub returns-else-ciphered : goal.returns-else-ciphered
-returns-else-ciphered c = λ n m charge s r e.
-    absurd (c.has_cipher-ciphered.ensures.none c.if-ciphered.false (s.1.sealing c.requires.seals))
+returns-else-ciphered c = record {
+  sends = λ n m charge s r e. absurd (c.has_cipher-ciphered.ensures.none c.if-ciphered.false (s.1.sealing c.requires.seals));
+  counts = keeps_all c.args.line.now;
+}

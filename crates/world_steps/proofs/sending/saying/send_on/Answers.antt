@@ -12,5 +12,5 @@ returns-in-Ok c =
       short = subst (λ (v : List ℕ). length v < 2 ^ 60) (sym is.1) is.2;
       sends = λ n m charge shown asked id.
           subst (λ (v : List ℕ). LineSends n m charge (token_of c.args.request.now.token) c.send.new.line (Ok v)) (sym is.1)
-          (c.in-Ok.ensures n m charge shown asked id);
+          (c.in-Ok.ensures.sends n m charge shown asked id);
     }) c.up_of.ensures
