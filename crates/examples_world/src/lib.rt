@@ -26,7 +26,7 @@ pub use connections::{
 };
 pub use repeats::{
     client_secrets_example, given_twice_example, misread_example, put_up_example,
-    redirected_example, server_secrets_example,
+    redirected_example, server_places_example, server_secrets_example,
 };
 pub use runs::{
     binding_example, cancel_example, first_related_example, given_example, id_taken_twice_example,

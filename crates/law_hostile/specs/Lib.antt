@@ -8,5 +8,7 @@ pub mod placed
 pub mod acts
 pub mod empties
 pub mod ids
+pub mod meant
+pub mod replied
 pub mod finals
 pub mod premises

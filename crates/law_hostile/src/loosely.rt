@@ -5,7 +5,7 @@
 ghost use Rattle.std.specs.Prelude.{ℕ, ◌+◌, ◌≡◌, [], ◌∷◌, true, false};
 ghost use Rattle.spec_exchange.specs.Commands.{Aside, Logoff};
 ghost use Rattle.spec_exchange.specs.Network.{World};
-ghost use Rattle.law_hostile.specs.loosely.LooseRows.{ups_behind, asks_for, places_behind, downs_behind};
+ghost use Rattle.law_hostile.specs.loosely.LooseRows.{ups_behind, acts_there, asks_badly_for, asks_for, places_behind, downs_behind};
 ghost use Rattle.law_hostile.specs.loosely.LooseRuns.{Hears, LooselyNewer, LooselyOnce, Loses, Overtakes};
 
 /// On every run, where between its events any message or reply that waits may be lost, or be overtaken by the one behind it, or the server
@@ -21,7 +21,8 @@ pub fn loose_newer_law()
 {}
 
 /// Three requests wait on a connection, and three replies. The second one may be lost, the second overtake the first, each way. A message
-/// that the server hears from nowhere takes a place of its own and no other's; one that asks for something is none.
+/// that the server hears from nowhere takes a place of its own and no other's, and its answer goes nowhere; one that asks for something is
+/// none, but if it isn't signed as owed: then it takes its place, and doesn't act.
 pub fn loose_steps_example()
     ensures request_lost { (w : World) → ups_behind w (Loses 0 true 1) ≡ 1 ∷ 3 ∷ [] }
     ensures reply_lost { (w : World) → downs_behind w (Loses 0 false 1) ≡ 1 ∷ 3 ∷ [] }
@@ -29,5 +30,8 @@ pub fn loose_steps_example()
     ensures reply_ahead { (w : World) → downs_behind w (Overtakes 0 false 0) ≡ 2 ∷ 1 ∷ 3 ∷ [] }
     ensures heard { (w : World) → places_behind w (Hears (asks_for (Aside 0) 4)) ≡ w.log.places + 1 }
     ensures unmoved { (w : World) → ups_behind w (Hears (asks_for (Aside 0) 4)) ≡ 1 ∷ 2 ∷ 3 ∷ [] }
+    ensures unanswered { (w : World) → downs_behind w (Hears (asks_for (Aside 0) 4)) ≡ 1 ∷ 2 ∷ 3 ∷ [] }
     ensures refused { (w : World) → places_behind w (Hears (asks_for Logoff 4)) ≡ w.log.places }
+    ensures faulty { (w : World) → places_behind w (Hears (asks_badly_for Logoff 4)) ≡ w.log.places + 1 }
+    ensures denied { (w : World) → acts_there w (Hears (asks_badly_for Logoff 4)) 4 ≡ false }
 {}

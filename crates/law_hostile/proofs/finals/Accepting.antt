@@ -1,5 +1,5 @@
 -- Where nothing is forged, a final response that the client accepts has the secret of one that the server made.
-use Rattle.std.proofs.Common.{◌≡◌, ℕ, zero, suc, ◌+◌, Bool, true, false, if◌then◌else◌, List, [], ◌∷◌, ◌++◌, ◌⊎◌, inl, inr, refl, sym, ap}
+use Rattle.std.proofs.Common.{◌≡◌, ℕ, zero, suc, Bool, true, false, if◌then◌else◌, List, [], ◌∷◌, ◌++◌, ◌⊎◌, inl, inr, refl, sym, ap}
 use Rattle.std.proofs.Common.{subst, arith, length, Option, Some, None, slice_get}
 use Rattle.law_server.proofs.tables.Logic.{either}
 use Rattle.spec_crypto.specs.sessions.Chain.{chain, chain_from, first_value, value_behind}
@@ -80,7 +80,7 @@ accepted_secret : (made : List Ending) (n : ClientEnd) (x : HeardMessage) (bound
 accepted_secret made n x bound w = w
 
 accepts : (z : WorldSettings) (t : Watched) (k place : ℕ) (d : DownFrame) (new : List Ending)
-    → slice_get t.repeating.downs place ≡ Some d → is_heard t.repeating.world k ≡ true → EventSigned z t (Give k false place) → Holds t
+    → slice_get t.repeating.downs place ≡ Some d → is_heard t.repeating.world k ≡ true → EventSigned z t (Give k false place) → Holds z t
     → AcceptsOne z t.repeating.world.accepted new (t.repeating.world.wires k).client_end d.frame
     (t.repeating.world.wires k).client_end.stage
     → AllMade t.repeating.world.made t.repeating.world.accepted → AllMade t.repeating.world.made new
@@ -100,7 +100,7 @@ abbrev Made : RepeatWorld → Type 0
 Made r = AllMade r.world.made r.world.accepted
 
 down_made : (z : WorldSettings) (t : Watched) (k place : ℕ) (o : Option DownFrame) → slice_get t.repeating.downs place ≡ o
-    → EventSigned z t (Give k false place) → Holds t → Made t.repeating → Made (give_down z t.repeating k o)
+    → EventSigned z t (Give k false place) → Holds z t → Made t.repeating → Made (give_down z t.repeating k o)
 down_made z t k place None at all h old = old
 down_made z t k place (Some d) at all h old = by_heard (is_heard t.repeating.world k) refl
   where
@@ -136,13 +136,13 @@ up_made z r k (Some u) old =
     subst (λ made. AllMade made (given_up z r k u).world.accepted) (sym q.1)
     (subst (AllMade (r.world.made ++ q.0)) (sym q.2) (grown r.world.made q.0 r.world.accepted old))) (λ _. old)
 
-event_made : (z : WorldSettings) (t : Watched) (e : RepeatEvent) → EventSigned z t e → Holds t → Made t.repeating
+event_made : (z : WorldSettings) (t : Watched) (e : RepeatEvent) → EventSigned z t e → Holds z t → Made t.repeating
     → Made (repeat_happens z t.repeating e)
 event_made z t (Same e) all h old = same_made z t.repeating e old
 event_made z t (Give k true place) all h old = up_made z t.repeating k (slice_get t.repeating.ups place) old
 event_made z t (Give k false place) all h old = down_made z t k place (slice_get t.repeating.downs place) refl all h old
 
-run_made : (z : WorldSettings) (es : List RepeatEvent) (t : Watched) → z.client.ciphers ≡ [] → AllSigned z es t → Holds t → Made t.repeating
+run_made : (z : WorldSettings) (es : List RepeatEvent) (t : Watched) → z.client.ciphers ≡ [] → AllSigned z es t → Holds z t → Made t.repeating
     → Made (watched_run z es t).repeating
 unfolding watched_run
 run_made z [] t c all h old = old

@@ -1,5 +1,5 @@
 -- Along a run each final response that the server made was signed with its secret.
-use Rattle.std.proofs.Common.{◌≡◌, ℕ, zero, suc, ◌+◌, Bool, true, false, if◌then◌else◌, List, [], ◌∷◌, ◌++◌, ◌⊎◌, inl, inr, refl, sym, ◌∙◌, ap}
+use Rattle.std.proofs.Common.{◌≡◌, ℕ, zero, suc, Bool, true, false, if◌then◌else◌, List, [], ◌∷◌, ◌++◌, ◌⊎◌, inl, inr, refl, sym, ◌∙◌, ap}
 use Rattle.std.proofs.Common.{subst, length, take, Option, Some, None, slice_get, Result, Ok, Err}
 use Rattle.std.specs.Prelude.{is_some}
 use Rattle.spec_exchange.specs.Status.{access_denied}
@@ -263,11 +263,11 @@ served_signed z t k e (Some u) fine h = by_served (is_served t.repeating.world k
 
 -- ---- one event, and a run
 
-record Signed (t : Watched) : Type 0 where
-  holds : Holds t
+record Signed (z : WorldSettings) (t : Watched) : Type 0 where
+  holds : Holds z t
   made : AllSignedFor t.signed t.repeating.world.made
 
-made_in_event : (z : WorldSettings) (t : Watched) (e : RepeatEvent) → Signed t
+made_in_event : (z : WorldSettings) (t : Watched) (e : RepeatEvent) → Signed z t
     → AllSignedFor (watched_happens z t e).signed (repeat_happens z t.repeating e).world.made
 made_in_event z t (Same e) h =
     let r = repeat_happens z t.repeating (Same e) in
@@ -275,7 +275,7 @@ made_in_event z t (Same e) h =
     subst (AllSignedFor (watched_happens z t (Same e)).signed) (sym (same_made z t.repeating e))
     (signed_more t.signed (entries_up t k r (put_since t.repeating r)) t.repeating.world.made h.made)
 made_in_event z t (Give k true place) h =
-    served_signed z t k (Give k true place) (slice_get t.repeating.ups place) (fine_of t h.holds place) h.made
+    served_signed z t k (Give k true place) (slice_get t.repeating.ups place) (fine_of z t h.holds place) h.made
 made_in_event z t (Give k false place) h =
     let r = repeat_happens z t.repeating (Give k false place) in
     let v : Watched = record t { repeating = r; of_client = client_secret t r } in
@@ -283,7 +283,7 @@ made_in_event z t (Give k false place) h =
     (sym (down_made z t.repeating k (slice_get t.repeating.downs place)))
     (signed_more t.signed (entries_up v k r (put_since t.repeating r)) t.repeating.world.made h.made)
 
-event_signed : (z : WorldSettings) (t : Watched) (e : RepeatEvent) → z.client.ciphers ≡ [] → Signed t → Signed (watched_happens z t e)
+event_signed : (z : WorldSettings) (t : Watched) (e : RepeatEvent) → z.client.ciphers ≡ [] → Signed z t → Signed z (watched_happens z t e)
 event_signed z t e c h =
     record {
       holds = event_holds z t e c h.holds;
@@ -291,7 +291,7 @@ event_signed z t e c h =
           (made_in_event z t e h);
     }
 
-run_signed : (z : WorldSettings) (es : List RepeatEvent) (t : Watched) → z.client.ciphers ≡ [] → Signed t → Signed (watched_run z es t)
+run_signed : (z : WorldSettings) (es : List RepeatEvent) (t : Watched) → z.client.ciphers ≡ [] → Signed z t → Signed z (watched_run z es t)
 unfolding watched_run
 run_signed z [] t c h = h
 run_signed z (e ∷ es) t c h = run_signed z es (watched_happens z t e) c (event_signed z t e c h)

@@ -1,5 +1,5 @@
 -- The answer to a frame of one message has at most one reply, and where it is final its secret is that of the response that was made.
-use Rattle.std.proofs.Common.{◌≡◌, ℕ, ◌+◌, Bool, true, false, List, [], ◌∷◌, ◌++◌, ◌⊎◌, inl, inr, refl, sym, ◌∙◌, ap}
+use Rattle.std.proofs.Common.{◌≡◌, ℕ, Bool, true, false, List, [], ◌∷◌, ◌++◌, ◌⊎◌, inl, inr, refl, sym, ◌∙◌, ap}
 use Rattle.std.proofs.Common.{subst, length, take, Option, Some, None, slice_get, Result, Ok, Err}
 use Rattle.law_server.proofs.tables.Logic.{either}
 use Rattle.spec_exchange.specs.State.{Message}

@@ -1,5 +1,5 @@
 -- Along a run the secrets that are remembered, and those that the server signed with, are those of final responses that it made.
-use Rattle.std.proofs.Common.{◌≡◌, ℕ, ◌+◌, Bool, true, false, if◌then◌else◌, List, [], ◌∷◌, ◌++◌, ◌⊎◌, inl, inr, refl}
+use Rattle.std.proofs.Common.{◌≡◌, ℕ, Bool, true, false, if◌then◌else◌, List, [], ◌∷◌, ◌++◌, ◌⊎◌, inl, inr, refl}
 use Rattle.std.proofs.Common.{sym, ◌∙◌, ap, subst, Option, Some, None, slice_get, Result, Ok, Err}
 use Rattle.std.specs.Prelude.{is_some}
 use Rattle.law_server.proofs.tables.Logic.{either}
@@ -240,17 +240,17 @@ down_made z r k (Some d) =
 
 -- ---- one event, and a run
 
-pub record Holds (t : Watched) : Type 0 where
+pub record Holds (z : WorldSettings) (t : Watched) : Type 0 where
   pub kept : Kept t t.repeating.world.made
-  pub bear : frames.Holds t.repeating
+  pub bear : frames.Holds z t.repeating
   pub plain : plains.Holds t.repeating
 
-pub fine_of : (t : Watched) → Holds t → (place : ℕ) (u : UpFrame) → slice_get t.repeating.ups place ≡ Some u
+pub fine_of : (z : WorldSettings) (t : Watched) → Holds z t → (place : ℕ) (u : UpFrame) → slice_get t.repeating.ups place ≡ Some u
     → (begins_sealed u.frame ≡ false) × BearsOne u.frame u.sent.message.message_id
-fine_of t h place u at =
-    let bare = h.plain.ups place u at in (bare, bears_one u.frame u.sent.message bare (h.bear.bear place u at))
+fine_of z t h place u at =
+    let bare = h.plain.ups place u at in (bare, bears_one z u.connection u.frame u.sent.message bare (h.bear.bear place u at))
 
-kept_in_event : (z : WorldSettings) (t : Watched) (e : RepeatEvent) → Holds t
+kept_in_event : (z : WorldSettings) (t : Watched) (e : RepeatEvent) → Holds z t
     → Kept (watched_happens z t e) (repeat_happens z t.repeating e).world.made
 kept_in_event z t (Same e) h =
     let r = repeat_happens z t.repeating (Same e) in
@@ -258,28 +258,28 @@ kept_in_event z t (Same e) h =
     subst (λ made. Kept (watched_happens z t (Same e)) made) (sym (same_made z t.repeating e))
     (h.kept.0, h.kept.1, with_asked t.repeating.world.made t t k r (put_since t.repeating r) h.kept)
 kept_in_event z t (Give k true place) h =
-    served_kept z t k (Give k true place) (slice_get t.repeating.ups place) (fine_of t h place) h.kept
+    served_kept z t k (Give k true place) (slice_get t.repeating.ups place) (fine_of z t h place) h.kept
 kept_in_event z t (Give k false place) h =
     let r = repeat_happens z t.repeating (Give k false place) in
     let v : Watched = record t { repeating = r; of_client = client_secret t r } in
     subst (λ made. Kept (watched_happens z t (Give k false place)) made) (sym (down_made z t.repeating k (slice_get t.repeating.downs place)))
     (h.kept.0, h.kept.1, with_asked t.repeating.world.made t v k r (put_since t.repeating r) h.kept)
 
-pub event_holds : (z : WorldSettings) (t : Watched) (e : RepeatEvent) → z.client.ciphers ≡ [] → Holds t → Holds (watched_happens z t e)
+pub event_holds : (z : WorldSettings) (t : Watched) (e : RepeatEvent) → z.client.ciphers ≡ [] → Holds z t → Holds z (watched_happens z t e)
 event_holds z t e c h =
     let is = event_watched z t e in
     record {
       kept = subst (λ (r : RepeatWorld). Kept (watched_happens z t e) r.world.made) (sym is) (kept_in_event z t e h);
-      bear = subst frames.Holds (sym is) (frames.event_holds z t.repeating e h.bear);
+      bear = subst (frames.Holds z) (sym is) (frames.event_holds z t.repeating e h.bear);
       plain = subst plains.Holds (sym is) (plains.event_holds z t.repeating e c h.plain);
     }
 
-run_holds : (z : WorldSettings) (es : List RepeatEvent) (t : Watched) → z.client.ciphers ≡ [] → Holds t → Holds (watched_run z es t)
+run_holds : (z : WorldSettings) (es : List RepeatEvent) (t : Watched) → z.client.ciphers ≡ [] → Holds z t → Holds z (watched_run z es t)
 unfolding watched_run
 run_holds z [] t c h = h
 run_holds z (e ∷ es) t c h = run_holds z es (watched_happens z t e) c (event_holds z t e c h)
 
-pub start_holds : (z : WorldSettings) → Holds (watching (repeat_start z))
+pub start_holds : (z : WorldSettings) → Holds z (watching (repeat_start z))
 start_holds z =
     record {
       kept = (λ k. inl refl, λ x. inl refl, none_of_all (IsBy []));

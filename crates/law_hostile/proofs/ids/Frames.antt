@@ -1,5 +1,5 @@
 -- Along a repeat run each frame that goes up bears the id of the value that it was made for.
-use Rattle.std.proofs.Common.{◌≡◌, ℕ, ◌+◌, ◌<◌, ◌==◌, Bool, true, false, List, [], ◌∷◌, ◌++◌, ◌⊎◌, inl, inr, refl}
+use Rattle.std.proofs.Common.{◌≡◌, ℕ, ◌<◌, ◌==◌, Bool, true, false, List, [], ◌∷◌, ◌++◌, ◌⊎◌, inl, inr, refl}
 use Rattle.std.proofs.Common.{sym, ◌∙◌, ap, arith, subst, length, Option, Some, None, slice_get}
 use Rattle.law_server.proofs.tables.Logic.{either}
 use Rattle.law_nonces.proofs.negotiation.Tables.{by_key, by_key_2}
@@ -24,47 +24,51 @@ use Rattle.law_hostile.proofs.puts.Growing.{none_in}
 use Rattle.law_hostile.proofs.placed.Requests.{opening_ups}
 use Rattle.law_hostile.proofs.ids.Served.{serve_empties, lists_ids}
 use Rattle.law_hostile.proofs.ids.Rising.{last_get, put_none, nothing_more, never_apart, own_ids_rise}
-use Rattle.law_hostile.proofs.ids.Bearing.{Bears, bears_one}
+use Rattle.law_hostile.specs.meant.Meant.{OwnRequestsAreMeant}
+use Rattle.law_hostile.proofs.ids.Bearing.{Bears, bears_one, bears_request}
 use Rattle.law_hostile.proofs.ids.Paying.{IsPaid, IsBehind, Fronts, Ready, Behind, behind_of, cut_behind, push_behind, open_behind}
 use Rattle.law_hostile.proofs.ids.Talking.{take_behind}
 
 -- ---- what was put
 
-abbrev pub AllBear : List UpFrame → Type 0
-AllBear us = (i : ℕ) (u : UpFrame) → slice_get us i ≡ Some u → Bears u.frame u.sent.message
+abbrev pub AllBear : WorldSettings → List UpFrame → Type 0
+AllBear z us = (i : ℕ) (u : UpFrame) → slice_get us i ≡ Some u → Bears z u.connection u.frame u.sent.message
 
-none_bear : AllBear []
-none_bear i u h = absurd (none_in [] i u refl h)
+none_bear : (z : WorldSettings) → AllBear z []
+none_bear z i u h = absurd (none_in [] i u refl h)
 
-one_more : (us : List UpFrame) (x : UpFrame) → AllBear us → Bears x.frame x.sent.message → AllBear (us ++ x ∷ [])
-one_more us x all bears i u h = by (last_get us x i u h)
+one_more : (z : WorldSettings) (us : List UpFrame) (x : UpFrame) → AllBear z us → Bears z x.connection x.frame x.sent.message
+    → AllBear z (us ++ x ∷ [])
+one_more z us x all bears i u h = by (last_get us x i u h)
   where
-    by : ((i < length us) × (slice_get us i ≡ Some u)) ⊎ ((i ≡ length us) × (x ≡ u)) → Bears u.frame u.sent.message
+    by : ((i < length us) × (slice_get us i ≡ Some u)) ⊎ ((i ≡ length us) × (x ≡ u))
+        → Bears z u.connection u.frame u.sent.message
     by (inl p) = all i u p.1
-    by (inr p) = subst (λ (y : UpFrame). Bears y.frame y.sent.message) p.1 bears
+    by (inr p) = subst (λ (y : UpFrame). Bears z y.connection y.frame y.sent.message) p.1 bears
 
-one_put : (us : List UpFrame) (k n : ℕ) (b : List ℕ) (x : Sent) → Bears b x.message → AllBear us
-    → AllBear (us ++ puts_up k n (b ∷ []) (x ∷ []))
+one_put : (z : WorldSettings) (us : List UpFrame) (k n : ℕ) (b : List ℕ) (x : Sent) → Bears z k b x.message → AllBear z us
+    → AllBear z (us ++ puts_up k n (b ∷ []) (x ∷ []))
 unfolding puts_up
-one_put us k n b x bears all = one_more us (record { frame = b; sent = x; connection = k; opening = n }) all bears
+one_put z us k n b x bears all = one_more z us (record { frame = b; sent = x; connection = k; opening = n }) all bears
 
-more_bear : (us : List UpFrame) (k n : ℕ) (bs : List (List ℕ)) (xs : List Sent) → Fronts bs xs → AllBear us → AllBear (us ++ puts_up k n bs xs)
-more_bear us k n bs xs (inl none) all =
-    subst (λ vs. AllBear (us ++ vs)) (sym (ap (λ ys. puts_up k n bs ys) none ∙ put_none k n bs))
-    (subst AllBear (sym (nothing_more us)) all)
-more_bear us k n bs xs (inr o) all =
-    subst (λ ys. AllBear (us ++ puts_up k n bs ys)) (sym o.values)
-    (subst (λ cs. AllBear (us ++ puts_up k n cs (o.sent ∷ []))) (sym o.frames) (one_put us k n o.frame o.sent o.bears all))
+more_bear : (z : WorldSettings) (us : List UpFrame) (k n : ℕ) (bs : List (List ℕ)) (xs : List Sent) → Fronts z k bs xs → AllBear z us
+    → AllBear z (us ++ puts_up k n bs xs)
+more_bear z us k n bs xs (inl none) all =
+    subst (λ vs. AllBear z (us ++ vs)) (sym (ap (λ ys. puts_up k n bs ys) none ∙ put_none k n bs))
+    (subst (AllBear z) (sym (nothing_more us)) all)
+more_bear z us k n bs xs (inr o) all =
+    subst (λ ys. AllBear z (us ++ puts_up k n bs ys)) (sym o.values)
+    (subst (λ cs. AllBear z (us ++ puts_up k n cs (o.sent ∷ []))) (sym o.frames) (one_put z us k n o.frame o.sent o.bears all))
 
 -- ---- what is paid
 
 abbrev pub AllPaid : World → Type 0
 AllPaid w = (j : ℕ) → IsPaid (w.wires j).client_end.purse (w.values.conns j).next_id
 
-pub record Holds (r : RepeatWorld) : Type 0 where
+pub record Holds (z : WorldSettings) (r : RepeatWorld) : Type 0 where
   pub empties : HasEmptyLists r.world
   pub paid : AllPaid r.world
-  pub bear : AllBear r.ups
+  pub bear : AllBear z r.ups
 
 ready_of : (w : World) → HasEmptyLists w → AllPaid w → Ready w
 ready_of w e p j = record { purse = p j; frames = e.up j; values = e.sent j }
@@ -88,36 +92,37 @@ lists_paid w k us ds heard all j =
 
 -- ---- the events that use no list
 
-changed_behind : (z : WorldSettings) (w : World) (e : Event) → uses_no_list e ≡ true → Ready w → Behind (bytes_changed z w e)
-changed_behind z w (Submit g op) s all = behind_of w all
+changed_behind : (z : WorldSettings) (w : World) (e : Event) → uses_no_list e ≡ true → Ready w → Behind z (bytes_changed z w e)
+changed_behind z w (Submit g op) s all = behind_of z w all
 changed_behind z w (Open k) s all = open_behind z w k _ all
-changed_behind z w (Push k slotless pick) s all = push_behind w k slotless pick all
+changed_behind z w (Push k slotless pick) s all = push_behind z w k slotless pick all
 changed_behind z w (Serve k) s all = absurd (cc)
 changed_behind z w (Take k) s all = absurd (cc)
-changed_behind z w (Cut k) s all = cut_behind w k all
+changed_behind z w (Cut k) s all = cut_behind z w k all
 changed_behind z w (Drop k) s all =
-    by_key_2 (λ j (c : Conn) (u : Wires). IsBehind u c) w.values.conns w.wires k _ _
-    (record { purse = (all k).purse; fronts = inl refl }) (λ j off. behind_of w all j)
+    by_key_2 (λ j (c : Conn) (u : Wires). IsBehind z j u c) w.values.conns w.wires k _ _
+    (record { purse = (all k).purse; fronts = inl refl }) (λ j off. behind_of z w all j)
 changed_behind z w Restart s all = λ j. record { purse = (all j).purse; fronts = inl refl }
 changed_behind z w (Crash k kept) s all = absurd (cc)
 changed_behind z w (Wait n) s all = absurd (cc)
 changed_behind z w (Finish refusal) s all = absurd (cc)
 
-happen_behind : (z : WorldSettings) (w : World) (e : Event) → Ready w → Behind (bytes_changed z w e) → Behind (bytes_happen z w (Plain e))
+happen_behind : (z : WorldSettings) (w : World) (e : Event) → Ready w → Behind z (bytes_changed z w e)
+    → Behind z (bytes_happen z w (Plain e))
 happen_behind z w e all h =
-    either Behind (is_possible w.values e) (bytes_later (bytes_changed z w e) (moments e)) w (λ _. h) (λ _. behind_of w all)
+    either (Behind z) (is_possible w.values e) (bytes_later (bytes_changed z w e) (moments e)) w (λ _. h) (λ _. behind_of z w all)
 
-same_holds : (z : WorldSettings) (r : RepeatWorld) (e : Event) → uses_no_list e ≡ true → Holds r
-    → AllPaid (same_done z r e).world × AllBear (same_done z r e).ups
+same_holds : (z : WorldSettings) (r : RepeatWorld) (e : Event) → uses_no_list e ≡ true → Holds z r
+    → AllPaid (same_done z r e).world × AllBear z (same_done z r e).ups
 same_holds z r e s h =
     let k = own_connection e in
     let w = bytes_happen z r.world (Plain e) in
     let all = ready_of r.world h.empties h.paid in
-    let b : Behind w = happen_behind z r.world e all (changed_behind z r.world e s all) in
+    let b : Behind z w = happen_behind z r.world e all (changed_behind z r.world e s all) in
     let n = (with_opening r e).openings k in (
       lists_paid w k [] [] (is_heard w k) (λ j. (b j).purse),
-      more_bear (with_opening r e).ups k n (w.wires k).up (w.values.conns k).up (b k).fronts
-          (subst AllBear (sym (opening_ups r e)) h.bear),
+      more_bear z (with_opening r e).ups k n (w.wires k).up (w.values.conns k).up (b k).fronts
+          (subst (AllBear z) (sym (opening_ups r e)) h.bear),
     )
 
 -- ---- Give up: a server's end pays nothing, and puts nothing up
@@ -139,22 +144,22 @@ served_purses z w k =
     either (λ (v : World). SamePurses w.wires v.wires) (is_possible w.values (Serve k))
     (bytes_later (bytes_changed z w (Serve k)) 1) w (λ _. serve_purses z w k (w.wires k).up (w.values.conns k).up) (λ _. λ j. refl)
 
-up_holds : (z : WorldSettings) (r : RepeatWorld) (k : ℕ) (u : UpFrame) → is_served r.world k ≡ true → Holds r
-    → AllPaid (given_up z r k u).world × AllBear (given_up z r k u).ups
+up_holds : (z : WorldSettings) (r : RepeatWorld) (k : ℕ) (u : UpFrame) → is_served r.world k ≡ true → Holds z r
+    → AllPaid (given_up z r k u).world × AllBear z (given_up z r k u).ups
 up_holds z r k u on h =
     let v = loaded_up r k u in
     let w = bytes_happen z v (Plain (Serve k)) in
     let q = serve_empties z r k u on in
     let p : AllPaid v = lists_paid r.world k (u ∷ []) [] true h.paid in (
       lists_paid w k [] [] (is_heard r.world k) (λ j. moved_paid _ _ _ _ (served_purses z v k j) (q j).0 (p j)),
-      more_bear r.ups k (r.openings k) (w.wires k).up (w.values.conns k).up (inl ((q k).1 (λ off. never_apart k _ off))) h.bear,
+      more_bear z r.ups k (r.openings k) (w.wires k).up (w.values.conns k).up (inl ((q k).1 (λ off. never_apart k _ off))) h.bear,
     )
 
 -- ---- Give down
 
-loaded_ready : (r : RepeatWorld) (k : ℕ) (d : DownFrame) → Holds r → Ready (loaded_down r k d)
+loaded_ready : (z : WorldSettings) (r : RepeatWorld) (k : ℕ) (d : DownFrame) → Holds z r → Ready (loaded_down r k d)
 unfolding sents up_frames
-loaded_ready r k d h j =
+loaded_ready z r k d h j =
     let p = lists_paid r.world k [] (d ∷ []) true h.paid in
     record {
       purse = p j;
@@ -162,61 +167,61 @@ loaded_ready r k d h j =
       values = either (λ (c : Conn). c.up ≡ []) (j == k) _ (r.world.values.conns j) (λ _. refl) (λ _. h.empties.sent j);
     }
 
-down_holds : (z : WorldSettings) (r : RepeatWorld) (k : ℕ) (d : DownFrame) → Holds r
-    → AllPaid (given_down z r k d).world × AllBear (given_down z r k d).ups
+down_holds : (z : WorldSettings) (r : RepeatWorld) (k : ℕ) (d : DownFrame) → Holds z r
+    → AllPaid (given_down z r k d).world × AllBear z (given_down z r k d).ups
 down_holds z r k d h =
     let v = loaded_down r k d in
     let w = bytes_happen z v (Plain (Take k)) in
-    let all = loaded_ready r k d h in
-    let b : Behind w = happen_behind z v (Take k) all (take_behind z v k (v.wires k).down (v.values.conns k).down all) in (
+    let all = loaded_ready z r k d h in
+    let b : Behind z w = happen_behind z v (Take k) all (take_behind z v k (v.wires k).down (v.values.conns k).down all) in (
       lists_paid w k [] [] (is_heard w k) (λ j. (b j).purse),
-      more_bear r.ups k (r.openings k) (w.wires k).up (w.values.conns k).up (b k).fronts h.bear,
+      more_bear z r.ups k (r.openings k) (w.wires k).up (w.values.conns k).up (b k).fronts h.bear,
     )
 
 -- ---- one event, and a run
 
-abbrev Rest : RepeatWorld → Type 0
-Rest r = AllPaid r.world × AllBear r.ups
+abbrev Rest : WorldSettings → RepeatWorld → Type 0
+Rest z r = AllPaid r.world × AllBear z r.ups
 
-rest_of : (r : RepeatWorld) → Holds r → Rest r
-rest_of r h = (h.paid, h.bear)
+rest_of : (z : WorldSettings) (r : RepeatWorld) → Holds z r → Rest z r
+rest_of z r h = (h.paid, h.bear)
 
-give_up_holds : (z : WorldSettings) (r : RepeatWorld) (k : ℕ) (o : Option UpFrame) → Holds r → Rest (give_up z r k o)
-give_up_holds z r k None h = rest_of r h
+give_up_holds : (z : WorldSettings) (r : RepeatWorld) (k : ℕ) (o : Option UpFrame) → Holds z r → Rest z (give_up z r k o)
+give_up_holds z r k None h = rest_of z r h
 give_up_holds z r k (Some u) h =
-    either Rest (is_served r.world k) (given_up z r k u) r (λ on. up_holds z r k u on h) (λ _. rest_of r h)
+    either (Rest z) (is_served r.world k) (given_up z r k u) r (λ on. up_holds z r k u on h) (λ _. rest_of z r h)
 
-give_down_holds : (z : WorldSettings) (r : RepeatWorld) (k : ℕ) (o : Option DownFrame) → Holds r → Rest (give_down z r k o)
-give_down_holds z r k None h = rest_of r h
+give_down_holds : (z : WorldSettings) (r : RepeatWorld) (k : ℕ) (o : Option DownFrame) → Holds z r → Rest z (give_down z r k o)
+give_down_holds z r k None h = rest_of z r h
 give_down_holds z r k (Some d) h =
-    either Rest (is_heard r.world k) (given_down z r k d) r (λ _. down_holds z r k d h) (λ _. rest_of r h)
+    either (Rest z) (is_heard r.world k) (given_down z r k d) r (λ _. down_holds z r k d h) (λ _. rest_of z r h)
 
-event_rest : (z : WorldSettings) (r : RepeatWorld) (e : RepeatEvent) → Holds r → Rest (repeat_happens z r e)
+event_rest : (z : WorldSettings) (r : RepeatWorld) (e : RepeatEvent) → Holds z r → Rest z (repeat_happens z r e)
 event_rest z r (Same e) h =
-    either Rest (uses_no_list e) (same_done z r e) r (λ s. same_holds z r e s h) (λ _. rest_of r h)
+    either (Rest z) (uses_no_list e) (same_done z r e) r (λ s. same_holds z r e s h) (λ _. rest_of z r h)
 event_rest z r (Give k true place) h = give_up_holds z r k (slice_get r.ups place) h
 event_rest z r (Give k false place) h = give_down_holds z r k (slice_get r.downs place) h
 
-pub event_holds : (z : WorldSettings) (r : RepeatWorld) (e : RepeatEvent) → Holds r → Holds (repeat_happens z r e)
+pub event_holds : (z : WorldSettings) (r : RepeatWorld) (e : RepeatEvent) → Holds z r → Holds z (repeat_happens z r e)
 event_holds z r e h =
     let q = event_rest z r e h in record { empties = event_empties z r e h.empties; paid = q.0; bear = q.1 }
 
-run_holds : (z : WorldSettings) (es : List RepeatEvent) (r : RepeatWorld) → Holds r → Holds (repeat_run z es r)
+run_holds : (z : WorldSettings) (es : List RepeatEvent) (r : RepeatWorld) → Holds z r → Holds z (repeat_run z es r)
 unfolding repeat_run
 run_holds z [] r h = h
 run_holds z (e ∷ es) r h = run_holds z es (repeat_happens z r e) (event_holds z r e h)
 
-pub start_holds : (z : WorldSettings) → Holds (repeat_start z)
+pub start_holds : (z : WorldSettings) → Holds z (repeat_start z)
 start_holds z =
     record {
       empties = start_empties z;
       paid = λ j. record { next_is = refl; room = omega arith };
-      bear = none_bear;
+      bear = none_bear z;
     }
 
 pub own_frames_bear : OwnFramesBearIds
 own_frames_bear z es i u at off =
-    bears_one u.frame u.sent.message off ((run_holds z es (repeat_start z) (start_holds z)).bear i u at)
+    bears_one z u.connection u.frame u.sent.message off ((run_holds z es (repeat_start z) (start_holds z)).bear i u at)
 
 less_alike : (a b c d : ℕ) → a ≡ c → b ≡ d → c < d → a < b
 less_alike a b c d e f l = omega (arith, e, f, l)
@@ -225,3 +230,8 @@ pub own_frames_rise : OwnFramesRise
 own_frames_rise z es i j u v l at on c o first second =
     less_alike (header_in u.frame).message (header_in v.frame).message (id_of_put u) (id_of_put v)
     (own_frames_bear z es i u at first).id_is (own_frames_bear z es j v on second).id_is (own_ids_rise z es i j u v l at on c o)
+
+pub own_requests_meant : OwnRequestsAreMeant
+own_requests_meant z es i u at off =
+    let r = bears_request z u.connection u.frame u.sent.message off ((run_holds z es (repeat_start z) (start_holds z)).bear i u at) in
+    record { connection = r.connection; fault = r.fault; id_fits = r.small; meant = r.meant }

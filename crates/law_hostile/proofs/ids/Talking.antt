@@ -9,9 +9,11 @@ use Rattle.spec_wire.specs.credits.Purse.{after_add}
 use Rattle.spec_exchange.specs.Table.{put}
 use Rattle.spec_exchange.specs.Status.{success, more_processing_required}
 use Rattle.spec_exchange.specs.Operations.{Refusal, HadStatus, BadToken, BadSignature, BadChoice}
-use Rattle.spec_exchange.specs.Client.{Stage, Apart, SaidNegotiate, SaidFirst, SaidSecond, AskedTree}
+use Rattle.spec_exchange.specs.Commands.{SetupRequest, Shows, Begins}
+use Rattle.spec_exchange.specs.Client.{Client, Stage, Apart, SaidNegotiate, SaidFirst, SaidSecond, AskedTree}
 use Rattle.spec_exchange.specs.ClientStep.{IsReady, IsRefused, ClientEvent, act}
 use Rattle.spec_exchange.specs.Dialogs.{DialogStep, GoesOn, Accepts, Binds, Readies, Refuses, dialog_step, dialog_message, went_on, accepted}
+use Rattle.spec_exchange.specs.Dialogs.{stage_command, setup_of}
 use Rattle.spec_exchange.specs.Network.{Conn, Received, ForDialog, send_up, closed_by, dialog_took, with_client}
 use Rattle.spec_world.specs.Settings.{WorldSettings}
 use Rattle.spec_world.specs.Messages.{HeardMessage}
@@ -57,20 +59,34 @@ some_held n e = grind (arith, nat_tests)
 
 -- ---- the next request of a dialog
 
-setup_behind : (a : World) (conns : ℕ → Conn) (k : ℕ) (stage : Stage) (bound : Bool) (token : List ℕ) → AllReady a.wires conns
-    → 1 ≤ (a.wires k).client_end.purse.held
-    → AllBehind (setup_sent a k stage bound token).wires
+-- what its SESSION_SETUP asks
+abbrev request_in : Client → Bool → Shows → SetupRequest
+request_in c bound shows = record {
+  readable = true;
+  binding = bound;
+  signed = bound;
+  verified = bound;
+  previous = if bound then 0 else c.accepted;
+  cipher = c.who.cipher;
+  signing = c.who.signing;
+  shows = shows;
+}
+
+setup_behind : (z : WorldSettings) (a : World) (conns : ℕ → Conn) (k : ℕ) (stage : Stage) (bound : Bool) (shows : Shows) (token : List ℕ)
+    → stage_command a.values.client stage ≡ setup_of a.values.client bound shows → AllReady a.wires conns → 1 ≤ (a.wires k).client_end.purse.held
+    → AllBehind z (setup_sent a k stage bound token).wires
     (put conns k (send_up (conns k) ForDialog (dialog_message a.values.client k (conns k).next_id stage) 1))
-setup_behind a conns k stage bound token all had =
+setup_behind z a conns k stage bound shows token command all had =
     let n = (a.wires k).client_end in
     let c = a.values.client in
     let i = (all k).purse in
     let previous = previous_of c bound in
     let frame = setup_frame n bound previous token (dialog_message c k n.purse.next stage) in
-    sent_behind a.wires conns k (noted_sent (spent n 1 ForDialog) stage frame) frame ForDialog (dialog_message c k (conns k).next_id stage) 1
+    sent_behind z a.wires conns k (noted_sent (spent n 1 ForDialog) stage frame) frame ForDialog (dialog_message c k (conns k).next_id stage) 1
     all refl (omega arith) (omega (arith, had))
-    (subst (λ id. Bears frame (dialog_message c k id stage)) i.next_is
-    (setup_bears n bound previous token (dialog_message c k n.purse.next stage) (small_id n.purse (conns k).next_id i)))
+    (subst (λ id. Bears z k frame (dialog_message c k id stage)) i.next_is
+    (setup_bears z k n (request_in c bound shows) token (dialog_message c k n.purse.next stage) refl refl command
+    (small_id n.purse (conns k).next_id i)))
 
 -- behind a response that was noted at the client's end, which has its credits
 record Noted (w : World) (k : ℕ) (h : Header) (n : ClientEnd) : Type 0 where
@@ -90,76 +106,77 @@ enough a b e l = omega (arith, e, l)
 
 first_behind : (z : WorldSettings) (w : World) (k : ℕ) (stage : Stage) (x : HeardMessage) (bound : Bool)
     → nat_lt 0 (after_add x.header.credits (w.wires k).client_end.purse).held ≡ true → Ready w
-    → AllBehind (dialog_wires z w k stage x (GoesOn (SaidFirst bound))).wires
+    → AllBehind z (dialog_wires z w k stage x (GoesOn (SaidFirst bound))).wires
     (dialog_took w.values k (dialog_reply w stage x) (GoesOn (SaidFirst bound))).conns
 first_behind z w k stage x bound on all =
     let n = (w.wires k).client_end in
     let c = went_on w.values.client k (SaidFirst bound) (dialog_reply w stage x) in
     let a = with_client_end (with_values w (with_client w.values c)) k (noted_heard n stage x) in
     let h = noted w k x.header (noted_heard n stage x) refl all in
-    setup_behind a w.values.conns k (SaidFirst bound) bound (next_token z n (SaidFirst bound) x.bytes) h.ready
+    setup_behind z a w.values.conns k (SaidFirst bound) bound Begins (next_token z n (SaidFirst bound) x.bytes) refl h.ready
     (enough _ _ h.held (some_held (after_add x.header.credits n.purse).held on))
 
 second_behind : (z : WorldSettings) (w : World) (k : ℕ) (stage : Stage) (x : HeardMessage) (bound : Bool)
     → nat_lt 0 (after_add x.header.credits (w.wires k).client_end.purse).held ≡ true → Ready w
-    → AllBehind (dialog_wires z w k stage x (GoesOn (SaidSecond bound))).wires
+    → AllBehind z (dialog_wires z w k stage x (GoesOn (SaidSecond bound))).wires
     (dialog_took w.values k (dialog_reply w stage x) (GoesOn (SaidSecond bound))).conns
 second_behind z w k stage x bound on all =
     let n = (w.wires k).client_end in
     let c = went_on w.values.client k (SaidSecond bound) (dialog_reply w stage x) in
     let a = with_client_end (with_values w (with_client w.values c)) k (noted_heard n stage x) in
     let h = noted w k x.header (noted_heard n stage x) refl all in
-    setup_behind a w.values.conns k (SaidSecond bound) bound (next_token z n (SaidSecond bound) x.bytes) h.ready
+    setup_behind z a w.values.conns k (SaidSecond bound) bound c.who.logon (next_token z n (SaidSecond bound) x.bytes) refl h.ready
     (enough _ _ h.held (some_held (after_add x.header.credits n.purse).held on))
 
 tree_behind : (z : WorldSettings) (w : World) (k : ℕ) (stage : Stage) (x : HeardMessage)
     → nat_lt 0 (after_add x.header.credits (w.wires k).client_end.purse).held ≡ true → Ready w
-    → AllBehind (dialog_wires z w k stage x Accepts).wires (dialog_took w.values k (dialog_reply w stage x) Accepts).conns
+    → AllBehind z (dialog_wires z w k stage x Accepts).wires (dialog_took w.values k (dialog_reply w stage x) Accepts).conns
 tree_behind z w k stage x on all =
     let n = (w.wires k).client_end in
     let a = session_accepted w k x in
     let h = noted w k x.header (accepted_end n x w.values.client.pending) refl all in
     let had : 1 ≤ (a.wires k).client_end.purse.held =
     enough _ _ h.held (some_held (after_add x.header.credits n.purse).held on) in
-    line_behind a w.values.conns k ForDialog (λ id. dialog_message (accepted w.values.client k) k id AskedTree) 1 h.ready (λ id. refl)
+    line_behind z a w.values.conns k ForDialog (λ id. dialog_message (accepted w.values.client k) k id AskedTree) 1 h.ready (λ id. refl)
+    (λ id. record { connection = refl; fault = refl; pays = refl })
     (omega arith) (omega (arith, had))
 
 -- ---- a dialog ends
 
-ended_behind : (w v : World) (k : ℕ) (e : ClientEvent) → SameEnds w.wires v.wires → Ready w
-    → AllBehind (closed_wires v k (act w.values.client e)).wires (closed_by w.values k (act w.values.client e)).conns
-ended_behind w v k e same all =
+ended_behind : (z : WorldSettings) (w v : World) (k : ℕ) (e : ClientEvent) → SameEnds w.wires v.wires → Ready w
+    → AllBehind z (closed_wires v k (act w.values.client e)).wires (closed_by w.values k (act w.values.client e)).conns
+ended_behind z w v k e same all =
     let a = act w.values.client e in
-    all_behind (closed_wires v k a).wires (closed_by w.values k a).conns
+    all_behind z (closed_wires v k a).wires (closed_by w.values k a).conns
     (quiet w.wires (closed_wires v k a).wires w.values.conns (closed_by w.values k a).conns
     (ends_then w.wires v.wires (closed_wires v k a).wires same (closed_ends v k a)) (closed_same w.values k a) all)
 
 binds_behind : (z : WorldSettings) (w : World) (k : ℕ) (stage : Stage) (x : HeardMessage) → Ready w
-    → AllBehind (dialog_wires z w k stage x Binds).wires (dialog_took w.values k (dialog_reply w stage x) Binds).conns
+    → AllBehind z (dialog_wires z w k stage x Binds).wires (dialog_took w.values k (dialog_reply w stage x) Binds).conns
 binds_behind z w k stage x all =
-    ended_behind w (channel_bound w k x) k (IsReady k w.values.client.session w.values.client.tree)
+    ended_behind z w (channel_bound w k x) k (IsReady k w.values.client.session w.values.client.tree)
     (ends_added w.wires k (bound_end (w.wires k).client_end x (w.numbers + 1)) x.header refl) all
 
 readies_behind : (z : WorldSettings) (w : World) (k : ℕ) (stage : Stage) (x : HeardMessage) → Ready w
-    → AllBehind (dialog_wires z w k stage x Readies).wires (dialog_took w.values k (dialog_reply w stage x) Readies).conns
+    → AllBehind z (dialog_wires z w k stage x Readies).wires (dialog_took w.values k (dialog_reply w stage x) Readies).conns
 readies_behind z w k stage x all =
     let n = (w.wires k).client_end in
     let v = with_client_end w k (record (paid_in n x.header) { stage = Apart }) in
-    ended_behind w v k (IsReady k w.values.client.pending (dialog_reply w stage x).tree_id)
+    ended_behind z w v k (IsReady k w.values.client.pending (dialog_reply w stage x).tree_id)
     (ends_added w.wires k (record (paid_in n x.header) { stage = Apart }) x.header refl) all
 
 refuses_behind : (z : WorldSettings) (w : World) (k : ℕ) (stage : Stage) (x : HeardMessage) (status : ℕ) → Ready w
-    → AllBehind (dialog_wires z w k stage x (Refuses status)).wires (dialog_took w.values k (dialog_reply w stage x) (Refuses status)).conns
+    → AllBehind z (dialog_wires z w k stage x (Refuses status)).wires (dialog_took w.values k (dialog_reply w stage x) (Refuses status)).conns
 refuses_behind z w k stage x status all =
-    ended_behind w w k (IsRefused k (HadStatus status)) (λ j. record { pay = λ n i. i; up = refl }) all
+    ended_behind z w w k (IsRefused k (HadStatus status)) (λ j. record { pay = λ n i. i; up = refl }) all
 
-off_behind : (w : World) (k : ℕ) (why : Refusal) → Ready w → Behind (dialog_off w k why)
-off_behind w k why all = ended_behind w w k (IsRefused k why) (λ j. record { pay = λ n i. i; up = refl }) all
+off_behind : (z : WorldSettings) (w : World) (k : ℕ) (why : Refusal) → Ready w → Behind z (dialog_off w k why)
+off_behind z w k why all = ended_behind z w w k (IsRefused k why) (λ j. record { pay = λ n i. i; up = refl }) all
 
 -- ---- by the stage of the dialog
 
 abbrev StepBehind : WorldSettings → World → ℕ → Stage → HeardMessage → DialogStep → Type 0
-StepBehind z w k stage x d = AllBehind (dialog_wires z w k stage x d).wires (dialog_took w.values k (dialog_reply w stage x) d).conns
+StepBehind z w k stage x d = AllBehind z (dialog_wires z w k stage x d).wires (dialog_took w.values k (dialog_reply w stage x) d).conns
 
 step_behind : (z : WorldSettings) (w : World) (k : ℕ) (x : HeardMessage) (stage : Stage)
     → ((x.header.status == status_due stage) ≡ true → pays_next (w.wires k).client_end stage x.header ≡ true) → Ready w
@@ -186,21 +203,21 @@ step_behind z w k x AskedTree p all =
 
 passed_behind : (z : WorldSettings) (w : World) (k : ℕ) (stage : Stage) (x : HeardMessage) (o : Option Refusal)
     → (o ≡ None → (x.header.status == status_due stage) ≡ true → pays_next (w.wires k).client_end stage x.header ≡ true) → Ready w
-    → Behind (dialog_passed z w k stage x o)
-passed_behind z w k stage x (Some why) p all = off_behind w k why all
+    → Behind z (dialog_passed z w k stage x o)
+passed_behind z w k stage x (Some why) p all = off_behind z w k why all
 passed_behind z w k stage x None p all = step_behind z w k x stage (λ on. p refl on) all
 
 response_behind : (z : WorldSettings) (w : World) (k : ℕ) (stage : Stage) (o : Option HeardMessage) → Ready w
-    → Behind (dialog_hears z w k stage o)
-response_behind z w k stage None all = off_behind w k BadToken all
+    → Behind z (dialog_hears z w k stage o)
+response_behind z w k stage None all = off_behind z w k BadToken all
 response_behind z w k stage (Some x) all =
     let fault = dialog_fault z.client (w.wires k).client_end stage x in
     passed_behind z w k stage x (if x.header.status == status_due stage then fault else None)
     (λ none on. pays z (w.wires k).client_end stage x (sym (ap (λ b. if b then fault else None) on) ∙ none)) all
 
 heard_behind : (z : WorldSettings) (w : World) (k : ℕ) (frame : List ℕ) (place : ℕ) (s : Stage) → Ready w
-    → Behind (hears z w k frame place s)
-heard_behind z w k frame place Apart all = line_hears_behind w k place (line_response (w.wires k).client_end frame) all
+    → Behind z (hears z w k frame place s)
+heard_behind z w k frame place Apart all = line_hears_behind z w k place (line_response (w.wires k).client_end frame) all
 heard_behind z w k frame place (SaidNegotiate bound) all =
     response_behind z w k (SaidNegotiate bound) (dialog_response (w.wires k).client_end (SaidNegotiate bound) frame) all
 heard_behind z w k frame place (SaidFirst bound) all =
@@ -211,9 +228,9 @@ heard_behind z w k frame place AskedTree all =
     response_behind z w k AskedTree (dialog_response (w.wires k).client_end AskedTree frame) all
 
 pub take_behind : (z : WorldSettings) (w : World) (k : ℕ) (bs : List (List ℕ)) (ys : List Received) → Ready w
-    → Behind (take_frame z w k bs ys)
-take_behind z w k [] ys all = behind_of w all
-take_behind z w k (b ∷ bs) [] all = behind_of w all
+    → Behind z (take_frame z w k bs ys)
+take_behind z w k [] ys all = behind_of z w all
+take_behind z w k (b ∷ bs) [] all = behind_of z w all
 take_behind z w k (b ∷ bs) (y ∷ ys) all =
     let v = behind_frame w k bs ys in
     heard_behind z v k b y.place (w.wires k).client_end.stage

@@ -2,7 +2,8 @@
 use Rattle.std.proofs.Common.{◌≡◌, ◌+◌, true, false, [], ◌∷◌, refl}
 use Rattle.spec_exchange.specs.Commands.{Aside, Logoff}
 use Rattle.spec_exchange.specs.Network.{World}
-use Rattle.law_hostile.specs.loosely.LooseRows.{ups_behind, asks_for, places_behind, downs_behind}
+use Rattle.law_hostile.proofs.acts.Faulty.{faulty_acts_not}
+use Rattle.law_hostile.specs.loosely.LooseRows.{ups_behind, acts_there, asks_badly_for, asks_for, places_behind, downs_behind}
 use Rattle.law_hostile.specs.loosely.LooseRuns.{Hears, Loses, Overtakes, without_at, overtaken_at}
 
 pub request_lost : (w : World) → ups_behind w (Loses 0 true 1) ≡ 1 ∷ 3 ∷ []
@@ -26,6 +27,15 @@ one_heard w = refl
 
 pub none_moved : (w : World) → ups_behind w (Hears (asks_for (Aside 0) 4)) ≡ 1 ∷ 2 ∷ 3 ∷ []
 none_moved w = refl
+
+pub none_answered : (w : World) → downs_behind w (Hears (asks_for (Aside 0) 4)) ≡ 1 ∷ 2 ∷ 3 ∷ []
+none_answered w = refl
+
+pub badly_heard : (w : World) → places_behind w (Hears (asks_badly_for Logoff 4)) ≡ w.log.places + 1
+badly_heard w = refl
+
+pub badly_denied : (w : World) → acts_there w (Hears (asks_badly_for Logoff 4)) 4 ≡ false
+badly_denied w = faulty_acts_not w.server w.moment (asks_badly_for Logoff 4).message refl
 
 pub none_heard : (w : World) → places_behind w (Hears (asks_for Logoff 4)) ≡ w.log.places
 none_heard w = refl

@@ -236,7 +236,7 @@ text_told z r k u x on none ok plain i m h =
 
 -- ---- the server's entries
 
-said_message : (t : Watched) (k : ℕ) (s : Server) (f : ServerEnd) (r : SaidReply) (m : List ℕ) (p : Progress)
+pub said_message : (t : Watched) (k : ℕ) (s : Server) (f : ServerEnd) (r : SaidReply) (m : List ℕ) (p : Progress)
     → (entry_by t k s f r m p).message ≡ m
 said_message t k s f r m (Final binding channel encrypts) = refl
 said_message t k s f r m (Interim binding) = refl

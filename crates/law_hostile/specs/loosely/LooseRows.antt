@@ -1,9 +1,9 @@
 -- A world in which three requests wait on a connection, and three replies: what the events between those of the model leave of them.
-use Rattle.std.specs.Prelude.{ℕ, List, [], ◌∷◌, false, map, None}
+use Rattle.std.specs.Prelude.{ℕ, Bool, List, [], ◌∷◌, false, map, Some, None}
 use Rattle.spec_exchange.specs.Commands.{Command, Aside}
 use Rattle.spec_exchange.specs.State.{Empty}
 use Rattle.spec_exchange.specs.Network.{World, Sent, Received, ForOp, op_of}
-use Rattle.law_hostile.specs.loosely.LooseRuns.{LooseEvent, loose_happens}
+use Rattle.law_hostile.specs.loosely.LooseRuns.{LooseEvent, loose_happens, loose_acts_now}
 
 -- a request of operation g
 abbrev pub asks_for : Command → ℕ → Sent
@@ -21,6 +21,11 @@ asks_for command g = record {
     command = command;
   };
 }
+
+-- that isn't signed as owed
+abbrev pub asks_badly_for : Command → ℕ → Sent
+asks_badly_for command g =
+    record (asks_for command g) { message = record (asks_for command g).message { fault = Some 0xc000_0022 } }
 
 abbrev pub replies_to : ℕ → Received
 replies_to g = record { token = ForOp g; reply = record { status = 0; session_id = 0; tree_id = 0; body = Empty }; place = g }
@@ -44,3 +49,7 @@ downs_behind w e = map (λ y. op_of y.token) ((loose_happens (waiting w) e).conn
 -- how many messages the server took until then
 abbrev pub places_behind : World → LooseEvent → ℕ
 places_behind w e = (loose_happens (waiting w) e).log.places
+
+-- whether an operation acts in it
+abbrev pub acts_there : World → LooseEvent → ℕ → Bool
+acts_there w e g = loose_acts_now (waiting w) e g

@@ -1,4 +1,5 @@
 use Rattle.examples_world.proofs.repeats.Secrets.{session_final, binding_final, session_line, binding_line, session_interim, binding_interim}
+use Rattle.examples_world.proofs.repeats.Secrets.{binding_refused}
 use Rattle.examples_world.proofs.repeats.server_secrets_example.Goals as goal
 
 pub returns : goal.returns
@@ -8,5 +9,6 @@ returns c = record {
   first_line = session_line;
   bound_line = binding_line;
   interim = session_interim;
+  refused = binding_refused;
   session = binding_interim;
 }

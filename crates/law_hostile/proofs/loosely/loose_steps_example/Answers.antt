@@ -1,4 +1,5 @@
 use Rattle.law_hostile.proofs.loosely.Rows.{request_lost, reply_lost, request_ahead, reply_ahead, one_heard, none_moved, none_heard}
+use Rattle.law_hostile.proofs.loosely.Rows.{none_answered, badly_heard, badly_denied}
 use Rattle.law_hostile.proofs.loosely.loose_steps_example.Goals as goal
 
 pub returns : goal.returns
@@ -9,5 +10,8 @@ returns c = record {
   reply_ahead = reply_ahead;
   heard = one_heard;
   unmoved = none_moved;
+  unanswered = none_answered;
   refused = none_heard;
+  faulty = badly_heard;
+  denied = badly_denied;
 }
