@@ -1,0 +1,7 @@
+mod Counting
+mod Lists
+mod Trying
+mod Beginning
+mod Coming
+mod Turning
+mod Running

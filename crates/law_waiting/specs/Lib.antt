@@ -1,0 +1,4 @@
+pub mod held
+pub mod wait_steps
+pub mod wait_runs
+pub mod examples

@@ -1,0 +1,15 @@
+//! Which LOCK waits.
+
+ghost use Rattle.std.specs.Prelude.{◌≡◌, ℕ, [], ◌∷◌, true, Some, is_some};
+ghost use Rattle.spec_exchange.specs.Commands.{Element, Lock};
+ghost use Rattle.spec_exchange.specs.Check.{check};
+ghost use Rattle.spec_exchange.specs.State.{Message, Range, Server};
+ghost use Rattle.law_waiting.specs.held.Held.{IsHeldUp, is_not_granted, may_wait, would_wait};
+
+/// A LOCK that would wait asks for one range, and one that stands on its open's file conflicts with it (`held`). Where the checks
+/// come to LOCK_NOT_GRANTED for a LOCK of one element, which may wait, it would wait (`found`; MS-SMB2 3.3.5.14).
+pub fn held_law()
+    ensures held { (s : Server) (m : Message) (r : Range) → would_wait s m ≡ Some r → IsHeldUp s m }
+    ensures found { (s : Server) (m : Message) (o index number : ℕ) (e : Element) → m.command ≡ Lock o index number (e ∷ [])
+        → may_wait e.flags ≡ true → is_not_granted (check s m) ≡ true → is_some (would_wait s m) ≡ true }
+{}
