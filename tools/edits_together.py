@@ -29,7 +29,7 @@ CONSTANT = re.compile(r"const (\w+)\b.*;")
 # what the prover says of a function that it admits, given the contracts of those that it calls
 ADMITTED = ("proved", "no holes", "depends on a hole")
 # an error that comes of a name which the edit took away, and tells nothing of a contract
-NAMES = re.compile(r"has no field|\(nearest: |is not in scope|has no `|was not admitted|is no name|: module `|a dot is part of a qualified name")
+NAMES = re.compile(r"^record `|has no field|\(nearest: |is not in scope|has no `|was not admitted|is no name|: module `|a dot |is already ")
 # what is said of a refused edit, from the strongest to what shows nothing
 REFUSED, BY_SEARCH, BY_NAME, ADMITS = "refused", "refused by search alone", "refused by a name alone", "NOT REFUSED"
 
