@@ -1,5 +1,5 @@
 #!/usr/bin/env python3
-"""Lets each allocation of the program fail in turn: tools/fail-program.py PROGRAM [drill] [serve]
+"""Lets each allocation of the program fail in turn: tools/fail-program.py PROGRAM [drill] [serve] [run] [served]
 
 PROGRAM is the built `smb311`. A library that is loaded in front of the C library answers the Nth call of malloc with no memory.
 
@@ -11,8 +11,14 @@ file in turns on both, and asks anew where it is told NO_MEMORY. The server has 
 is answered as with memory, or with NO_MEMORY, or its connection ends, and the server prints that it ended as `memory`. What was
 acknowledged has to stand for a server that is begun in the same folder with memory.
 
-It prints how often each came about, and each run that is wrong. The status is 0 where there is none. It needs a C compiler (`cc`) and,
-for serve, the package `cryptography`; it takes some minutes, and proves nothing."""
+run: the client of two channels writes, reads and closes a file at a server with memory. It has to end with 0 and print what one with
+memory prints, or with 8 and print nothing, or with 11 and tell of each operation the same, that it is unknown, or that its open is gone.
+
+served: the same, and the server's allocations fail. The server has to end as in serve, and the client with 0, 8, 11 or as one whose
+operations may also be refused for want of memory. After both, what the client was told stands for a server with memory.
+
+It prints how often each came about, and each run that is wrong. The status is 0 where there is none. It needs a C compiler (`cc`) and, but
+for drill, the package `cryptography`; it takes some minutes, and proves nothing."""
 import collections
 import os
 import subprocess
@@ -30,6 +36,10 @@ SCRIPTS = {
 }
 NO_MEMORY = 0xC0000017
 HELLO, NAME, SECONDS = b"hello", "a.txt", 30
+# Behind the default two channels, and what a client with memory prints.
+FILE = "op create a.txt rw - create plain\nop write 1 0 68656c6c6f\nop read 1 0 16\nop close 1\n"
+TOLD = "1 ok created\n2 ok 5\n3 ok 68656c6c6f\n4 ok\norder 1 2 3\nfile a.txt 5 68656c6c6f\n"
+NO_MEMORY_WORD, END_OF_FILE = "refused c0000017", "3 refused c0000011"
 
 
 class Tally:
@@ -40,6 +50,8 @@ class Tally:
 
     def told(self, name, calls):
         print(f"{name}: {calls} allocations")
+        if not calls:
+            self.wrong.append("none was counted")
         for what, times in self.found.most_common():
             print(f"{times:6d} {what}")
         for what in self.wrong:
@@ -78,11 +90,11 @@ def drill(program, library):
 
 
 class Served:
-    """A server of so many connections in a folder, and what it came to."""
+    """A server of so many connections in a folder, None for one that goes on, and what it came to."""
 
     def __init__(self, program, folder, count, library=None, number=0):
         self.port = free_port()
-        words = [program, "serve", f"127.0.0.1:{self.port}", str(count), "info"]
+        words = [program, "serve", f"127.0.0.1:{self.port}"] + ([] if count is None else [str(count), "info"])
         pipes = {"stdin": subprocess.DEVNULL, "stdout": subprocess.PIPE, "stderr": subprocess.PIPE}
         self.process = subprocess.Popen(words, cwd=folder, env=failing(library, number), **pipes)
 
@@ -105,6 +117,15 @@ class Served:
             printed, said = self.process.communicate()
             return "no end", printed.decode(), calls_in(said)
         return self.process.returncode, printed.decode(), calls_in(said)
+
+    def stopped(self):
+        """Its status and how often it allocated; one that goes on is ended, and has the status 0."""
+        if self.process.poll() is None:
+            self.process.kill()
+            self.process.communicate()
+            return 0, 0
+        status, _, calls = self.ended()
+        return status, calls
 
 
 class Lost(Exception):
@@ -220,15 +241,114 @@ def serve(program, library):
     return tally.told("serve, two connections and a file", calls)
 
 
+# ---- run
+
+
+def asked(program, port, library=None, number=0):
+    """The status of a client of two channels, what it printed, and how often it allocated."""
+    words, env = [program, "run", f"127.0.0.1:{port}"], failing(library, number)
+    try:
+        ran = subprocess.run(words, input=FILE.encode(), capture_output=True, env=env, timeout=SECONDS)
+    except subprocess.TimeoutExpired as late:
+        return "no end", (late.stdout or b"").decode(), calls_in(late.stderr or b"")
+    return ran.returncode, ran.stdout.decode(), calls_in(ran.stderr)
+
+
+def tells(line, due, refused):
+    """Whether a line of outcomes may stand in another's place: the same, unknown, without an open, and where it may be, refused for want of
+    memory."""
+    if line == due:
+        return True
+    words = line.split()
+    may_be = words[1:2] in (["unknown"], ["noopen"]) or refused and words[1:] == ["refused", "c0000017"]
+    return words[:1] == due.split()[:1] and may_be
+
+
+def is_told(status, printed, refused):
+    """Whether a client may end so."""
+    if status == 8:
+        return not printed
+    lines = [line for line in printed.split("\n") if not line.startswith("dialog ")]
+    if (status, "\n".join(lines)) == (0, TOLD):
+        return True
+    dues = TOLD.split("\n")[:4]
+    # The file is empty where the write didn't act.
+    if len(lines) >= 4 and lines[1] != dues[1] and lines[2] == END_OF_FILE:
+        dues[2] = END_OF_FILE
+    right = len(lines) >= 4 and all(tells(line, due, refused) for line, due in zip(lines, dues))
+    return right and status == (11 if any(" unknown" in line for line in lines) else 0) and (status == 11 or refused)
+
+
+def keeps(program, folder, printed):
+    """Whether a server with memory has in that folder what the client was told."""
+    server = Served(program, folder, 1)
+    assert server.listens(), "no server begins there again"
+    client = logged_on(server.port, "user", "Password")
+    content = client.whole(NAME)
+    client.close()
+    if "2 ok 5" in printed:
+        due = {HELLO}
+    elif "1 ok" in printed:
+        due = {b""} if "2 refused" in printed else {HELLO, b""}
+    else:
+        due = {HELLO, b"", None}
+    return server.ended()[0] == 0 and content in due
+
+
+def ran_once(program, folder, library, number, at_server):
+    """What a run comes to in which one call of one of both programs fails, whether that is right, and how often that one allocated."""
+    # One that counts its connections tells how often it allocates; else a channel may need one connection more.
+    server = Served(program, folder, None if number else 2, library if at_server else None, number)
+    if not server.listens():
+        status, printed, calls = server.ended()
+        return f"{status}, before it listens", status == 8 and not printed, calls
+    status, printed, calls = asked(program, server.port, None if at_server else library, number)
+    served, counted = server.stopped() if number else server.ended()[::2]
+    what = f"the client {status}" + (f", the server {served}" if at_server or served else "")
+    if NO_MEMORY_WORD in printed:
+        what += ", an operation refused for want of memory"
+    right = served in (0, 8) if at_server else served == 0
+    right = right and is_told(status, printed, at_server) and keeps(program, folder, printed)
+    return what if right else f"{what}: {printed!r}", right, counted if at_server else calls
+
+
+def each_of(program, library, at_server):
+    tally, number, calls = Tally(), 0, 1
+    while number <= calls:
+        with tempfile.TemporaryDirectory() as folder:
+            try:
+                what, right, count = ran_once(program, folder, library, number, at_server)
+            except (AssertionError, Refused, Wrong, Closed, TimeoutError) as error:
+                what, right, count = f"{type(error).__name__}: {error}", False, 0
+        if number == 0:
+            assert right, what
+            calls = count
+        elif right:
+            tally.found[what] += 1
+        else:
+            tally.wrong.append(f"call {number}: {what}")
+        number += 1
+    return tally.told("served, a client of two channels" if at_server else "run, two channels and a file", calls)
+
+
+def run(program, library):
+    return each_of(program, library, False)
+
+
+def served(program, library):
+    return each_of(program, library, True)
+
+
 def main(words):
-    names = words[1:] or ["drill", "serve"]
-    if not words or words[0].startswith("-") or not set(names) <= {"drill", "serve"}:
+    ways = {"drill": drill, "serve": serve, "run": run, "served": served}
+    names = words[1:] or list(ways)
+    if not words or words[0].startswith("-") or not set(names) <= set(ways):
         sys.exit(__doc__)
     program, wrong = os.path.abspath(words[0]), 0
     with tempfile.TemporaryDirectory() as folder:
         library = library_in(folder)
         for name in names:
-            wrong += {"drill": drill, "serve": serve}[name](program, library)
+            wrong += ways[name](program, library)
     return 1 if wrong else 0
 
 

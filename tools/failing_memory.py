@@ -10,6 +10,7 @@ FAILING = """
 #include <errno.h>
 #include <stdio.h>
 #include <stdlib.h>
+#include <unistd.h>
 static long calls, failing, last;
 __attribute__((constructor)) static void ask(void) {
     failing = getenv("FAILING") ? atol(getenv("FAILING")) : 0;
@@ -25,6 +26,8 @@ void *realloc(void *p, size_t n) { NEXT(realloc); return fails() ? 0 : next(p, n
 void *aligned_alloc(size_t a, size_t n) { NEXT(aligned_alloc); return fails() ? 0 : next(a, n); }
 int posix_memalign(void **p, size_t a, size_t n) { NEXT(posix_memalign); return fails() ? ENOMEM : next(p, a, n); }
 __attribute__((destructor)) static void tell(void) { if (getenv("FAILING")) fprintf(stderr, "calls %ld\\n", calls); }
+/* A process that ends so runs no destructor. */
+void _exit(int status) { NEXT(_exit); tell(); next(status); __builtin_unreachable(); }
 """
 
 
