@@ -8,3 +8,5 @@ mod calls;
 mod channels;
 #[cfg(test)]
 mod commands;
+#[cfg(test)]
+mod devices;

@@ -10,11 +10,11 @@ use test_peer::{Client, Fresh, plain_config};
 use wire_bytes::Bytes;
 
 /// FILE_CREATE and FILE_OPEN (MS-SMB2 2.2.13)
-const CREATE: u32 = 2;
+pub(crate) const CREATE: u32 = 2;
 
-const OPEN: u32 = 1;
+pub(crate) const OPEN: u32 = 1;
 
-fn logged_on<N: Net>(alloc: Global, net: &mut N) -> Option<Client<N::L>> {
+pub(crate) fn logged_on<N: Net>(alloc: Global, net: &mut N) -> Option<Client<N::L>> {
     let link = net.connect(AT).ok()?;
     let config = plain_config(alloc).ok()?;
     let fresh = Fresh {
@@ -73,7 +73,7 @@ fn while_one_reads<W: Wait + Threads + Sync>(
     ))
 }
 
-fn while_one_creates<W: Wait + Threads + Sync>(
+pub(crate) fn while_one_creates<W: Wait + Threads + Sync>(
     rt: &W,
     alloc: Global,
     disk: MemDisk,
@@ -113,20 +113,5 @@ fn a_file_outlives_its_server(rt: HostRuntime) -> Result<(), Fail> {
     let (served, bytes) = while_one_reads(&rt, alloc, disk)?;
     is_done(&rt, &served?);
     assert_eq!(rt; bytes.ok_or("no bytes")?.as_slice(), b"ab".as_slice());
-    Ok(())
-}
-
-// The start makes twelve calls on an empty disk; the third one behind these opens the gate of the create's records.
-#[test]
-fn a_create_that_the_disk_fails_is_not_answered(rt: HostRuntime) -> Result<(), Fail> {
-    let alloc = rt.alloc();
-    let mut failing = vec![in alloc; 0; 15]?;
-    failing[14] = 1;
-    let disk = MemDisk::new(alloc, Bytes::new(alloc), Bytes::from_vec(failing))?;
-    let (served, created) = while_one_creates(&rt, alloc, disk)?;
-    assert_eq!(rt; created, Some(false));
-    let served = served?;
-    assert_eq!(rt; served.ending, Ending::DiskFailed);
-    assert_eq!(rt; served.sink.bytes(), b"".as_slice());
     Ok(())
 }
