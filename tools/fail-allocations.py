@@ -117,7 +117,8 @@ def tried(program, library, head, events):
     print("%d events, %d allocations" % (len(events), count))
     for what, times in found.most_common():
         print("%4d %s" % (times, what))
-    return wrong + (len(due) != len(events))
+    # A run in which nothing was counted shows nothing.
+    return wrong + (len(due) != len(events)) + (count == 0)
 
 
 def main(program):
