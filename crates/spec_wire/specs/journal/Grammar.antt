@@ -1,7 +1,7 @@
--- Which bytes stand for which bodies. A journal is a magic, then for each body an open gate, the body's
--- length in four bytes and the body, and behind the last one a closed gate and any bytes.
-use Rattle.std.specs.Prelude.{◌≡◌, ◌≢◌, ◌⊎◌, ℕ, ◌+◌, ◌^◌, ◌<◌, ◌≤◌, List, [], ◌∷◌, ◌++◌, length, take, get_or}
-use Rattle.spec_wire.specs.messages.Places.{le, number_of}
+-- The parts of a journal: a magic, then for each body an open gate, the body's length in four bytes and the
+-- body, and behind the last one a closed gate and any bytes.
+use Rattle.std.specs.Prelude.{◌≢◌, ℕ, ◌^◌, ◌<◌, List, [], ◌∷◌, ◌++◌, length}
+use Rattle.spec_wire.specs.messages.Places.{le}
 
 -- the magic at the front: `smb311j1`
 abbrev pub magic : List ℕ
@@ -28,34 +28,3 @@ front bodies = magic ++ opened bodies
 abbrev pub AllFit : List (List ℕ) → Type 0
 AllFit [] = Unit {0}
 AllFit (body ∷ bodies) = (length body < 2 ^ 32) × AllFit bodies
-
--- these bodies, a closed gate and any bytes
-pub record JournalHolds (bytes : List ℕ) (bodies : List (List ℕ)) : Type 0 where
-  pub gate : ℕ
-  pub rest : List ℕ
-  pub spelled : bytes ≡ front bodies ++ gate ∷ rest
-  pub closed : IsClosed gate
-  pub fit : AllFit bodies
-
--- What bytes stand for. At most 9 bytes stand for no bodies, whatever they are.
-abbrev pub StandsFor : List ℕ → List (List ℕ) → Type 0
-StandsFor bytes bodies = ((length bytes ≤ 9) × (bodies ≡ [])) ⊎ JournalHolds bytes bodies
-
--- This byte is the first that isn't the mark's.
-pub record DiffersAt (bytes : List ℕ) (at : ℕ) : Type 0 where
-  pub within : at < 8
-  pub same : take at bytes ≡ take at magic
-  pub other : get_or bytes at 0 ≢ get_or magic at 0
-
--- Behind these bodies stands an open gate, and the bytes end before the gate that its entry wants behind it.
-pub record EndsEarlyAt (bytes : List ℕ) (at : ℕ) : Type 0 where
-  pub bodies : List (List ℕ)
-  pub rest : List ℕ
-  pub spelled : bytes ≡ front bodies ++ 1 ∷ rest
-  pub place : at ≡ length (front bodies)
-  pub early : length rest ≤ 4 + number_of (take 4 rest)
-  pub fit : AllFit bodies
-
--- Where bytes break the grammar: the first byte that isn't the mark's, or the open gate whose entry doesn't fit.
-abbrev pub BreaksAt : List ℕ → ℕ → Type 0
-BreaksAt bytes at = (9 < length bytes) × (DiffersAt bytes at ⊎ EndsEarlyAt bytes at)
