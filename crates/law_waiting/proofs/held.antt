@@ -1,2 +1,3 @@
 pub mod Conflicting
-mod Finding
+pub mod Finding
+mod Equally

@@ -4,6 +4,8 @@ ghost use Rattle.std.specs.Prelude.{◌≡◌, [], ◌∷◌, false, true, None,
 ghost use Rattle.spec_exchange.specs.Commands.{Close, Lock, Logoff};
 ghost use Rattle.spec_exchange.specs.State.{End, Stop};
 ghost use Rattle.law_waiting.specs.wait_steps.WaitStep.{ByAsyncId, ByMessageId, DiskFault, Fails, Lacks, NoMemory, Serves, Stopped, wait_step};
+ghost use Rattle.law_waiting.specs.out_steps.OutStep.{Answers, Ended, Goes, Kept, Last, Pending, Plain, Waits};
+ghost use Rattle.law_waiting.specs.examples.Outs.{response_later, lucky, replied_after, unlucky_out, written_after};
 ghost use Rattle.law_waiting.specs.examples.Waiters.{Breaks, Hears, asks, at_once, cancels, full, lock, lock_by, locks_ten, seen_after, seen_in};
 ghost use Rattle.law_waiting.specs.examples.Waiters.{sends, no_ids_left, response, plain_turn, unlocked, unlocks_ten, unlucky, wants_ten};
 
@@ -101,4 +103,20 @@ pub fn mishap_example()
     ensures stopped { seen_after (locks_ten ∷ wants_ten ∷ unlucky (None ∷ Some (Fails unlocked 3) ∷ []) unlocks_ten ∷ [])
         (cancels 2 (ByAsyncId 1)) ≡ Breaks (Stopped 3) 1 true }
     ensures lacking { seen_after (locks_ten ∷ []) (record wants_ten { lacks = true }) ≡ Breaks NoMemory 0 true }
+{}
+
+/// An interim response goes out when its LOCK waits, the final one behind it. A final one that comes first is kept, and goes out behind
+/// its interim one. Behind an end nothing goes out.
+#[tactic(auto, unfolding(crate::specs::examples::Outs::computed_out))]
+pub fn out_example()
+    ensures in_order { written_after (lucky (Waits 3 (response_later 1 0x103)) ∷ lucky (Answers 4 9) ∷ lucky (Goes (response_later 1 0)) ∷ [])
+        ≡ Pending 1 (1 ∷ 0x103 ∷ []) ∷ Plain (9 ∷ []) ∷ Last 1 (1 ∷ 0 ∷ []) ∷ [] }
+    ensures kept { replied_after [] (lucky (Goes (response_later 1 0))) ≡ Kept }
+    ensures behind { written_after (lucky (Goes (response_later 1 0)) ∷ lucky (Answers 4 9) ∷ lucky (Waits 3 (response_later 1 0x103)) ∷ [])
+        ≡ Plain (9 ∷ []) ∷ Pending 1 (1 ∷ 0x103 ∷ []) ∷ Last 1 (1 ∷ 0 ∷ []) ∷ [] }
+    ensures once { written_after (lucky (Waits 3 (response_later 1 0x103)) ∷ lucky (Goes (response_later 1 0)) ∷ lucky (Goes (response_later 1 0)) ∷ [])
+        ≡ Pending 1 (1 ∷ 0x103 ∷ []) ∷ Last 1 (1 ∷ 0 ∷ []) ∷ [] }
+    ensures failed { replied_after [] (unlucky_out 0 (Waits 3 (response_later 1 0x103))) ≡ Ended 4 }
+    ensures ended { replied_after (unlucky_out 1 (Answers 4 9) ∷ []) (lucky (Goes (response_later 1 0))) ≡ Ended 4 }
+    ensures nothing { written_after (unlucky_out 1 (Answers 4 9) ∷ lucky (Answers 4 9) ∷ []) ≡ Plain (9 ∷ []) ∷ [] }
 {}

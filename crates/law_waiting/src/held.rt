@@ -4,6 +4,7 @@ ghost use Rattle.std.specs.Prelude.{◌≡◌, ℕ, [], ◌∷◌, true, Some, i
 ghost use Rattle.spec_exchange.specs.Commands.{Element, Lock};
 ghost use Rattle.spec_exchange.specs.Check.{check};
 ghost use Rattle.spec_exchange.specs.State.{Message, Range, Server};
+ghost use Rattle.law_waiting.specs.held.Exactly.{WaitsExactly};
 ghost use Rattle.law_waiting.specs.held.Held.{IsHeldUp, is_not_granted, may_wait, would_wait};
 
 /// A LOCK that would wait asks for one range, and one that stands on its open's file conflicts with it (`held`). Where the checks
@@ -12,4 +13,6 @@ pub fn held_law()
     ensures held { (s : Server) (m : Message) (r : Range) → would_wait s m ≡ Some r → IsHeldUp s m }
     ensures found { (s : Server) (m : Message) (o index number : ℕ) (e : Element) → m.command ≡ Lock o index number (e ∷ [])
         → may_wait e.flags ≡ true → is_not_granted (check s m) ≡ true → is_some (would_wait s m) ≡ true }
+    ensures exact { (s : Server) (m : Message) (o index number : ℕ) (e : Element) → m.command ≡ Lock o index number (e ∷ [])
+        → may_wait e.flags ≡ true → WaitsExactly s m o index number e }
 {}

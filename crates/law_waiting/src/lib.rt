@@ -4,7 +4,9 @@
 
 pub mod examples;
 pub mod held;
+mod out_steps;
 pub mod wait_runs;
 
 pub use held::held_law;
+pub use out_steps::order_law;
 pub use wait_runs::{each_turn_law, waiting_law};

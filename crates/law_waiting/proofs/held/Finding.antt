@@ -29,7 +29,7 @@ of_form : (s : Server) (m : Message) (o : Option ℕ) → is_not_granted (formed
 of_form s m None h = h
 of_form s m (Some n) h = absurd (cc)
 
-abbrev lock_of : ℕ → ℕ → ℕ → Element → Command
+abbrev pub lock_of : ℕ → ℕ → ℕ → Element → Command
 lock_of o index number e = Lock o index number (e ∷ [])
 
 of_command : (s : Server) (m : Message) (c : Command) (o index number : ℕ) (e : Element) → c ≡ lock_of o index number e
@@ -61,7 +61,7 @@ turned : (b : Bool) (o index number status : ℕ) (es : List Element)
 turned true o index number status es h = h
 turned false o index number status es h = h
 
-abbrev not_granted_by : RangeAnswer → Bool
+abbrev pub not_granted_by : RangeAnswer → Bool
 not_granted_by (Denied status) = status == lock_not_granted
 not_granted_by (Stands ranges) = false
 
@@ -90,7 +90,7 @@ unfolding lock_ranges add_ranges
 lock_denied rs o w h =
     denied_by (nat_lt max_ranges (count_owned o rs + length (w ∷ []))) (any_wraps (w ∷ [])) (is_denied rs w) (rs ++ w ∷ []) h
 
-locks_by : (flags : ℕ) → may_wait flags ≡ true → locks flags ≡ true
+pub locks_by : (flags : ℕ) → may_wait flags ≡ true → locks flags ≡ true
 locks_by flags h = two (flags == 0x1) (flags == 0x2) ((flags == 0x11) || (flags == 0x12)) h
   where
     two : (a b c : Bool) → (a || b) ≡ true → (a || (b || c)) ≡ true
@@ -115,7 +115,7 @@ found_by : (b : Bool) (r : Range) (rs : List Range) (w : Range) → (is_denied r
 found_by true r rs w rest h = refl
 found_by false r rs w rest h = rest h
 
-found : (rs : List Range) (w : Range) → is_denied rs w ≡ true → is_some (first_in_the_way rs w) ≡ true
+pub found : (rs : List Range) (w : Range) → is_denied rs w ≡ true → is_some (first_in_the_way rs w) ≡ true
 unfolding is_denied first_in_the_way
 found [] w h = absurd (cc)
 found (r ∷ rs) w h = found_by (ranges_conflict r w) r rs w (found rs w) h

@@ -1,0 +1,2 @@
+pub mod OutStep
+pub mod OutRuns
