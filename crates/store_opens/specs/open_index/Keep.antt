@@ -45,6 +45,10 @@ abbrev pub lists_plain : Option SessionOpens → ℕ → Bool
 lists_plain None o = false
 lists_plain (Some r) o = contains nat_cmp r.plain o
 
+-- the open is in neither
+abbrev pub IsNotListed : Option SessionOpens → ℕ → Type 0
+IsNotListed r o = (keep_lists r o ≡ false) × (lists_plain r o ≡ false)
+
 -- the guid's close has its place there
 abbrev pub keep_names : Option SessionOpens → ℕ → Bool
 keep_names None g = false

@@ -1,5 +1,5 @@
 -- The table behind an open that leaves.
-use Rattle.std.specs.Prelude.{◌≡◌, ℕ, ◌+◌, ◌==◌, nat_eq, true, false, if◌then◌else◌, List, ◌∷◌, Some, None}
+use Rattle.std.specs.Prelude.{◌≡◌, ℕ, ◌+◌, ◌==◌, nat_eq, true, false, if◌then◌else◌, List, ◌∷◌, Some, None, IfSome}
 use Rattle.std.specs.HashMap.{get, hash_map_len}
 use Rattle.spec_exchange.specs.State as model
 use Rattle.spec_exchange.specs.Opens.{with_guid}
@@ -7,6 +7,7 @@ use Rattle.spec_exchange.specs.Ranges.{without_owner}
 use Rattle.store_opens.specs.declared.share_modes.lists.Open.{Open}
 use Rattle.store_opens.specs.open_index.Held.{HeldShown, sharing_of}
 use Rattle.store_opens.specs.open_index.Index.{indexes}
+use Rattle.store_opens.specs.open_index.Keep.{IsNotListed}
 use Rattle.store_opens.specs.declared.open_table.row.Row.{Row}
 use Rattle.store_opens.specs.declared.open_table.table.Opens.{Opens}
 use Rattle.store_opens.specs.open_table.Rows.{open_of}
@@ -28,3 +29,11 @@ pub record Left (t u : Opens) (o : ℕ) (row : Row) : Type 0 where
   pub expired_count : u.expired_count ≡ t.expired_count
   pub whole : u.deadlines.is_whole ≡ t.deadlines.is_whole
   pub index : (q d : ℕ) → (q == o) ≡ false → indexes t.deadlines d q ≡ true → indexes u.deadlines d q ≡ true
+
+-- the index has no deadline that the row of this open told
+abbrev pub IsUndatedIn : Opens → Row → ℕ → Type 0
+IsUndatedIn t row o = (d : ℕ) → row.deadline ≡ Some d → indexes t.deadlines d o ≡ false
+
+-- nor does the session's row list it
+abbrev pub IsUnlisted : Opens → Row → ℕ → Type 0
+IsUnlisted t row o = IsUndatedIn t row o × IfSome row.session (λ x. IsNotListed (get nat_eq t.sessions x) o)

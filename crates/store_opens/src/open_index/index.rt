@@ -50,6 +50,7 @@ impl Deadlines {
         ensures others { (o d : ℕ) → (o == id) ≡ false → indexes self.old d o ≡ true → indexes self.new d o ≡ true }
         ensures whole { self.new.is_whole ≡ self.old.is_whole }
         ensures none { deadline ≡ None → self.new ≡ self.old }
+        ensures gone { (d : ℕ) → deadline ≡ Some d → indexes self.new d id ≡ false }
     {
         if let Some(deadline) = deadline {
             drop_pending(&mut self.pending, deadline, id);
@@ -123,14 +124,16 @@ fn take_first(pending: &mut BTreeSet<(u64, u64)>) -> Option<u64>
 
 // The deadline of the open isn't among those.
 fn drop_pending(pending: &mut BTreeSet<(u64, u64)>, deadline: u64, id: u64)
-    ensures { (o d : ℕ) → (o == id) ≡ false → contains pair_cmp pending.new (d, o) ≡ contains pair_cmp pending.old (d, o) }
+    ensures gone { contains pair_cmp pending.new (deadline, id) ≡ false }
+    ensures others { (o d : ℕ) → (o == id) ≡ false → contains pair_cmp pending.new (d, o) ≡ contains pair_cmp pending.old (d, o) }
 {
     let _ = pending.remove(&(deadline, id));
 }
 
 // The open isn't among those.
 fn drop_overdue(overdue: &mut BTreeSet<u64>, id: u64)
-    ensures { (o : ℕ) → (o == id) ≡ false → contains nat_cmp overdue.new o ≡ contains nat_cmp overdue.old o }
+    ensures gone { contains nat_cmp overdue.new id ≡ false }
+    ensures others { (o : ℕ) → (o == id) ≡ false → contains nat_cmp overdue.new o ≡ contains nat_cmp overdue.old o }
 {
     let _ = overdue.remove(&id);
 }

@@ -81,6 +81,7 @@ impl SessionOpens {
     pub fn unlist(&mut self, id: u64)
         ensures results { self.new.results ≡ self.old.results }
         ensures guids { self.new.guids ≡ self.old.guids }
+        ensures gone { (contains nat_cmp self.new.opens id ≡ false) × (contains nat_cmp self.new.plain id ≡ false) }
         ensures others { (o : ℕ) → (o == id) ≡ false → contains nat_cmp self.new.opens o ≡ contains nat_cmp self.old.opens o }
         ensures plain { (o : ℕ) → (o == id) ≡ false → contains nat_cmp self.new.plain o ≡ contains nat_cmp self.old.plain o }
     {
@@ -151,7 +152,8 @@ fn put_result(results: &mut HashMap<u128, KeptResult>, guid: u128, result_kept: 
 
 // The open isn't among those.
 fn unlist_open(opens: &mut BTreeSet<u64>, id: u64)
-    ensures { (o : ℕ) → (o == id) ≡ false → contains nat_cmp opens.new o ≡ contains nat_cmp opens.old o }
+    ensures gone { contains nat_cmp opens.new id ≡ false }
+    ensures others { (o : ℕ) → (o == id) ≡ false → contains nat_cmp opens.new o ≡ contains nat_cmp opens.old o }
 {
     let _ = opens.remove(&id);
 }

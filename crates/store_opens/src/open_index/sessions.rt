@@ -1,10 +1,10 @@
 //! Small steps on the rows of the sessions.
-ghost use Rattle.std.specs.Prelude.{◌≡◌, ◌<◌, ◌==◌, ℕ, Bool, Option, true, false, None, Some, OnOk, is_some};
+ghost use Rattle.std.specs.Prelude.{◌≡◌, ◌<◌, ◌==◌, ℕ, Bool, Option, true, false, None, Some, OnOk, IfSome, is_some};
 ghost use Rattle.std.specs.Prelude.{if◌then◌else◌, nat_eq};
 ghost use Rattle.std.specs.HashMap.{get, spare};
 ghost use Rattle.spec_exchange.specs.Table.{put};
 ghost use Rattle.store_opens.specs.open_index.Keep.{SessionShown, SessionsGrow, SessionsCount, ClosesGuid, RefusesGuid};
-ghost use Rattle.store_opens.specs.open_index.Keep.{SessionsUnlist, HasKeepPlace, HasPlaceIn, keep_lists, lists_plain};
+ghost use Rattle.store_opens.specs.open_index.Keep.{SessionsUnlist, IsNotListed, HasKeepPlace, HasPlaceIn, keep_lists, lists_plain};
 ghost use Rattle.store_opens.specs.open_index.Keep.{keep_names, one_more};
 ghost use Rattle.store_opens.specs.open_index.Keep.{guids_with};
 
@@ -182,7 +182,8 @@ pub fn close_guid(
 
 /// Lists an open no more in the row of the session, where there is one, that it was attached to.
 pub fn unlist_in(sessions: &mut HashMap<u64, SessionOpens>, session: Option<u64>, id: u64)
-    ensures { SessionsUnlist (λ q. get nat_eq sessions.old q) (λ q. get nat_eq sessions.new q) id }
+    ensures gone { IfSome session (λ x. IsNotListed (get nat_eq sessions.new x) id) }
+    ensures others { SessionsUnlist (λ q. get nat_eq sessions.old q) (λ q. get nat_eq sessions.new q) id }
 {
     if let Some(session) = session {
         unlist_at(sessions, session, id);
@@ -190,7 +191,8 @@ pub fn unlist_in(sessions: &mut HashMap<u64, SessionOpens>, session: Option<u64>
 }
 
 fn unlist_at(sessions: &mut HashMap<u64, SessionOpens>, session: u64, id: u64)
-    ensures { SessionsUnlist (λ q. get nat_eq sessions.old q) (λ q. get nat_eq sessions.new q) id }
+    ensures gone { IsNotListed (get nat_eq sessions.new session) id }
+    ensures others { SessionsUnlist (λ q. get nat_eq sessions.old q) (λ q. get nat_eq sessions.new q) id }
 {
     if let Some(row) = sessions.get_mut(&session) {
         row.unlist(id);

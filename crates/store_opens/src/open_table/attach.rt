@@ -1,6 +1,6 @@
 //! Room in the rows of sessions, and opens that are attached.
 ghost use Rattle.std.specs.Prelude.{◌≡◌, ◌<◌, ◌==◌, ℕ, true, false, not, ◌&&◌, if◌then◌else◌, nat_eq, None, Some};
-ghost use Rattle.std.specs.Prelude.{OnOk, MatchResult, is_some};
+ghost use Rattle.std.specs.Prelude.{OnOk, IfSome, MatchResult, is_some};
 ghost use Rattle.spec_exchange.specs.State.{Server};
 ghost use Rattle.spec_exchange.specs.Table.{is_at};
 ghost use Rattle.spec_exchange.specs.CheckCreate.{has_guid};
@@ -9,6 +9,7 @@ ghost use Rattle.spec_exchange.specs.Effects.{keep_refusal};
 ghost use Rattle.store_opens.specs.open_table.Shown.{ShowsOpens, HasOpensRoom, HasRoomIn, HasOpensSessionRoom};
 ghost use Rattle.store_opens.specs.open_table.Shown.{HasPlainPlace, HasResultRoom, next_of};
 ghost use Rattle.store_opens.specs.open_table.Rows.{attached_row, guid_at};
+ghost use Rattle.store_opens.specs.open_table.Left.{IsUndatedIn};
 ghost use Rattle.store_opens.specs.open_table.Changes.{row_refusal, attach_refusal, attached_to, attached_if, OpenTells};
 ghost use Rattle.std.specs.HashMap.{get, hash_map_len};
 
@@ -130,7 +131,9 @@ impl Opens {
     // An open without a session becomes this one's.
     fn attach_one(&mut self, id: u64, session: u64, tree: u32, sequence: u16)
         requires { HasOpensSessionRoom self.old session id }
-        ensures { (s : Server) → ShowsOpens self.old s → s.standing id ≡ true → ShowsOpens self.new (attached_to s id session tree sequence) }
+        ensures gone { IfSome (get nat_eq self.old.rows id) (λ row. IsUndatedIn self.new row id) }
+        ensures shows { (s : Server) → ShowsOpens self.old s → s.standing id ≡ true
+            → ShowsOpens self.new (attached_to s id session tree sequence) }
     {
         let deadline = deadline_at(&self.rows, id);
         self.deadlines.forget(deadline, id);

@@ -1,5 +1,5 @@
 //! When opens without a session expire.
-ghost use Rattle.std.specs.Prelude.{◌≡◌, ◌*◌, ◌≤◌, ◌==◌, ℕ, Option, Bool, true, false, None, Some, min, if◌then◌else◌, nat_eq};
+ghost use Rattle.std.specs.Prelude.{◌≡◌, ◌*◌, ◌≤◌, ◌==◌, ℕ, [], Option, Bool, true, false, None, Some, min, if◌then◌else◌, nat_eq};
 ghost use Rattle.std.specs.HashMap.{get, hash_map_len, spare};
 ghost use Rattle.std.specs.BTreeSet.{contains, IsOrdered};
 ghost use Rattle.std.specs.List.{All};
@@ -61,6 +61,7 @@ impl Opens {
             → HasRoomIn self.new session o persistent }
         ensures rest { self.new ≡ record self.old { rows = self.new.rows; deadlines = self.new.deadlines; undated = self.new.undated } }
         ensures shown { (s : Server) → ShowsOpens self.old s → ShowsOpens self.new (with_deadlines s now) }
+        ensures none { self.new.undated.items ≡ [] }
     {
         if self.undated.is_empty() {
             return;
@@ -87,6 +88,7 @@ impl Opens {
             → HasRoomIn self.new session o persistent }
         ensures rest { self.new ≡ record self.old { rows = self.new.rows; deadlines = self.new.deadlines; undated = self.new.undated } }
         ensures shown { (s : Server) → ShowsOpens self.old s → ShowsOpens self.new (with_deadlines s now) }
+        ensures none { self.new.undated.items ≡ [] }
     {
         let mut undated = mem::replace(&mut self.undated, Vec::new(self.alloc));
         self.date_each(undated.as_slice(), now);

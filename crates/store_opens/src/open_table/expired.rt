@@ -1,11 +1,13 @@
 //! CreateGuids of opens that expired.
-ghost use Rattle.std.specs.Prelude.{◌≡◌, ◌<◌, ℕ, true, false, None, OnOk, nat_lt, if◌then◌else◌};
+ghost use Rattle.std.specs.Prelude.{◌≡◌, ◌<◌, ℕ, true, false, None, Some, OnOk, nat_lt, if◌then◌else◌};
 ghost use Rattle.spec_exchange.specs.State.{Server};
 ghost use Rattle.spec_exchange.specs.Step.{add_expired_guid, max_expired_guids};
 ghost use Rattle.std.specs.HashSet.{contains, spare};
 ghost use Rattle.spec_exchange.specs.Table.{put2};
 ghost use Rattle.store_opens.specs.open_table.Shown.{pair_eq, ShowsOpens, HasExpiredRoom};
 ghost use Rattle.store_opens.specs.open_table.Changes.{is_expired_in};
+ghost use Rattle.store_opens.specs.open_table.Left.{IsUndatedIn};
+ghost use Rattle.store_opens.specs.open_index.Index.{indexes};
 
 use crate::open_table::leave::Taken;
 use crate::open_table::table::Opens;
@@ -71,6 +73,7 @@ impl Opens {
     /// Gives up an open that was taken out when it was due: its deadline is out of the index. It takes no memory.
     pub fn give_up(&mut self, taken: Taken)
         ensures shows { (s : Server) → ShowsOpens self.old s → s.deadline taken.id ≡ None → ShowsOpens self.new s }
+        ensures gone { IsUndatedIn self.new taken.row taken.id }
         ensures rest { self.new ≡ record self.old { deadlines = self.new.deadlines } }
     {
         self.forget_at(taken.row.deadline, taken.id);
@@ -79,6 +82,7 @@ impl Opens {
     // The index has no deadline of an open that left.
     fn forget_at(&mut self, deadline: Option<u64>, id: u64)
         ensures shows { (s : Server) → ShowsOpens self.old s → s.deadline id ≡ None → ShowsOpens self.new s }
+        ensures gone { (d : ℕ) → deadline ≡ Some d → indexes self.new.deadlines d id ≡ false }
         ensures room { HasExpiredRoom self.old → HasExpiredRoom self.new }
         ensures rest { self.new ≡ record self.old { deadlines = self.new.deadlines } }
     {

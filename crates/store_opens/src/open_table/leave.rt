@@ -9,8 +9,8 @@ ghost use Rattle.store_opens.specs.open_index.Index.{indexes};
 ghost use Rattle.law_server.specs.tables.Fits.{Fits};
 ghost use Rattle.store_opens.specs.open_table.Shown.{ShowsOpens, HasOpensRoom, HasExpiredRoom};
 ghost use Rattle.store_opens.specs.open_table.Changes.{open_closed};
-ghost use Rattle.store_opens.specs.open_table.Left.{Left};
-ghost use Rattle.store_opens.specs.open_index.Keep.{ClosesGuid};
+ghost use Rattle.store_opens.specs.open_table.Left.{Left, IsUndatedIn, IsUnlisted};
+ghost use Rattle.store_opens.specs.open_index.Keep.{ClosesGuid, IsNotListed};
 ghost use Rattle.store_opens.specs.open_table.Taken.{IsTaken, TakenFor, IsUndated};
 
 use crate::open_index::{close_guid, uncount_open, unlist_in};
@@ -36,6 +36,7 @@ impl Opens {
         ensures told { (s : Server) → ShowsOpens self.old s → result ≡ s.standing id }
         ensures shows { (s : Server) → Fits s → ShowsOpens self.old s → s.standing id ≡ true → ShowsOpens self.new (open_closed s id) }
         ensures same { (s : Server) → ShowsOpens self.old s → s.standing id ≡ false → ShowsOpens self.new s }
+        ensures gone { IfSome (get nat_eq self.old.rows id) (λ row. IsUnlisted self.new row id) }
     {
         match self.take_out(id) {
             Some(row) => {
@@ -49,7 +50,8 @@ impl Opens {
 
     /// An open leaves, with its ranges. It takes no memory.
     pub fn leave(&mut self, id: u64)
-        ensures { (s : Server) → Fits s → ShowsOpens self.old s → s.standing id ≡ true → ShowsOpens self.new (drop_open s id) }
+        ensures shows { (s : Server) → Fits s → ShowsOpens self.old s → s.standing id ≡ true → ShowsOpens self.new (drop_open s id) }
+        ensures gone { IfSome (get nat_eq self.old.rows id) (λ row. IsUnlisted self.new row id) }
     {
         if let Some(row) = self.take_out(id) {
             self.unlist(row.session, id);
@@ -61,6 +63,7 @@ impl Opens {
         ensures row { result ≡ get nat_eq self.old.rows id }
         ensures left { IfSome result (λ r. Left self.old self.new id r) }
         ensures sessions { self.new.sessions ≡ self.old.sessions }
+        ensures gone { IfSome result (λ row. IsUndatedIn self.new row id) }
         ensures same { IfNone result ((s : Server) → ShowsOpens self.old s → ShowsOpens self.new s) }
     {
         let deadline = deadline_at(&self.rows, id);
@@ -78,7 +81,9 @@ impl Opens {
 
     // The row of the session that an open had lists it no more.
     fn unlist(&mut self, session: Option<u64>, id: u64)
-        ensures { (s : Server) → s.session_of_open id ≡ None → ShowsOpens self.old s → ShowsOpens self.new s }
+        ensures shows { (s : Server) → s.session_of_open id ≡ None → ShowsOpens self.old s → ShowsOpens self.new s }
+        ensures gone { IfSome session (λ x. IsNotListed (get nat_eq self.new.sessions x) id) }
+        ensures rest { self.new ≡ record self.old { sessions = self.new.sessions } }
     {
         unlist_in(&mut self.sessions, session, id);
     }

@@ -5,8 +5,8 @@ use Rattle.store_opens.proofs.open_table.Moved.{open_attached}
 use Rattle.store_opens.proofs.open_table.Same.{plain_more}
 use Rattle.store_opens.proofs.open_table.table.Opens.attach_one.Goals as goal
 
-pub returns : goal.returns
-returns c = λ s h st.
+pub returns-clause-shows : goal.returns-clause-shows
+returns-clause-shows c = λ s h st.
     let t = c.args.self.now in
     let x = c.args.session in
     let o = c.args.id in

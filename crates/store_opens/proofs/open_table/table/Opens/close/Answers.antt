@@ -8,7 +8,7 @@ returns-in-Some-clause-told c = λ s h. told_left c.args.self.now c.args.id s (S
 
 pub returns-in-Some-clause-shows : goal.returns-in-Some-clause-shows
 returns-in-Some-clause-shows c = λ s i h st.
-    c.unlist.ensures (open_closed s c.args.id) (detached_close s c.args.id)
+    c.unlist.ensures.shows (open_closed s c.args.id) (detached_close s c.args.id)
     (close_left c.args.self.now c.take_out.new.self c.shut.new.self c.args.id c.in-Some.row s c.in-Some.ensures.left
     c.in-Some.ensures.sessions c.shut.ensures.closes c.shut.ensures.rest i h st)
 
