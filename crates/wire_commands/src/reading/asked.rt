@@ -1,7 +1,8 @@
 //! What a message asks, by the number of its command.
-ghost use Rattle.std.specs.Prelude.{◌≡◌, IfOk, option_map};
+ghost use Rattle.std.specs.Prelude.{◌≡◌, true, IfOk, OnErr, option_map};
 ghost use Rattle.spec_commands.specs.CommandOf;
 ghost use Rattle.spec_commands.specs.CommandOf.{Told};
+ghost use Rattle.wire_commands.specs.reading.Lacking.{may_lack};
 ghost use Rattle.wire_commands.specs.values.Meaning;
 
 use crate::reading::charges::{paid_for, paid_list, paid_setting};
@@ -35,7 +36,8 @@ fn other_of<'a>(number: u16) -> Command<'a>
 // The command of a message that needs nothing of its connection.
 fn command_in(alloc: Global, number: u16, charge: u16, m: &[u8]) -> Result<Command<'_>, AllocError>
     requires { Meaning.IsValueOwn number }
-    ensures { (t : Told) (h : Header) → h.charge ≡ charge
+    ensures lacks { OnErr result (may_lack number charge m.now ≡ true) }
+    ensures reads { (t : Told) (h : Header) → h.charge ≡ charge
         → IfOk result (λ c. Meaning.command_of c ≡ CommandOf.named_command number t h m.now) }
 {
     match number {
@@ -66,7 +68,8 @@ pub fn request_of<'a>(
     header: &Header,
     m: &'a [u8],
 ) -> Result<Option<Request<'a>>, AllocError>
-    ensures { (t : Told) → IfOk result (λ found. CommandOf.command_of t header.now m.now ≡ option_map (Meaning.request_of t) found) }
+    ensures lacks { OnErr result (may_lack header.now.command header.now.charge m.now ≡ true) }
+    ensures reads { (t : Told) → IfOk result (λ found. CommandOf.command_of t header.now m.now ≡ option_map (Meaning.request_of t) found) }
 {
     match header.command {
         0 => Ok(Some(Request::Negotiate)),

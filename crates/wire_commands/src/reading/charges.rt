@@ -1,10 +1,11 @@
 //! What a request owes for the bytes that it moves (MS-SMB2 3.1.5.2).
-ghost use Rattle.std.specs.Prelude.{◌≡◌, ◌<◌, IfOk};
+ghost use Rattle.std.specs.Prelude.{◌≡◌, ◌<◌, true, IfOk, OnErr};
 ghost use Rattle.spec_exchange.specs.Status.{invalid_parameter};
 ghost use Rattle.spec_exchange.specs.Commands as asks;
 ghost use Rattle.spec_exchange.specs.Operations as operations;
 ghost use Rattle.spec_commands.specs.Charges as charges;
 ghost use Rattle.spec_commands.specs.CommandOf;
+ghost use Rattle.wire_commands.specs.reading.Lacking.{may_lack};
 ghost use Rattle.wire_commands.specs.values.Meaning;
 
 use crate::reading::query::list_in;
@@ -88,7 +89,8 @@ pub(crate) fn paid_for<'a>(number: u16, paid: u16, m: &[u8], command: Command<'a
 
 /// QUERY_DIRECTORY, whose pattern isn't read where it isn't paid for.
 pub(crate) fn paid_list(alloc: Global, paid: u16, m: &[u8]) -> Result<Command<'_>, AllocError>
-    ensures { IfOk result (λ c. Meaning.command_of c ≡ charges.paid_for 14 paid m.now (CommandOf.list_in m.now)) }
+    ensures lacks { OnErr result (may_lack 14 paid m.now ≡ true) }
+    ensures reads { IfOk result (λ c. Meaning.command_of c ≡ charges.paid_for 14 paid m.now (CommandOf.list_in m.now)) }
 {
     if is_undercharged(14, paid, m) {
         return Ok(unpaid());
@@ -98,7 +100,8 @@ pub(crate) fn paid_list(alloc: Global, paid: u16, m: &[u8]) -> Result<Command<'_
 
 /// SET_INFO, whose information isn't read where it isn't paid for.
 pub(crate) fn paid_setting(alloc: Global, paid: u16, m: &[u8]) -> Result<Command<'_>, AllocError>
-    ensures { IfOk result (λ c. Meaning.command_of c ≡ charges.paid_for 17 paid m.now (CommandOf.set_in m.now)) }
+    ensures lacks { OnErr result (may_lack 17 paid m.now ≡ true) }
+    ensures reads { IfOk result (λ c. Meaning.command_of c ≡ charges.paid_for 17 paid m.now (CommandOf.set_in m.now)) }
 {
     if is_undercharged(17, paid, m) {
         return Ok(unpaid());

@@ -1,8 +1,9 @@
 //! CREATE.
-ghost use Rattle.std.specs.Prelude.{◌≡◌, IfOk, None, Some, option_map};
+ghost use Rattle.std.specs.Prelude.{◌≡◌, IfOk, OnErr, None, Some, option_map};
 ghost use Rattle.spec_commands.specs.Clashes.{clash_in};
 ghost use Rattle.spec_commands.specs.CommandOf;
 ghost use Rattle.spec_commands.specs.Text.{text_in};
+ghost use Rattle.spec_wire.specs.messages.Create.{create_request_fault};
 ghost use Rattle.wire_commands.specs.values.Meaning;
 ghost use Rattle.wire_bytes.specs.file_messages.Views.{message_create_request};
 
@@ -156,7 +157,8 @@ fn create_of<'a>(
 
 #[tactic(auto, unfolding(spec_commands::specs::CommandOf::create_in), using(crate::proofs::reading::Unless::reads_or_breaks))]
 pub(crate) fn create_in(alloc: Global, m: &[u8]) -> Result<Command<'_>, AllocError>
-    ensures { IfOk result (λ c. Meaning.command_of c ≡ CommandOf.create_in m.now) }
+    ensures lacks { OnErr result (create_request_fault m.now ≡ None) }
+    ensures reads { IfOk result (λ c. Meaning.command_of c ≡ CommandOf.create_in m.now) }
 {
     match read_create_request(m) {
         Ok(v) => create_of(alloc, &v),

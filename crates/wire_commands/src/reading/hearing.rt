@@ -1,9 +1,12 @@
 //! The reply that a client hears of a response, as far as it looks (MS-SMB2 3.2.5).
-ghost use Rattle.std.specs.Prelude.{◌≡◌, ◌==◌, if◌then◌else◌, ℕ, Bool, List, Some, None, IfOk, option_map};
+ghost use Rattle.std.specs.Prelude.{◌≡◌, ◌==◌, if◌then◌else◌, ℕ, Bool, List, Some, None, IfOk, OnErr, option_map};
 ghost use Rattle.spec_exchange.specs.Status.{success};
 ghost use Rattle.spec_exchange.specs.Commands as asks;
 ghost use Rattle.spec_exchange.specs.State as says;
 ghost use Rattle.spec_commands.specs.ReplyOf;
+ghost use Rattle.spec_wire.specs.messages.Read.{read_response_fault};
+ghost use Rattle.spec_wire.specs.messages.QueryDirectory.{query_directory_response_fault};
+ghost use Rattle.wire_commands.specs.reading.Lacking.{ReplyLacks};
 ghost use Rattle.wire_commands.specs.values.Meaning;
 
 use crate::reading::heard_names::listing_in;
@@ -80,7 +83,8 @@ fn empty_if(reads: bool) -> Option<Body>
 
 #[tactic(auto, unfolding(spec_commands::specs::ReplyOf::body_in))]
 fn content_in(alloc: Global, m: &[u8]) -> Result<Option<Body>, AllocError>
-    ensures { (file at size minimum channel : ℕ) → IfOk result
+    ensures lacks { OnErr result (read_response_fault m.now ≡ None) }
+    ensures hears { (file at size minimum channel : ℕ) → IfOk result
         (λ found. option_map Meaning.body_of found ≡ ReplyOf.body_in (asks.Read file at size minimum channel) m.now) }
 {
     match read_read_response(m) {
@@ -137,7 +141,8 @@ fn file_in(alloc: Global, class: u8, m: &[u8]) -> Option<Body>
 
 #[tactic(auto, unfolding(spec_commands::specs::ReplyOf::body_in))]
 fn list_in(alloc: Global, class: u8, m: &[u8]) -> Result<Option<Body>, AllocError>
-    ensures { (file : ℕ) (restart single : Bool) (pattern : List ℕ) (room : ℕ) → IfOk result
+    ensures lacks { OnErr result (query_directory_response_fault m.now ≡ None) }
+    ensures hears { (file : ℕ) (restart single : Bool) (pattern : List ℕ) (room : ℕ) → IfOk result
         (λ found. option_map Meaning.body_of found ≡ ReplyOf.body_in (asks.ListDirectory file class restart single pattern room)
         m.now) }
 {
@@ -150,7 +155,9 @@ fn list_in(alloc: Global, class: u8, m: &[u8]) -> Result<Option<Body>, AllocErro
 // What a success to a command says.
 #[tactic(auto, unfolding(spec_commands::specs::ReplyOf::body_in))]
 fn body_in(alloc: Global, command: &ClientCommand<'_>, m: &[u8]) -> Result<Option<Body>, AllocError>
-    ensures { IfOk result (λ found. option_map Meaning.body_of found ≡ ReplyOf.body_in (Meaning.client_command_of command.now) m.now) }
+    ensures lacks { OnErr result (ReplyLacks (Meaning.client_command_of command.now) m.now) }
+    ensures hears { IfOk result
+        (λ found. option_map Meaning.body_of found ≡ ReplyOf.body_in (Meaning.client_command_of command.now) m.now) }
 {
     // Long by its commands alone: an arm names the reader of a response.
     match command {
@@ -194,7 +201,8 @@ fn body_of(
     status: u32,
     m: &[u8],
 ) -> Result<Body, AllocError>
-    ensures { IfOk result (λ b. Meaning.body_of b
+    ensures lacks { OnErr result ((status ≡ success) × ReplyLacks (Meaning.client_command_of command.now) m.now) }
+    ensures hears { IfOk result (λ b. Meaning.body_of b
         ≡ (if status == success then ReplyOf.or_other (ReplyOf.body_in (Meaning.client_command_of command.now) m.now) else says.Empty)) }
 {
     if status != 0 {
@@ -217,7 +225,8 @@ pub fn reply_of(
     header: &Header,
     m: &[u8],
 ) -> Result<Reply, AllocError>
-    ensures { IfOk result (λ r. Meaning.reply_of r ≡ ReplyOf.reply_of (Meaning.client_command_of command.now) header.now m.now) }
+    ensures lacks { OnErr result ((header.now.status ≡ success) × ReplyLacks (Meaning.client_command_of command.now) m.now) }
+    ensures hears { IfOk result (λ r. Meaning.reply_of r ≡ ReplyOf.reply_of (Meaning.client_command_of command.now) header.now m.now) }
 {
     match body_of(alloc, command, header.status, m) {
         Ok(body) => Ok(Reply {

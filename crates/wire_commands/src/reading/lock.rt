@@ -1,6 +1,7 @@
 //! LOCK.
-ghost use Rattle.std.specs.Prelude.{◌≡◌, ◌/◌, ◌≤◌, length, drop, IfOk};
+ghost use Rattle.std.specs.Prelude.{◌≡◌, ◌/◌, ◌≤◌, length, drop, None, IfOk, OnErr};
 ghost use Rattle.spec_commands.specs.CommandOf;
+ghost use Rattle.spec_wire.specs.messages.Lock.{lock_request_fault};
 ghost use Rattle.wire_commands.specs.values.Meaning;
 ghost use Rattle.wire_bytes.specs.file_messages.Views.{lock_request};
 
@@ -53,7 +54,8 @@ fn lock_of<'a>(alloc: Global, v: &LockRequest<'_>) -> Result<Command<'a>, AllocE
 
 #[tactic(auto, unfolding(spec_commands::specs::CommandOf::lock_in), using(crate::proofs::reading::Unless::reads_or_breaks))]
 pub(crate) fn lock_in(alloc: Global, m: &[u8]) -> Result<Command<'_>, AllocError>
-    ensures { IfOk result (λ c. Meaning.command_of c ≡ CommandOf.lock_in m.now) }
+    ensures lacks { OnErr result (lock_request_fault m.now ≡ None) }
+    ensures reads { IfOk result (λ c. Meaning.command_of c ≡ CommandOf.lock_in m.now) }
 {
     match read_lock_request(m) {
         Ok(v) => lock_of(alloc, &v),

@@ -1,8 +1,9 @@
 //! QUERY_DIRECTORY and QUERY_INFO.
-ghost use Rattle.std.specs.Prelude.{◌≡◌, ◌||◌, IfOk};
+ghost use Rattle.std.specs.Prelude.{◌≡◌, ◌||◌, None, IfOk, OnErr};
 ghost use Rattle.spec_exchange.specs.Commands.{has_bit};
 ghost use Rattle.spec_commands.specs.CommandOf;
 ghost use Rattle.spec_commands.specs.Text.{text_in};
+ghost use Rattle.spec_wire.specs.messages.QueryDirectory.{query_directory_request_fault};
 ghost use Rattle.wire_commands.specs.values.Meaning;
 ghost use Rattle.wire_info.specs.info_messages.Views.{query_directory_request, query_info_request};
 
@@ -43,7 +44,8 @@ fn list_of<'a>(alloc: Global, v: &QueryDirectoryRequest<'_>) -> Result<Command<'
 
 #[tactic(auto, unfolding(spec_commands::specs::CommandOf::list_in), using(crate::proofs::reading::Unless::reads_or_breaks))]
 pub(crate) fn list_in(alloc: Global, m: &[u8]) -> Result<Command<'_>, AllocError>
-    ensures { IfOk result (λ c. Meaning.command_of c ≡ CommandOf.list_in m.now) }
+    ensures lacks { OnErr result (query_directory_request_fault m.now ≡ None) }
+    ensures reads { IfOk result (λ c. Meaning.command_of c ≡ CommandOf.list_in m.now) }
 {
     match read_query_directory_request(m) {
         Ok(v) => list_of(alloc, &v),

@@ -1,8 +1,9 @@
 //! SESSION_SETUP, TREE_CONNECT and ECHO.
-ghost use Rattle.std.specs.Prelude.{◌≡◌, IfOk, Option, ℕ};
+ghost use Rattle.std.specs.Prelude.{◌≡◌, IfOk, OnErr, None, Option, ℕ};
 ghost use Rattle.spec_exchange.specs.Commands as asks;
 ghost use Rattle.spec_wire.specs.messages.Bare.{bare_fault};
 ghost use Rattle.spec_commands.specs.CommandOf.{Told, setup_in, tree_connect_in, echo_status};
+ghost use Rattle.spec_wire.specs.messages.TreeConnect.{tree_connect_request_fault};
 ghost use Rattle.wire_commands.specs.values.Meaning;
 
 use crate::reading::ids::has_bit;
@@ -39,7 +40,8 @@ pub(crate) fn setup_in<'a>(header: &Header, m: &'a [u8]) -> SetupForm<'a>
 
 #[tactic(auto, unfolding(spec_commands::specs::CommandOf::tree_connect_in), using(crate::proofs::reading::Unless::reads_or_breaks))]
 pub(crate) fn tree_connect_in(alloc: Global, m: &[u8]) -> Result<Command<'_>, AllocError>
-    ensures { IfOk result (λ c. Meaning.command_of c ≡ tree_connect_in m.now) }
+    ensures lacks { OnErr result (tree_connect_request_fault m.now ≡ None) }
+    ensures reads { IfOk result (λ c. Meaning.command_of c ≡ tree_connect_in m.now) }
 {
     let v = match read_tree_connect_request(m) {
         Ok(v) => v,

@@ -1,7 +1,10 @@
 //! SET_INFO, with the classes of MS-FSCC 2.4.
-ghost use Rattle.std.specs.Prelude.{◌≡◌, IfOk};
+ghost use Rattle.std.specs.Prelude.{◌≡◌, None, true, IfOk, OnErr};
 ghost use Rattle.spec_commands.specs.CommandOf;
 ghost use Rattle.spec_commands.specs.Text.{text_in};
+ghost use Rattle.spec_wire.specs.messages.SetInfo.{set_info_request_in, set_info_request_fault};
+ghost use Rattle.spec_wire.specs.messages.FileClasses.{file_rename_information_fault};
+ghost use Rattle.wire_commands.specs.reading.Lacking.{sets_name};
 ghost use Rattle.wire_commands.specs.values.Meaning;
 ghost use Rattle.wire_info.specs.classes.Views.{file_rename_information};
 ghost use Rattle.wire_info.specs.info_messages.Views.{set_info_request};
@@ -72,7 +75,8 @@ fn rename_of<'a>(
 
 #[tactic(auto, using(crate::proofs::reading::Unless::reads_or_breaks))]
 fn rename<'a>(alloc: Global, file: u64, bytes: &[u8]) -> Result<Command<'a>, AllocError>
-    ensures { IfOk result (λ c. Meaning.command_of c ≡ CommandOf.setting_of file 10 bytes.now) }
+    ensures lacks { OnErr result (file_rename_information_fault bytes.now ≡ None) }
+    ensures reads { IfOk result (λ c. Meaning.command_of c ≡ CommandOf.setting_of file 10 bytes.now) }
 {
     match read_file_rename_information(bytes) {
         Ok(v) => rename_of(alloc, file, &v),
@@ -160,7 +164,8 @@ fn setting_of<'a>(
     class: u8,
     bytes: &[u8],
 ) -> Result<Command<'a>, AllocError>
-    ensures { IfOk result (λ c. Meaning.command_of c ≡ CommandOf.setting_of file class bytes.now) }
+    ensures lacks { OnErr result ((class ≡ 10) × (file_rename_information_fault bytes.now ≡ None)) }
+    ensures reads { IfOk result (λ c. Meaning.command_of c ≡ CommandOf.setting_of file class bytes.now) }
 {
     match class {
         4 => Ok(set_basic(file, bytes)),
@@ -178,7 +183,8 @@ fn setting_of<'a>(
 
 // Type 1 is a file; security (3) and quotas (4) aren't supported.
 fn set_of<'a>(alloc: Global, v: &SetInfoRequest<'_>) -> Result<Command<'a>, AllocError>
-    ensures { IfOk result (λ c. Meaning.command_of c ≡ CommandOf.set_of (set_info_request v.now)) }
+    ensures lacks { OnErr result (sets_name (set_info_request v.now) ≡ true) }
+    ensures reads { IfOk result (λ c. Meaning.command_of c ≡ CommandOf.set_of (set_info_request v.now)) }
 {
     match v.info_type {
         1 => setting_of(alloc, file_of(&v.file_id), v.file_info_class, v.payload),
@@ -193,7 +199,8 @@ fn set_of<'a>(alloc: Global, v: &SetInfoRequest<'_>) -> Result<Command<'a>, Allo
 
 #[tactic(auto, unfolding(spec_commands::specs::CommandOf::set_in), using(crate::proofs::reading::Unless::reads_or_breaks))]
 pub(crate) fn set_in(alloc: Global, m: &[u8]) -> Result<Command<'_>, AllocError>
-    ensures { IfOk result (λ c. Meaning.command_of c ≡ CommandOf.set_in m.now) }
+    ensures lacks { OnErr result ((set_info_request_fault m.now ≡ None) × (sets_name (set_info_request_in m.now) ≡ true)) }
+    ensures reads { IfOk result (λ c. Meaning.command_of c ≡ CommandOf.set_in m.now) }
 {
     match read_set_info_request(m) {
         Ok(v) => set_of(alloc, &v),

@@ -9,4 +9,4 @@ returns-in-Ok c = λ z L f m k here shows told.
     let e = is_it c.args.frame.now c.args.at a m c.checked-checked.ensures here in
     let g = c.message-message.ensures m here in
     c.event_if.ensures z L f k (as_carried bytes m a b k e g shows) (as_heard bytes m a b k e g shows) (as_denied bytes m a k e shows) told
-    c.in-Ok.ensures
+    c.in-Ok.ensures.reads
