@@ -124,6 +124,11 @@ TakesBy shown z k now fresh s L records f heard new (Ok t) =
     × FrameTakesOn shown (AreWritten z k now fresh s L own.mishaps heard) k z.guid records new t G
 TakesBy shown z k now fresh s L records f heard new (Err e) = FrameEndsBy shown z k now fresh s L records f heard e e.why
 
+-- an event of the frame found no memory
+abbrev pub frame_lacked : Result Taken Ended → Bool
+frame_lacked (Ok t) = t.lacked
+frame_lacked (Err e) = e.lacked
+
 -- of a frame
 abbrev pub FrameTakes : Showing → ServerSettings → ℕ → ℕ → List ℕ → model.Server → Logons → List model.Record → ServerEnd → List ℕ → Conn
     → Result Taken Ended → Type 0

@@ -15,7 +15,7 @@ ghost use Rattle.conn_core.specs.served.Serving.{Onward};
 ghost use Rattle.conn_core.specs.message_replies.Replying.{AreAsked, AreMessagesShort};
 ghost use Rattle.conn_core.specs.frame_events.Dealing.{Alone};
 ghost use Rattle.conn_core.specs.reply_frames.Replying.{AreAnswers, walk_replied};
-ghost use Rattle.conn_core.specs.Taking.{FrameFinishes, HaltsAt, IsEnded, FrameServes, FrameTakes};
+ghost use Rattle.conn_core.specs.Taking.{FrameFinishes, HaltsAt, IsEnded, FrameServes, FrameTakes, frame_lacked};
 
 use crate::conn::Conn;
 use crate::end::{ConnEnd, Ended, at_once};
@@ -88,7 +88,9 @@ fn taken_of(answered: Answered, dealt: &Dealt) -> Taken
 fn finish(conn: &mut Conn, asked: &CheckedFrame, dealt: &Dealt) -> Result<Taken, Ended>
     requires messages { AllHaveMessages asked.now }
     requires short { AreMessagesShort dealt.now.replies.items.items }
-    ensures { (z : ServerSettings) (s : Server) (L : Logons) (f : ServerEnd) (cs : List hearing.Checked) (ss : List answering.SaidReply)
+    ensures spare { frame_lacked result ≡ false → conn.new.spare ≡ conn.old.spare }
+    ensures finishes { (z : ServerSettings) (s : Server) (L : Logons) (f : ServerEnd) (cs : List hearing.Checked)
+        (ss : List answering.SaidReply)
         (w : HeldIds) → ShowsEnd conn.old.id z.guid conn.old f → AreAnswers z f cs ss w asked.now dealt.now.replies.items.items
         → FrameFinishes conn.old.id z.guid (walk_replied s L f asked.now.sealed w ss) dealt.now conn.new result }
 {
@@ -109,7 +111,8 @@ fn serve<S: Serve>(
     requires order { AreInOrder asked.old }
     requires none { (dealt.old.replies.items.items ≡ []) × (dealt.old.took ≡ false) }
     requires room { length asked.old.messages.items ≤ vec_capacity dealt.old.replies.items }
-    ensures { (z : ServerSettings) (s : Server) (L : Logons) (records : List Record) (f : ServerEnd) (F : hearing.Frame)
+    ensures spare { frame_lacked result ≡ false → conn.new.spare ≡ conn.old.spare }
+    ensures serves { (z : ServerSettings) (s : Server) (L : Logons) (records : List Record) (f : ServerEnd) (F : hearing.Frame)
         → S.shows server.old z.users s L records → ShowsEnd conn.old.id z.guid conn.old F.server_end → ShowsFrame asked.old F
         → (asked.old.sealed ≡ true → MaySeal F.server_end.keys) → asked.old.moment ≡ moment.now.time
         → GreetsFirst F.messages → Alone F.messages → AreAsked F.server_end.asked F.messages → F.server_end.counter ≤ last_counter
@@ -133,6 +136,7 @@ pub fn take_frame<S: Serve>(
     fresh: [u8; 8],
     frame: &[u8],
 ) -> Result<Taken, Ended>
+    ensures spare { frame_lacked result ≡ false → conn.new.spare ≡ conn.old.spare }
     ensures takes { (z : ServerSettings) (s : Server) (L : Logons) (records : List Record) (f : ServerEnd)
         → S.shows server.old z.users s L records → ShowsEnd conn.old.id z.guid conn.old f → f.counter ≤ last_counter
         → FrameTakes (Onward (S.shows server.new z.users) (S.stopped server.old) (S.stopped server.new)) z conn.old.id now fresh s L records

@@ -173,7 +173,8 @@ struct Place {
 
 /// A message in its turn: the first cause for which it ends the connection, else its ids are taken.
 fn admit(conn: &mut Conn, header: &Header) -> Result<(), ConnEnd>
-    ensures { (k : ℕ) (guid : List ℕ) (f : ServerEnd) → ShowsEnd k guid conn.old f
+    ensures spare { conn.new.spare ≡ conn.old.spare }
+    ensures admits { (k : ℕ) (guid : List ℕ) (f : ServerEnd) → ShowsEnd k guid conn.old f
         → CheckAdmits k guid (hearing.turn_end f header.now) (hearing.behind_turn f header.now) conn.new result }
 {
     let negotiates = header.command == NEGOTIATE;
@@ -251,6 +252,7 @@ fn fault_of(conn: &Conn, place: Place, header: &Header, message: &[u8]) -> Optio
 fn check_one(conn: &mut Conn, place: Place, message: &[u8], span: Span) -> Result<Checked, ConnEnd>
     requires long { has_header message.now ≡ true }
     requires short { length message.now < 2 ^ 60 }
+    ensures spare { conn.new.spare ≡ conn.old.spare }
     ensures turn { (k : ℕ) (guid : List ℕ) (f : ServerEnd) → ShowsEnd k guid conn.old f
         → ChecksOne k guid (hearing.turn_end f (header_in message.now)) (hearing.behind_turn f (header_in message.now)) conn.new
         (hearing.checked_as f place.sealed place.barred place.first (heard_in message.now)) span result }
@@ -295,6 +297,7 @@ fn check_each(
     requires some { spans.now ≡ [] → ⊥ }
     requires order { InOrder 0 (length (drop from bytes.now)) spans.now }
     requires short { length bytes.now < 2 ^ 60 }
+    ensures spare { conn.new.spare ≡ conn.old.spare }
     ensures places { IfOk result (λ ms. InOrder 0 (length bytes.now) (places_of ms.items)) }
     ensures denied { IfOk result (λ ms. AllDenied ms.items) }
     ensures checks { (k : ℕ) (guid : List ℕ) (f : ServerEnd) → ShowsEnd k guid conn.old f
@@ -331,6 +334,7 @@ fn check_all(
 ) -> Result<Vec<Checked>, ConnEnd>
     requires text { from ≤ length bytes.now }
     requires short { length bytes.now < 2 ^ 60 }
+    ensures spare { conn.new.spare ≡ conn.old.spare }
     ensures places { IfOk result (λ ms. InOrder 0 (length bytes.now) (places_of ms.items)) }
     ensures denied { IfOk result (λ ms. AllDenied ms.items) }
     ensures checks { (k : ℕ) (guid : List ℕ) (f : ServerEnd) → ShowsEnd k guid conn.old f
@@ -360,6 +364,7 @@ fn is_too_long(conn: &Conn, frame: &[u8]) -> bool
 /// then nothing of the frame is carried out. `now` is kept for a NEGOTIATE's response. The frame is opened where it stands,
 /// and FileIds are written into its related messages.
 pub fn check_own(conn: &mut Conn, frame: Vec<u8>, now: u64) -> Result<CheckedFrame, ConnEnd>
+    ensures spare { conn.new.spare ≡ conn.old.spare }
     ensures order { IfOk result (λ x. AreInOrder x) }
     ensures denied { IfOk result (λ x. AreDenied x) }
     ensures checks { (k : ℕ) (guid : List ℕ) (f : ServerEnd) → ShowsEnd k guid conn.old f
@@ -387,6 +392,7 @@ pub fn check_own(conn: &mut Conn, frame: Vec<u8>, now: u64) -> Result<CheckedFra
 
 /// The same of a frame that stays, of which it takes a copy.
 pub fn check(conn: &mut Conn, frame: &[u8], now: u64) -> Result<CheckedFrame, ConnEnd>
+    ensures spare { conn.new.spare ≡ conn.old.spare }
     ensures order { IfOk result (λ x. AreInOrder x) }
     ensures denied { IfOk result (λ x. AreDenied x) }
     ensures checks { (k : ℕ) (guid : List ℕ) (f : ServerEnd) → ShowsEnd k guid conn.old f

@@ -1,5 +1,5 @@
 //! The answer to a frame, and the connection behind it (MS-SMB2 3.3.4.1, 3.3.5.5).
-ghost use Rattle.std.specs.Prelude.{◌≡◌, List, [], Option, option_copied};
+ghost use Rattle.std.specs.Prelude.{◌≡◌, List, [], Option, false, option_copied};
 ghost use Rattle.spec_exchange.specs.State.{Server};
 ghost use Rattle.spec_wire.specs.credits.Window.{HeldIds};
 ghost use Rattle.spec_world.specs.Settings.{ServerSettings};
@@ -9,6 +9,7 @@ ghost use Rattle.spec_world.specs.Answering as answering;
 ghost use Rattle.conn_core.specs.Shown.{ShowsEnd};
 ghost use Rattle.conn_core.specs.frame_messages.Checking.{AllHaveMessages};
 ghost use Rattle.conn_core.specs.negotiating.Greeting.{IsShortHello};
+ghost use Rattle.conn_core.specs.served.Replies.{some_lacked};
 ghost use Rattle.conn_core.specs.message_replies.Replying.{AreMessagesShort, HelloOf};
 ghost use Rattle.conn_core.specs.logon_state.Behind.{NoncesBehind};
 ghost use Rattle.conn_core.specs.reply_frames.Replying.{AnswersWith, AreAnswers, WalkReplies as RepliesBy, walk_replied};
@@ -36,6 +37,7 @@ pub struct Answered {
 fn go_on(conn: &mut Conn, behind: &Behind)
     ensures same { (conn.new.id ≡ conn.old.id) × (conn.new.guid ≡ conn.old.guid) × (conn.new.salt ≡ conn.old.salt)
         × (conn.new.window ≡ conn.old.window) × (conn.new.asked ≡ conn.old.asked) × (conn.new.logon ≡ behind.now.logon) }
+    ensures spare { conn.new.spare ≡ conn.old.spare }
     ensures nonces { (f : ServerEnd) → NoncesBehind conn.old.nonces behind.now.channel f
         → (f.channel ≡ conn.new.nonces.channel) × (f.counter ≡ conn.new.nonces.counter) }
 {
@@ -54,6 +56,7 @@ fn finish(conn: &mut Conn, joining: Joining, status: Option<u32>) -> Answered
     ensures told { (result.bytes.items ≡ joining.frames.out.items) × (result.status ≡ status) }
     ensures same { (conn.new.id ≡ conn.old.id) × (conn.new.guid ≡ conn.old.guid) × (conn.new.salt ≡ conn.old.salt)
         × (conn.new.window ≡ conn.old.window) × (conn.new.asked ≡ conn.old.asked) × (conn.new.logon ≡ joining.behind.logon) }
+    ensures spare { conn.new.spare ≡ conn.old.spare }
     ensures nonces { (f : ServerEnd) → NoncesBehind conn.old.nonces joining.behind.channel f
         → (f.channel ≡ conn.new.nonces.channel) × (f.counter ≡ conn.new.nonces.counter) }
 {
@@ -70,7 +73,9 @@ fn join_all(conn: &mut Conn, answers: &Answers<'_>, room: Vec<u8>) -> Result<Ans
     requires messages { AllHaveMessages answers.now.asked.now }
     requires short { AreMessagesShort answers.now.replies.now.items.items × IsShortHello (option_copied answers.now.hello) }
     requires none { room.items ≡ [] }
-    ensures { (z : ServerSettings) (s : Server) (L : Logons) (f : ServerEnd) (cs : List hearing.Checked) (ss : List answering.SaidReply)
+    ensures spare { conn.new.spare ≡ conn.old.spare }
+    ensures answers { (z : ServerSettings) (s : Server) (L : Logons) (f : ServerEnd) (cs : List hearing.Checked)
+        (ss : List answering.SaidReply)
         (w : HeldIds) → ShowsEnd conn.old.id z.guid conn.old f
         → AreAnswers z f cs ss w answers.now.asked.now answers.now.replies.now.items.items
         → HelloOf z.guid f.salt answers.now.asked.now.moment cs (option_copied answers.now.hello)
@@ -98,7 +103,8 @@ fn answer_by<'a>(
 ) -> Result<Answered, ConnEnd>
     requires messages { AllHaveMessages asked.now }
     requires short { AreMessagesShort replies.now.items.items × IsShortHello (option_copied hello) }
-    ensures { (z : ServerSettings) (s : Server) (L : Logons) (f : ServerEnd) (cs : List hearing.Checked)
+    ensures spare { some_lacked replies.now.items.items ≡ false → conn.new.spare ≡ conn.old.spare }
+    ensures answers { (z : ServerSettings) (s : Server) (L : Logons) (f : ServerEnd) (cs : List hearing.Checked)
         (ss : List answering.SaidReply) (w : HeldIds) → ShowsEnd conn.old.id z.guid conn.old f
         → AreAnswers z f cs ss w asked.now replies.now.items.items
         → HelloOf z.guid f.salt asked.now.moment cs (option_copied hello.entry)
@@ -121,7 +127,8 @@ pub fn answered_with(
 ) -> Result<Answered, ConnEnd>
     requires messages { AllHaveMessages asked.now }
     requires short { AreMessagesShort replies.now.items.items }
-    ensures { (z : ServerSettings) (s : Server) (L : Logons) (f : ServerEnd) (cs : List hearing.Checked)
+    ensures spare { some_lacked replies.now.items.items ≡ false → conn.new.spare ≡ conn.old.spare }
+    ensures answers { (z : ServerSettings) (s : Server) (L : Logons) (f : ServerEnd) (cs : List hearing.Checked)
         (ss : List answering.SaidReply) (w : HeldIds) → ShowsEnd conn.old.id z.guid conn.old f
         → AreAnswers z f cs ss w asked.now replies.now.items.items
         → AnswersWith conn.old.id z.guid (walk_replied s L f asked.now.sealed w ss) conn.new result }
@@ -134,11 +141,12 @@ pub fn answered_with(
 /// each behind its four bytes of length, sealed where the request was, else with each reply signed where there is a
 /// key. Each reply but to a CANCEL is granted credits. A reply of NEGOTIATE or SESSION_SETUP moves the logon on.
 /// `Spent` where no nonce is left. The first answer that says that an event found no memory has the room that stands
-/// by for it.
+/// by for it; any other leaves that room.
 pub fn answer(conn: &mut Conn, asked: &CheckedFrame, replies: &Replies) -> Result<Vec<u8>, ConnEnd>
     requires messages { AllHaveMessages asked.now }
     requires short { AreMessagesShort replies.now.items.items }
-    ensures { (z : ServerSettings) (s : Server) (L : Logons) (f : ServerEnd) (cs : List hearing.Checked)
+    ensures spare { some_lacked replies.now.items.items ≡ false → conn.new.spare ≡ conn.old.spare }
+    ensures answers { (z : ServerSettings) (s : Server) (L : Logons) (f : ServerEnd) (cs : List hearing.Checked)
         (ss : List answering.SaidReply) (w : HeldIds) → ShowsEnd conn.old.id z.guid conn.old f
         → AreAnswers z f cs ss w asked.now replies.now.items.items
         → RepliesBy conn.old.id z.guid (walk_replied s L f asked.now.sealed w ss) conn.new result }

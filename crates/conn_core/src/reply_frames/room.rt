@@ -1,5 +1,5 @@
 //! What an answer is made with: the response to a NEGOTIATE, and room.
-ghost use Rattle.std.specs.Prelude.{◌≡◌, ◌≤◌, ℕ, List, [], true, Some, Ok, IfOk, length, slice_get};
+ghost use Rattle.std.specs.Prelude.{◌≡◌, ◌≤◌, ℕ, List, [], true, false, Some, Ok, IfOk, length, slice_get};
 ghost use Rattle.spec_world.specs.Ends.{ServerEnd};
 ghost use Rattle.spec_world.specs.Hearing as hearing;
 ghost use Rattle.conn_core.specs.Shown.{ShowsEnd};
@@ -87,6 +87,7 @@ fn size_of(answers: &Answers<'_>) -> usize {
 pub(crate) fn room_for(conn: &mut Conn, answers: &Answers<'_>) -> Result<Vec<u8>, AllocError>
     ensures none { IfOk result (λ v. v.items ≡ []) }
     ensures spare { some_lacked answers.now.replies.now.items.items ≡ true → conn.old.spare.items ≡ [] → result ≡ Ok conn.old.spare }
+    ensures keeps { some_lacked answers.now.replies.now.items.items ≡ false → conn.new.spare ≡ conn.old.spare }
     ensures same { (conn.new.id ≡ conn.old.id) × (conn.new.guid ≡ conn.old.guid) × (conn.new.salt ≡ conn.old.salt)
         × (conn.new.window ≡ conn.old.window) × (conn.new.asked ≡ conn.old.asked) × (conn.new.logon ≡ conn.old.logon)
         × (conn.new.nonces ≡ conn.old.nonces) }

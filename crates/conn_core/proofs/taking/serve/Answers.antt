@@ -9,18 +9,18 @@ finish-requires-clause-messages g c = each_has c.carry_out.new.asked c.carry_out
 pub finish-requires-clause-short : goal.finish-requires-clause-short
 finish-requires-clause-short g c = c.carry_out.ensures.short
 
-pub returns-in-Ok : goal.returns-in-Ok
-returns-in-Ok g c = λ z s L records f F state shows frame seals moment greets alone asked bound.
+pub returns-in-Ok-clause-serves : goal.returns-in-Ok-clause-serves
+returns-in-Ok-clause-serves g c = λ z s L records f F state shows frame seals moment greets alone asked bound.
     served (Onward (g.S.Serve.shows c.carry_out.new.server z.users) (g.S.Serve.stopped c.args.server.now) (g.S.Serve.stopped
     c.carry_out.new.server)) z c.args.moment.now.time c.args.moment.now.fresh s L records f F c.args.asked.now
     c.carry_out.new.asked c.carry_out.new.dealt c.args.conn.now c.finish.new.conn c.finish.result
     (c.in-Ok.ensures.deals z s L records F.server_end F state shows frame alone) shows frame.sealed
     c.carry_out.ensures.same moment seals greets
-    asked bound (λ u l cs ss w end answers. c.finish.ensures z u l F.server_end cs ss w end answers)
+    asked bound (λ u l cs ss w end answers. c.finish.ensures.finishes z u l F.server_end cs ss w end answers)
     (g.S.Serve.stopped c.carry_out.new.server)
 
-pub returns-in-Err : goal.returns-in-Err
-returns-in-Err g c = λ z s L records f F state shows frame seals moment greets alone asked bound. (
+pub returns-in-Err-clause-serves : goal.returns-in-Err-clause-serves
+returns-in-Err-clause-serves g c = λ z s L records f F state shows frame seals moment greets alone asked bound. (
   stopped_on (Onward (g.S.Serve.shows c.carry_out.new.server z.users) (g.S.Serve.stopped c.args.server.now) (g.S.Serve.stopped
       c.carry_out.new.server)) z c.args.conn.now.id c.args.moment.now.time c.args.moment.now.fresh s L records f F
       c.carry_out.new.asked c.carry_out.new.dealt c.args.conn.now c.in-Err.why c.end_of.result c.end_of.ensures

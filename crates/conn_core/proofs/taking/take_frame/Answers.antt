@@ -1,4 +1,4 @@
-use Rattle.std.proofs.Common.{arith, refl}
+use Rattle.std.proofs.Common.{◌∙◌, arith, refl}
 use Rattle.spec_world.specs.Hearing.{check_frame, text_of}
 use Rattle.conn_core.specs.declared.end.ConnEnd.TheVariants.{Memory}
 use Rattle.conn_core.specs.served.Serving.{Onward}
@@ -54,7 +54,7 @@ returns-clause-takes g c = λ z s L records f state shows bound.
     c.serve.result shows.heard bound
     (c.in-Ok.ensures.checks c.args.conn.now.id z.guid f shows)
     (λ F end frame seals time greets alone asked few.
-    c.serve.ensures z s L records f F state end frame seals time greets alone asked few)).0
+    c.serve.ensures.serves z s L records f F state end frame seals time greets alone asked few)).0
 
 pub returns-clause-halted : goal.returns-clause-halted
 returns-clause-halted g c = λ z s L records f state shows bound.
@@ -65,4 +65,7 @@ returns-clause-halted g c = λ z s L records f state shows bound.
     c.serve.result shows.heard bound
     (c.in-Ok.ensures.checks c.args.conn.now.id z.guid f shows)
     (λ F end frame seals time greets alone asked few.
-    c.serve.ensures z s L records f F state end frame seals time greets alone asked few)).1
+    c.serve.ensures.serves z s L records f F state end frame seals time greets alone asked few)).1
+
+pub returns-clause-spare : goal.returns-clause-spare
+returns-clause-spare g c = λ none. c.serve.ensures.spare none ∙ c.check.ensures.spare

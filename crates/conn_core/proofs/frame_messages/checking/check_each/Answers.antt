@@ -23,7 +23,7 @@ loop-part-init c =
     c.requires.text c.requires.order in
     let denied = subst (λ (ms : List Checked). AllDenied ms) (sym c.in_ok-messages.ensures.items)
     (All-nil (λ (n : Checked). IsDenied n.fault)) in
-    (checked, placed, denied)
+    (checked, placed, denied, refl)
 
 pub moved-span-requires : goal.moved-span-requires
 moved-span-requires c =
@@ -96,7 +96,13 @@ loop-part-preserved c =
     let stands = subst (λ (ms : List Checked). Places c.args.from (length c.args.bytes.now) c.args.spans.now
     (c.loop-part.part-index + 1) ms)
     (sym c.in-Ok-push.ensures.items) placed in
-    (shown, stands, denied)
+    (shown, stands, denied, c.in-Ok.ensures.spare ∙ c.loop-part.invariant.3)
+
+pub returns-in-Err-clause-spare : goal.returns-in-Err-clause-spare
+returns-in-Err-clause-spare c = c.in-Err.ensures.spare ∙ c.loop-part.invariant.3
+
+pub returns-clause-spare : goal.returns-clause-spare
+returns-clause-spare c = c.loop-part.invariant.3
 
 pub returns-clause-places : goal.returns-clause-places
 returns-clause-places c =

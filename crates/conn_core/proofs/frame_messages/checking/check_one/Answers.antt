@@ -16,10 +16,10 @@ returns-in-Ok-admit-clause-turn c = λ k guid f s.
       fault = c.fault_of-fault.result;
       fails = None;
       span = c.args.span;
-    }) tt c.in-Ok.ensures (c.in-Ok-admit.ensures k guid f s) refl c.is_related-related.ensures
+    }) tt c.in-Ok.ensures (c.in-Ok-admit.ensures.admits k guid f s) refl c.is_related-related.ensures
     (c.fault_of-fault.ensures.fault k guid f s) refl refl
 
 pub returns-in-Err-admit-clause-turn : goal.returns-in-Err-admit-clause-turn
 returns-in-Err-admit-clause-turn c = λ k guid f s.
     one_ends k guid c.in-Ok.header c.args.message.now f c.args.place.sealed c.args.place.barred c.args.place.first c.admit.new.conn
-    c.args.span c.in-Err-admit.cause c.in-Ok.ensures (c.in-Err-admit.ensures k guid f s)
+    c.args.span c.in-Err-admit.cause c.in-Ok.ensures (c.in-Err-admit.ensures.admits k guid f s)

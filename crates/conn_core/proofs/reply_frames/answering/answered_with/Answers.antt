@@ -10,8 +10,8 @@ answer_by-requires-clause-short c = (
   subst (λ (o : Option Hello). IsShortHello o) (sym c.as_ref.ensures.value) c.in_ok-hello.ensures.short,
 )
 
-pub returns : goal.returns
-returns c = λ z s L f cs ss w shows a.
-    c.answer_by.ensures z s L f cs ss w shows a
+pub returns-clause-answers : goal.returns-clause-answers
+returns-clause-answers c = λ z s L f cs ss w shows a.
+    c.answer_by.ensures.answers z s L f cs ss w shows a
     (subst (λ (o : Option Hello). HelloOf z.guid f.salt c.args.asked.now.moment cs o) (sym c.as_ref.ensures.value)
     (c.in_ok-hello.ensures.hello z.guid f cs shows a.shows))

@@ -2,8 +2,8 @@ use Rattle.std.proofs.Common.{◌∙◌, None, refl}
 use Rattle.conn_core.proofs.reply_frames.Finally.{counted_by, due_of, end_counted, fails_by, goes_of, goes_with, joined}
 use Rattle.conn_core.proofs.reply_frames.answering.join_all.Goals as goal
 
-pub returns-in-Err : goal.returns-in-Err
-returns-in-Err c = λ z s L f cs ss w shows a hello.
+pub returns-in-Err-clause-answers : goal.returns-in-Err-clause-answers
+returns-in-Err-clause-answers c = λ z s L f cs ss w shows a hello.
     let answers = c.args.answers.now in
     let sealed = answers.asked.now.sealed in
     let conn = c.args.conn.now in
@@ -18,8 +18,8 @@ returns-in-Err c = λ z s L f cs ss w shows a hello.
       behind = record { logon = conn.logon; channel = None };
     }) shows a hello refl))
 
-pub returns-in-Ok : goal.returns-in-Ok
-returns-in-Ok c = λ z s L f cs ss w shows a hello.
+pub returns-in-Ok-clause-answers : goal.returns-in-Ok-clause-answers
+returns-in-Ok-clause-answers c = λ z s L f cs ss w shows a hello.
     let answers = c.args.answers.now in
     let sealed = answers.asked.now.sealed in
     let conn = c.args.conn.now in
