@@ -1,5 +1,6 @@
 mod Begin
 mod Bodies
+mod Chain
 mod Crash
 mod Gates
 mod Grown
@@ -10,3 +11,4 @@ mod Mend
 mod Moments
 mod Quiet
 mod Rest
+mod Waits

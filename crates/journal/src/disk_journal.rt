@@ -14,6 +14,7 @@ mod list;
 mod read;
 mod recovery;
 mod start;
+mod waiting;
 
 pub use journal::{Journal, JournalError, RefusedStart};
 pub use laws::{broken_means_nothing, one_break, one_form, one_meaning};

@@ -1,5 +1,5 @@
 -- The table, entry by entry, by computing.
-use Rattle.std.proofs.Common.{◌≡◌, ℕ, zero, suc, ◌+◌, ◌*◌, ◌/◌, ◌%◌, ◌<◌, ◌^◌, ◌&&◌, ◌∙◌, Bool, true, false, eqb, nat_lt, get_or, refl, arith, inl, inr, [], ap}
+use Rattle.std.proofs.Common.{◌≡◌, ℕ, zero, suc, ◌+◌, ◌*◌, ◌/◌, ◌%◌, ◌<◌, ◌&&◌, ◌∙◌, Bool, true, false, eqb, get_or, refl, arith, inl, inr}
 use Rattle.std.proofs.lemmas.Bool.{cases_lt, eqb-true}
 use Rattle.spec_journal.specs.Castagnoli.{coefficients, times_x, times_power}
 use Rattle.journal.specs.declared.checksum.table.TheConstants.{TABLE}

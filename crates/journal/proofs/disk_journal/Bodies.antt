@@ -7,7 +7,7 @@ use Rattle.std.proofs.lemmas.Bool.{cases_lt}
 use Rattle.spec_wire.specs.messages.Places.{le, number_of}
 use Rattle.spec_wire.proofs.messages.Numbers.{number_of-le, length-le}
 use Rattle.base_outside.specs.streams.Disk.{Only}
-use Rattle.spec_wire.specs.journal.Grammar.{front, AllFit}
+use Rattle.spec_wire.specs.journal.Grammar.{AllFit}
 use Rattle.spec_journal.specs.declared.form.Form.{Form}
 use Rattle.spec_journal.specs.Forms.{form_mark, sum_size, form_sum, form_entry, form_opened, form_front, StandsFor}
 use Rattle.journal.specs.declared.disk_journal.read.NoBody.{NoBody}
@@ -164,9 +164,9 @@ module _ {D : Type 0} (seen : D → List ℕ) (may_leave : D → List ℕ → Ty
   -- so many were handed out, and the next one's gate stands here
   pub at_body : (old new : JournalState D) → Is old → seen new.disk ≡ seen old.disk
       → ((c : List ℕ) → may_leave new.disk c → may_leave old.disk c) → new.form ≡ old.form → new.end ≡ old.end → new.used ≡ old.used
-      → new.count ≡ old.count → new.stopped ≡ old.stopped
+      → new.count ≡ old.count → new.waits ≡ old.waits → new.stopped ≡ old.stopped
       → new.taken ≤ length bodies → new.next ≡ length (form_front old.form (take new.taken bodies)) → Is new
-  at_body old new s same no_more form end used count stopped some next = record {
+  at_body old new s same no_more form end used count waits stopped some next = record {
     gate = s.gate;
     rest = s.rest;
     file = same ∙ s.file ∙ ap (λ (f : Form). form_front f bodies ++ s.gate ∷ s.rest) (sym form);
@@ -177,6 +177,7 @@ module _ {D : Type 0} (seen : D → List ℕ) (may_leave : D → List ℕ → Ty
     fit = s.fit;
     some_taken = some;
     next = next ∙ ap (λ (f : Form). length (form_front f (take new.taken bodies))) (sym form);
+    none_waits = waits ∙ s.none_waits;
     goes_on = stopped ∙ s.goes_on;
     durable = still old.disk new.disk same no_more s.durable;
   }
@@ -186,8 +187,8 @@ module _ {D : Type 0} (seen : D → List ℕ) (may_leave : D → List ℕ → Ty
 
   pub found : (old : D) (new : JournalState D) (gate used count : ℕ) (f : Found) → f ≡ Behind new.form gate used count
       → Mends seen may_leave old new.disk f → StandsFor (seen old) bodies
-      → new.end ≡ gate + 1 → new.used ≡ used → new.count ≡ count → new.taken ≡ 0 → new.next ≡ 8 → new.stopped ≡ None → Is new
-  found old new gate used count f is mends stood end some number taken next stopped =
+      → new.end ≡ gate + 1 → new.used ≡ used → new.count ≡ count → new.taken ≡ 0 → new.next ≡ 8 → new.waits ≡ None → new.stopped ≡ None → Is new
+  found old new gate used count f is mends stood end some number taken next waits stopped =
       let m : Mends seen may_leave old new.disk (Behind new.form gate used count) =
       subst (λ (h : Found). Mends seen may_leave old new.disk h) is mends in
       let same : m.0 ≡ bodies = stands_for_one (seen old) m.0 bodies m.1 stood in
@@ -204,6 +205,7 @@ module _ {D : Type 0} (seen : D → List ℕ) (may_leave : D → List ℕ → Ty
         fit = r.fit;
         some_taken = omega (arith, taken);
         next = next ∙ first_gate new.form ∙ ap (λ (t : ℕ). length (form_front new.form (take t bodies))) (sym taken);
+        none_waits = waits;
         goes_on = stopped;
         durable = r.durable;
       }
@@ -227,14 +229,14 @@ module _ {D : Type 0} (seen : D → List ℕ) (may_leave : D → List ℕ → Ty
   pub handed : (old new : JournalState D) (body : List ℕ) → (s : Is old) → (old.next + 1 ≡ old.end → ⊥) → body
       ≡ get_or bodies old.taken [] → seen new.disk ≡ seen old.disk
       → ((c : List ℕ) → may_leave new.disk c → may_leave old.disk c) → new.form ≡ old.form → new.end ≡ old.end
-      → new.used ≡ old.used → new.count ≡ old.count → new.stopped ≡ old.stopped → new.taken ≡ old.taken + 1 → new.next
+      → new.used ≡ old.used → new.count ≡ old.count → new.waits ≡ old.waits → new.stopped ≡ old.stopped → new.taken ≡ old.taken + 1 → new.next
       ≡ old.next + 5 + sum_size old.form + length body
       → (drop old.taken bodies ≡ body ∷ drop new.taken bodies) × Is new
-  handed old new body s other is same no_more form end used count stopped taken next =
+  handed old new body s other is same no_more form end used count waits stopped taken next =
       let less = some_left old s other in (
         drop_more bodies old.taken [] less ∙ ap (λ (b : List ℕ). b ∷ drop (old.taken + 1) bodies) (sym is)
             ∙ ap (λ (k : ℕ). body ∷ drop k bodies) (sym taken),
-        at_body old new s same no_more form end used count stopped (omega (arith, less, taken)) (next ∙ place less),
+        at_body old new s same no_more form end used count waits stopped (omega (arith, less, taken)) (next ∙ place less),
       )
     where
       place : old.taken < length bodies

@@ -13,7 +13,7 @@ use Rattle.spec_journal.specs.declared.form.Form.{Form}
 use Rattle.spec_journal.specs.declared.form.Form.TheVariants.{Plain, Summed}
 use Rattle.journal.specs.declared.disk_journal.read.Look.{Look}
 use Rattle.journal.specs.declared.disk_journal.read.Look.TheVariants.{Closed, Entry, NoEntry}
-use Rattle.spec_journal.specs.Forms.{form_mark, sum_size, form_sum, form_entry, form_front, IsNoEntry, DiffersAt, NoEntryAt}
+use Rattle.spec_journal.specs.Forms.{form_mark, sum_size, form_sum, form_entry, form_front, DiffersAt, NoEntryAt}
 use Rattle.journal.specs.disk_journal.Read.{HeadShows, JournalShows, SumIs, ReadTo, EndsWith}
 use Rattle.journal.proofs.disk_journal.Grown.{all_fit_push, front-push, length-front-push, length-plain-push}
 use Rattle.journal.proofs.disk_journal.Lists.{take_sum}

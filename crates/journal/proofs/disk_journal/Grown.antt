@@ -1,12 +1,12 @@
 -- Bodies in front of one more.
 use Rattle.std.proofs.Common.{◌≡◌, inl, inr, ℕ, ◌+◌, ◌^◌, ◌<◌, List, [], ◌∷◌, ◌++◌, length, refl, sym, ◌∙◌, ap, arith}
-use Rattle.std.proofs.Common.{append_assoc, length-append, false, Ok, Err, Result}
+use Rattle.std.proofs.Common.{append_assoc, length-append, false, true, Ok, Err, Result}
 use Rattle.std.proofs.lemmas.List.{append-nil}
-use Rattle.std.specs.Result.{OnOk, is_err}
+use Rattle.std.specs.Result.{IfErr, OnOk, is_err}
 use Rattle.spec_journal.specs.Castagnoli.{crc32c}
 use Rattle.spec_wire.specs.messages.Places.{le}
 use Rattle.spec_wire.proofs.messages.Numbers.{length-le}
-use Rattle.spec_wire.specs.journal.Grammar.{magic, entry, opened, front, AllFit}
+use Rattle.spec_wire.specs.journal.Grammar.{magic, entry, opened, front, AllFit, IsClosed}
 use Rattle.spec_journal.specs.declared.form.Form.{Form}
 use Rattle.spec_journal.specs.declared.form.Form.TheVariants.{Plain, Summed}
 use Rattle.spec_journal.specs.Forms.{form_mark, sum_size, form_sum, form_entry, form_opened, form_front, JournalHolds}
@@ -97,27 +97,34 @@ stands form bodies bytes fit stays = record {
   fit = fit;
 }
 
+pub zero_shut : IsClosed 0
+zero_shut = omega arith
+
 -- an entry with its closed gate, and what stands behind that
-pub pushed : (form : Form) (bodies : List (List ℕ)) (body rest : List ℕ)
-    → form_front form bodies ++ 1 ∷ ((form_entry form body ++ 0 ∷ []) ++ rest) ≡ form_front form (bodies ++ body ∷ []) ++ 0 ∷ rest
-pushed form bodies body rest =
-    ap (λ (l : List ℕ). form_front form bodies ++ 1 ∷ l) (append_assoc (form_entry form body) (0 ∷ []) rest)
-    ∙ front-push form bodies body (0 ∷ rest)
+pub pushed : (form : Form) (bodies : List (List ℕ)) (body rest : List ℕ) (last : ℕ)
+    → form_front form bodies ++ 1 ∷ ((form_entry form body ++ last ∷ []) ++ rest) ≡ form_front form (bodies ++ body ∷ []) ++ last ∷ rest
+pushed form bodies body rest last =
+    ap (λ (l : List ℕ). form_front form bodies ++ 1 ∷ l) (append_assoc (form_entry form body) (last ∷ []) rest)
+    ∙ front-push form bodies body (last ∷ rest)
 
 -- a gate that is closed, or open before a whole entry
-pub either : (form : Form) (bodies : List (List ℕ)) (body bytes : List ℕ) → AllFit bodies → length body < 2 ^ 32
-    → IsClosedOrOpened (form_front form bodies) (form_entry form body ++ 0 ∷ []) bytes → BeforeOrAfter bodies body bytes
-either form bodies body bytes fit small (inl stays) = inl (inr (stands form bodies bytes fit stays))
-either form bodies body bytes fit small (inr whole) =
+pub either : (form : Form) (bodies : List (List ℕ)) (body bytes : List ℕ) (last : ℕ) → IsClosed last → AllFit bodies → length body < 2 ^ 32
+    → IsClosedOrOpened (form_front form bodies) (form_entry form body ++ last ∷ []) bytes → BeforeOrAfter bodies body bytes
+either form bodies body bytes last closed fit small (inl stays) = inl (inr (stands form bodies bytes fit stays))
+either form bodies body bytes last closed fit small (inr whole) =
     inr (inr (record {
       form = form;
-      gate = 0;
+      gate = last;
       rest = whole.0;
-      spelled = whole.1 ∙ pushed form bodies body whole.0;
-      closed = omega arith;
+      spelled = whole.1 ∙ pushed form bodies body whole.0 last;
+      closed = closed;
       fit = all_fit_push bodies body fit small;
     }))
 
 pub ok_part : {T E : Type 0} (r : Result T E) (P : Type 0) → is_err r ≡ false → OnOk r P → P
 ok_part (Ok x) P ok holds = holds
 ok_part (Err e) P ok holds = absurd (cc ok)
+
+pub no_err : {T E : Type 0} (r : Result T E) → is_err r ≡ true → IfErr r (λ e. ⊥) → ⊥
+no_err (Ok x) failed never = absurd (cc failed)
+no_err (Err e) failed never = never

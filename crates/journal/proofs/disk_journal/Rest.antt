@@ -32,7 +32,7 @@ module _ {D : Type 0} (seen : D → List ℕ) (may_leave : D → List ℕ → Ty
     next = 8;
   } → JournalSettled seen may_leave new bodies
   rewound old new s is = subst (λ j. JournalSettled seen may_leave j bodies) (sym is)
-      (at_body seen may_leave bodies old (record old { taken = 0; next = 8 }) s refl (λ c now. now) refl refl refl refl refl
+      (at_body seen may_leave bodies old (record old { taken = 0; next = 8 }) s refl (λ c now. now) refl refl refl refl refl refl
       (omega arith) (first_gate seen may_leave bodies old.form))
 
   -- and as it was again
@@ -40,7 +40,7 @@ module _ {D : Type 0} (seen : D → List ℕ) (may_leave : D → List ℕ → Ty
       → mid.form ≡ old.form → new ≡ record mid { taken = old.taken; next = old.next } → JournalSettled seen may_leave new bodies
   restored old mid new s t form is = subst (λ j. JournalSettled seen may_leave j bodies) (sym is)
       (at_body seen may_leave bodies mid (record mid { taken = old.taken; next = old.next }) t refl (λ c now. now) refl refl
-      refl refl refl s.some_taken (s.next ∙ ap (λ (f : Form). length (form_front f (take old.taken bodies))) (sym form)))
+      refl refl refl refl s.some_taken (s.next ∙ ap (λ (f : Form). length (form_front f (take old.taken bodies))) (sym form)))
 
   pub all_handed : (old begun mid new : JournalState D) (result : Result (List (List ℕ)) JournalError)
       → JournalSettled seen may_leave old bodies → begun.taken ≡ 0 → mid.form ≡ old.form

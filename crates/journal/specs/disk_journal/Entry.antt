@@ -1,5 +1,5 @@
 -- A closed gate with any bytes behind it, and what a crash leaves while an entry is put there.
-use Rattle.std.specs.Prelude.{◌≡◌, ◌⊎◌, ℕ, ◌≤◌, List, [], ◌∷◌, ◌++◌, length}
+use Rattle.std.specs.Prelude.{◌≡◌, ◌⊎◌, ℕ, ◌+◌, ◌≤◌, List, ◌∷◌, ◌++◌, length}
 use Rattle.base_outside.specs.streams.Disk.{Only}
 use Rattle.spec_wire.specs.journal.Grammar.{IsClosed}
 
@@ -19,6 +19,18 @@ pub record StaysClosed (front bytes : List ℕ) : Type 0 where
 -- the gate is closed, or it is open and all of the entry stands behind it, with any bytes behind that
 abbrev pub IsClosedOrOpened : List ℕ → List ℕ → List ℕ → Type 0
 IsClosedOrOpened front behind bytes = StaysClosed front bytes ⊎ ((rest : List ℕ) × (bytes ≡ front ++ 1 ∷ (behind ++ rest)))
+
+-- The bytes have this front, then a closed gate at this place, an entry, and a closed gate at the next place with any bytes behind it.
+pub record WaitsAt (gate next : ℕ) (front entry : List ℕ) (shut last : ℕ) (rest bytes : List ℕ) : Type 0 where
+  pub file : bytes ≡ front ++ shut ∷ (entry ++ last ∷ rest)
+  pub place : length front ≡ gate
+  pub end : gate + 1 + length entry ≡ next
+  pub closed : IsClosed shut
+  pub behind : IsClosed last
+
+-- a closed gate stands behind the front, or behind the entry that waited there
+abbrev pub IsClosedBeforeOrBehind : List ℕ → List ℕ → List ℕ → Type 0
+IsClosedBeforeOrBehind front entry bytes = StaysClosed front bytes ⊎ StaysClosed (front ++ 1 ∷ entry) bytes
 
 -- at most 9 bytes: the magic and one gate at most
 abbrev pub IsEntryShort : List ℕ → Type 0

@@ -4,7 +4,7 @@ use Rattle.std.specs.Prelude.{take, drop, Option, Some, None, Result, Ok, Err}
 use Rattle.base_outside.specs.streams.Disk.{Only}
 use Rattle.base_outside.specs.streams.Faults.{Rose}
 use Rattle.spec_wire.specs.journal.Grammar.{IsClosed, front, AllFit}
-use Rattle.spec_journal.specs.Forms.{sum_size, form_front, IsInForm, StandsFor, BreaksAt}
+use Rattle.spec_journal.specs.Forms.{sum_size, form_entry, form_front, IsInForm, StandsFor, BreaksAt}
 use Rattle.spec_journal.specs.declared.form.Form.{Form}
 use Rattle.spec_journal.specs.declared.form.Form.TheVariants.{Plain}
 use Rattle.journal.specs.declared.disk_journal.journal.JournalError.{JournalError}
@@ -12,8 +12,8 @@ use Rattle.journal.specs.declared.disk_journal.journal.JournalError.TheVariants 
 use Rattle.journal.specs.declared.disk_journal.journal.RefusedStart.{RefusedStart}
 
 -- A journal: its disk, its form, where it ends, how many bytes it uses with the gate at the end but for checksums, how many bodies
--- stand in it, how many of them were handed out and where the next one's gate stands, at which count of faults it stopped, and how many
--- bytes of an entry it has room for without more memory, but for a checksum.
+-- stand in it, how many of them were handed out and where the next one's gate stands, where the gate stands that waits for a sync to
+-- open it, at which count of faults it stopped, and how many bytes of an entry it has room for without more memory, but for a checksum.
 pub record JournalState (D : Type 0) : Type 0 where
   pub disk : D
   pub form : Form
@@ -22,6 +22,7 @@ pub record JournalState (D : Type 0) : Type 0 where
   pub count : ℕ
   pub taken : ℕ
   pub next : ℕ
+  pub waits : Option ℕ
   pub stopped : Option ℕ
   pub room : ℕ
 
@@ -38,6 +39,28 @@ pub record JournalSettled {D : Type 0} (seen : D → List ℕ) (may_leave : D �
   pub fit : AllFit bodies
   pub some_taken : journal.taken ≤ length bodies
   pub next : journal.next ≡ length (form_front journal.form (take journal.taken bodies))
+  pub none_waits : journal.waits ≡ None
+  pub goes_on : journal.stopped ≡ None
+  pub durable : Only (seen journal.disk) (may_leave journal.disk)
+
+-- The disk holds these bodies, behind a closed gate one more with a closed gate at its end, and any bytes behind that; nothing on it waits
+-- for a sync but that the first of these gates opens.
+pub record JournalWaits {D : Type 0} (seen : D → List ℕ) (may_leave : D → List ℕ → Type 0) (journal : JournalState D)
+    (bodies : List (List ℕ)) (body : List ℕ) : Type 0 where
+  pub gate : ℕ
+  pub last : ℕ
+  pub rest : List ℕ
+  pub file : seen journal.disk ≡ form_front journal.form bodies ++ gate ∷ (form_entry journal.form body ++ last ∷ rest)
+  pub closed : IsClosed gate
+  pub behind : IsClosed last
+  pub end : journal.end ≡ length (form_front journal.form (bodies ++ body ∷ [])) + 1
+  pub used : journal.used ≡ length (front (bodies ++ body ∷ [])) + 1
+  pub count : journal.count ≡ length (bodies ++ body ∷ [])
+  pub fit : AllFit bodies
+  pub small : length body < 2 ^ 32
+  pub some_taken : journal.taken ≤ length bodies
+  pub next : journal.next ≡ length (form_front journal.form (take journal.taken bodies))
+  pub waits : journal.waits ≡ Some (length (form_front journal.form bodies))
   pub goes_on : journal.stopped ≡ None
   pub durable : Only (seen journal.disk) (may_leave journal.disk)
 
@@ -78,7 +101,7 @@ Appends faults old body epoch (Ok n) new =
     Allows old (length body) epoch × (n ≡ old.count) × (new.count ≡ old.count + 1)
     × (new.used ≡ old.used + 5 + length body) × (new.stopped ≡ None) × (faults new.disk ≡ faults old.disk)
     × (old.room ≤ new.room) × (new.taken ≡ old.taken) × (new.next ≡ old.next)
-    × (new.form ≡ old.form) × (new.end ≡ old.end + 5 + sum_size old.form + length body)
+    × (new.form ≡ old.form) × (new.end ≡ old.end + 5 + sum_size old.form + length body) × (new.waits ≡ None)
 Appends faults old body epoch (Err errors.Memory) new = Allows old (length body) epoch × (old.room < length body + 5) × OnlyRoom old new
 Appends faults old body epoch (Err (errors.DiskFault n)) new =
     Allows old (length body) epoch × Rose (faults old.disk) n × (n ≡ faults new.disk) × (new.stopped ≡ Some n)
@@ -88,6 +111,34 @@ Appends faults old body epoch (Err (errors.NotAJournal at)) new = ⊥
 Appends faults old body epoch (Err (errors.Full would limit)) new = (old.stopped ≡ None)
     × (would ≡ journal_capped (old.used + 5 + length body)) × (limit ≡ limit_of epoch) × (limit < would) × (new ≡ old)
 Appends faults old body epoch (Err (errors.Stopped n)) new = (old.stopped ≡ Some n) × (new ≡ old)
+
+-- What `stage` answers, and what it leaves.
+abbrev pub StageAnswers : {D : Type 0} → (D → ℕ) → JournalState D → List ℕ → Bool → Result Unit JournalError → JournalState D → Type 0
+StageAnswers faults old body epoch (Ok _) new =
+    Allows old (length body) epoch × (new.count ≡ old.count + 1)
+    × (new.used ≡ old.used + 5 + length body) × (new.stopped ≡ None) × (faults new.disk ≡ faults old.disk)
+    × (old.room ≤ new.room) × (new.taken ≡ old.taken) × (new.next ≡ old.next)
+    × (new.form ≡ old.form) × (new.end ≡ old.end + 5 + sum_size old.form + length body) × (new.waits ≡ Some (old.end - 1))
+StageAnswers faults old body epoch (Err errors.Memory) new = Allows old (length body) epoch × (old.room < length body + 5) × OnlyRoom old new
+StageAnswers faults old body epoch (Err (errors.DiskFault n)) new =
+    Allows old (length body) epoch × Rose (faults old.disk) n × (n ≡ faults new.disk) × (new.stopped ≡ Some n)
+    × (new.used ≡ old.used) × (new.count ≡ old.count) × (old.room ≤ new.room) × (new.taken ≡ old.taken)
+    × (new.next ≡ old.next) × (new.form ≡ old.form) × (new.end ≡ old.end) × (new.waits ≡ old.waits)
+StageAnswers faults old body epoch (Err (errors.NotAJournal at)) new = ⊥
+StageAnswers faults old body epoch (Err (errors.Full would limit)) new = (old.stopped ≡ None)
+    × (would ≡ journal_capped (old.used + 5 + length body)) × (limit ≡ limit_of epoch) × (limit < would) × (new ≡ old)
+StageAnswers faults old body epoch (Err (errors.Stopped n)) new = (old.stopped ≡ Some n) × (new ≡ old)
+
+-- What `settle` answers, and what it leaves.
+abbrev pub Settles : {D : Type 0} → (D → ℕ) → JournalState D → Result Unit JournalError → JournalState D → Type 0
+Settles faults old (Ok _) new = (old.stopped ≡ None) × (new ≡ record old { disk = new.disk; waits = None })
+    × (faults new.disk ≡ faults old.disk)
+Settles faults old (Err errors.Memory) new = ⊥
+Settles faults old (Err (errors.DiskFault n)) new = (old.stopped ≡ None) × Rose (faults old.disk) n × (n ≡ faults new.disk)
+    × (new ≡ record old { disk = new.disk; stopped = Some n })
+Settles faults old (Err (errors.NotAJournal at)) new = ⊥
+Settles faults old (Err (errors.Full would limit)) new = ⊥
+Settles faults old (Err (errors.Stopped n)) new = (old.stopped ≡ Some n) × (new ≡ old)
 
 -- What `reserve` answers, and what it leaves.
 abbrev pub Reserves : {D : Type 0} → JournalState D → ℕ → Bool → Result Unit JournalError → JournalState D → Type 0
@@ -119,7 +170,7 @@ CreateRefused faults disk left (errors.Stopped n) = ⊥
 -- What `create` answers of a disk.
 abbrev pub JournalCreates : {D : Type 0} → (D → ℕ) → D → Result (JournalState D) (RefusedStart D) → Type 0
 JournalCreates faults disk (Ok journal) = (faults journal.disk ≡ faults disk) × (journal.used ≡ 9) × (journal.count ≡ 0)
-    × (journal.taken ≡ 0) × (journal.stopped ≡ None) × (journal.form ≡ Plain) × (journal.end ≡ 9)
+    × (journal.taken ≡ 0) × (journal.stopped ≡ None) × (journal.form ≡ Plain) × (journal.end ≡ 9) × (journal.waits ≡ None)
 JournalCreates faults disk (Err refused) = CreateRefused faults disk refused.disk refused.cause
 
 -- Why `recover` refuses a disk: it failed, or its bytes break the grammar there, and then no call of it failed.

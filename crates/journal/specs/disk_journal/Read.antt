@@ -2,7 +2,7 @@
 use Rattle.std.specs.Prelude.{◌≡◌, ◌≢◌, ◌⊎◌, ℕ, Bool, true, false, ◌+◌, ◌*◌, ◌^◌, ◌<◌, ◌≤◌, List, [], ◌∷◌, ◌++◌, length, take, drop, Option, Some, None, Result, Ok, Err}
 use Rattle.spec_wire.specs.messages.Places.{le, number_of}
 use Rattle.spec_journal.specs.Castagnoli.{behind_bytes, crc32c}
-use Rattle.spec_wire.specs.journal.Grammar.{magic, IsClosed, front, AllFit}
+use Rattle.spec_wire.specs.journal.Grammar.{IsClosed, front, AllFit}
 use Rattle.spec_wire.specs.journal.Moments.{Quiet}
 use Rattle.journal.specs.declared.disk_journal.read.Look.{Look}
 use Rattle.journal.specs.declared.disk_journal.read.Look.TheVariants as look

@@ -5,16 +5,17 @@ ghost use Rattle.spec_journal.specs.Castagnoli.{crc32c};
 ghost use Rattle.spec_journal.specs.Forms.{BreaksAt, form_entry, form_sum, StandsFor};
 ghost use Rattle.spec_wire.specs.journal.Moments.{LeavesOnly, Quiet};
 ghost use Rattle.journal.specs.disk_journal.Entry.{IsEntryNew};
-ghost use Rattle.journal.specs.disk_journal.Journal.{JournalState, JournalSettled, JournalAdmits, Appends, Reserves};
+ghost use Rattle.journal.specs.disk_journal.Journal.{JournalState, JournalSettled, JournalWaits, JournalAdmits};
+ghost use Rattle.journal.specs.disk_journal.Journal.{Appends, Reserves, Settles, StageAnswers};
 ghost use Rattle.journal.specs.disk_journal.Journal.{JournalCreates, JournalRecovers, disk_behind};
 ghost use Rattle.journal.specs.disk_journal.Journal.{HandsOut, JournalNextAnswers, HandsOutRest, RestAnswers, HandsOutAll};
 ghost use Rattle.journal.specs.disk_journal.Journal.{AllAnswers, BeforeOrAfter};
 
 use crate::checksum::{Sum, sums_law};
-use crate::disk_journal::entry::write_entry;
 use crate::disk_journal::form::sum_bytes;
 use crate::disk_journal::list::BytesList;
 use crate::disk_journal::read::{Found, NoBody, read_body};
+use crate::disk_journal::waiting::{add_entry, open_waiting, put_entry};
 use crate::disk_journal::{prepare, repair};
 use base_outside::Disk;
 use spec_journal::Form;
@@ -83,6 +84,7 @@ pub struct Journal<D: Disk> {
     count: u64,
     next: u64,
     taken: u64,
+    waits: Option<u64>,
     stopped: Option<u64>,
     buffer: Vec<u8>,
 }
@@ -101,6 +103,7 @@ impl<D: Disk> Model for Journal<D> {
       count = j.count;
       taken = j.taken;
       next = j.next;
+      waits = j.waits;
       stopped = j.stopped;
       room = vec_capacity j.buffer - 4;
     } };
@@ -200,6 +203,7 @@ impl<D: Disk> Journal<D> {
             count: 0,
             next: 8,
             taken: 0,
+            waits: None,
             stopped: None,
             buffer: Vec::new(alloc),
         })
@@ -241,6 +245,7 @@ impl<D: Disk> Journal<D> {
                 count,
                 next: 8,
                 taken: 0,
+                waits: None,
                 stopped: None,
                 buffer: Vec::new(alloc),
             }),
@@ -273,7 +278,7 @@ impl<D: Disk> Journal<D> {
     {
         admit(self.stopped, self.used, body.len() as u64, epoch)?;
         fill(&mut self.buffer, self.form, body)?;
-        if write_entry(&mut self.disk, self.gate, &self.buffer).is_err() {
+        if add_entry(&mut self.disk, self.waits, self.gate, &self.buffer).is_err() {
             let count = self.disk.fault_count();
             // What the disk has of the entry is unknown, so each later call is refused until a recovery has read it.
             self.stopped = Some(count);
@@ -283,7 +288,59 @@ impl<D: Disk> Journal<D> {
         self.used += AROUND + body.len() as u64;
         let number = self.count;
         self.count += 1;
+        self.waits = None;
         Ok(number)
+    }
+
+    /// Writes a body behind a gate that stays closed, and syncs: it waits. The body that waited before is on the disk at Ok: from then on
+    /// each crash leaves a disk that stands for it. A crash at any moment of the call leaves a disk that stands for the bodies before
+    /// that one, or for these and that one; never for the body that is written. Its answers are those of `append`.
+    pub fn stage(&mut self, body: &[u8], epoch: bool) -> Result<(), JournalError>
+        ensures first { D.told → (bodies : List (List ℕ)) → JournalSettled D.seen D.may_leave self.old bodies
+            → OnOk result (JournalWaits D.seen D.may_leave self.new bodies body.now) }
+        ensures first_moment { D.told → (bodies : List (List ℕ)) → JournalSettled D.seen D.may_leave self.old bodies
+            → LeavesOnly D.moment D.left_since self.old.disk self.new.disk (λ c. StandsFor c bodies) }
+        ensures next { D.told → (bodies : List (List ℕ)) (waiting : List ℕ) → JournalWaits D.seen D.may_leave self.old bodies waiting
+            → OnOk result (JournalWaits D.seen D.may_leave self.new (bodies ++ waiting ∷ []) body.now) }
+        ensures next_moment { D.told → (bodies : List (List ℕ)) (waiting : List ℕ) → JournalWaits D.seen D.may_leave self.old bodies waiting
+            → LeavesOnly D.moment D.left_since self.old.disk self.new.disk (BeforeOrAfter bodies waiting) }
+        ensures cause { StageAnswers D.faults self.old body.now epoch result self.new }
+    {
+        admit(self.stopped, self.used, body.len() as u64, epoch)?;
+        fill(&mut self.buffer, self.form, body)?;
+        if put_entry(&mut self.disk, self.waits, self.gate, &self.buffer).is_err() {
+            let count = self.disk.fault_count();
+            self.stopped = Some(count);
+            return Err(JournalError::DiskFault(count));
+        }
+        self.waits = Some(self.gate);
+        self.gate += AROUND + sum_bytes(self.form) + body.len() as u64;
+        self.used += AROUND + body.len() as u64;
+        self.count += 1;
+        Ok(())
+    }
+
+    /// Opens the gate of the body that waits, if one does, and syncs: at Ok it is on the disk. Where none waits it makes no call on the
+    /// disk. `DiskFault` comes only where the disk's count of faults rose, and carries it; from then on each call answers `Stopped` with
+    /// that count.
+    pub fn settle(&mut self) -> Result<(), JournalError>
+        ensures settled { D.told → (bodies : List (List ℕ)) (waiting : List ℕ) → JournalWaits D.seen D.may_leave self.old bodies waiting
+            → OnOk result (JournalSettled D.seen D.may_leave self.new (bodies ++ waiting ∷ [])) }
+        ensures any_moment { D.told → (bodies : List (List ℕ)) (waiting : List ℕ) → JournalWaits D.seen D.may_leave self.old bodies waiting
+            → LeavesOnly D.moment D.left_since self.old.disk self.new.disk (BeforeOrAfter bodies waiting) }
+        ensures none { self.old.waits ≡ None → self.new ≡ self.old }
+        ensures cause { Settles D.faults self.old result self.new }
+    {
+        if let Some(count) = self.stopped {
+            return Err(JournalError::Stopped(count));
+        }
+        if open_waiting(&mut self.disk, self.waits).is_err() {
+            let count = self.disk.fault_count();
+            self.stopped = Some(count);
+            return Err(JournalError::DiskFault(count));
+        }
+        self.waits = None;
+        Ok(())
     }
 
     /// Makes room for a body of so many bytes, and makes no call on the disk. After Ok the next `append`

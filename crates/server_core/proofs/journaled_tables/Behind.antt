@@ -38,6 +38,7 @@ settled_room seen may_leave j r bodies h = record {
   fit = h.fit;
   some_taken = h.some_taken;
   next = h.next;
+  none_waits = h.none_waits;
   goes_on = h.goes_on;
   durable = h.durable;
 }

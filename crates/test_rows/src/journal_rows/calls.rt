@@ -1,5 +1,5 @@
 // Calls of a journal, by the words of a row, with `; ` between them: `append BYTES`, `epoch BYTES` where the body is one of an epoch,
-// `reserve LENGTH`, `next`, `bodies`.
+// `stage BYTES`, `settle`, `reserve LENGTH`, `next`, `bodies`.
 use crate::words::{Fault, Words, push_digits};
 use base_outside::Disk;
 use journal::{Journal, JournalError, RefusedStart};
@@ -50,13 +50,26 @@ fn push_call<D: Disk>(
     match words.next() {
         "append" => push_appended(said, journal, words.bytes(alloc)?.as_slice(), false),
         "epoch" => push_appended(said, journal, words.bytes(alloc)?.as_slice(), true),
-        "reserve" => match journal.reserve(words.small(), false) {
-            Ok(()) => Ok(said.push_str("room")?),
-            Err(error) => Ok(push_refusal(said, error)?),
-        },
+        "stage" => {
+            let body = words.bytes(alloc)?;
+            Ok(push_done(said, journal.stage(body.as_slice(), false), "waits")?)
+        }
+        "settle" => Ok(push_done(said, journal.settle(), "settled")?),
+        "reserve" => Ok(push_done(said, journal.reserve(words.small(), false), "room")?),
         "next" => Ok(push_next(said, journal)?),
         "bodies" => Ok(push_bodies(said, journal)?),
         _ => Err(Fault::Other("an unknown call")),
+    }
+}
+
+fn push_done(
+    said: &mut String,
+    answer: Result<(), JournalError>,
+    word: &str,
+) -> Result<(), AllocError> {
+    match answer {
+        Ok(()) => said.push_str(word),
+        Err(error) => push_refusal(said, error),
     }
 }
 

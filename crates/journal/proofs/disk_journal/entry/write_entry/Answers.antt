@@ -1,50 +1,36 @@
-use Rattle.journal.proofs.disk_journal.Crash.{wrote, kept, gated, ended, done}
+use Rattle.std.proofs.Common.{inl, List, ℕ, drop, length, ◌++◌}
+use Rattle.journal.specs.disk_journal.Entry.{ClosedAt, StaysClosed, IsClosedOrOpened}
+use Rattle.journal.proofs.disk_journal.Moments.{joined, weakened}
 use Rattle.journal.proofs.disk_journal.entry.write_entry.Goals as goal
 
-pub returns-in_err-write_at-clause-any_moment : goal.returns-in_err-write_at-clause-any_moment
-returns-in_err-write_at-clause-any_moment g c = λ told front rest shut ends only.
-    wrote g.D.Disk.seen g.D.Disk.may_leave g.D.Disk.moment g.D.Disk.left_since g.met.D.Disk.only_now front
-    c.args.behind.now rest c.args.gate shut c.args.disk.now ends only
-    c.write_at.new.self c.write_at.ensures.crash c.write_at.ensures.time
-
-pub returns-in_err-sync-clause-any_moment : goal.returns-in_err-sync-clause-any_moment
-returns-in_err-sync-clause-any_moment g c = λ told front rest shut ends only.
-    kept g.D.Disk.seen g.D.Disk.may_leave g.D.Disk.moment g.D.Disk.left_since g.met.D.Disk.only_now front
-    c.args.behind.now rest c.args.gate shut c.args.disk.now ends only
-    c.write_at.new.self c.write_at.ensures.crash c.write_at.ensures.time c.sync.new.self c.sync.ensures.crash c.sync.ensures.time
-
-pub returns-in_err-write_at-2-clause-any_moment : goal.returns-in_err-write_at-2-clause-any_moment
-returns-in_err-write_at-2-clause-any_moment g c = λ told front rest shut ends only.
-    gated g.D.Disk.seen g.D.Disk.may_leave g.D.Disk.moment g.D.Disk.left_since g.met.D.Disk.only_now front
-    c.args.behind.now rest c.args.gate shut c.args.disk.now ends only
-    c.write_at.new.self c.write_at.ensures.crash c.write_at.ensures.time c.sync.new.self c.sync.ensures.crash c.sync.ensures.time
-    (c.in_ok-write_at.ensures.written told) (c.in_ok-sync.ensures.durable told) (c.sync.ensures.seen told)
-    c.write_at-2.new.self c.write_at-2.ensures.crash c.write_at-2.ensures.time
-
-pub returns-in_err-sync-2-clause-any_moment : goal.returns-in_err-sync-2-clause-any_moment
-returns-in_err-sync-2-clause-any_moment g c = λ told front rest shut ends only.
-    ended g.D.Disk.seen g.D.Disk.may_leave g.D.Disk.moment g.D.Disk.left_since g.met.D.Disk.only_now front
-    c.args.behind.now rest c.args.gate shut c.args.disk.now ends only
-    c.write_at.new.self c.write_at.ensures.crash c.write_at.ensures.time c.sync.new.self c.sync.ensures.crash c.sync.ensures.time
-    (c.in_ok-write_at.ensures.written told) (c.in_ok-sync.ensures.durable told) (c.sync.ensures.seen told)
-    c.write_at-2.new.self c.write_at-2.ensures.crash c.write_at-2.ensures.time c.sync-2.new.self c.sync-2.ensures.crash
-    c.sync-2.ensures.time
+pub returns-in_err-stage_entry-clause-any_moment : goal.returns-in_err-stage_entry-clause-any_moment
+returns-in_err-stage_entry-clause-any_moment g c = λ told front rest shut ends only.
+    weakened g.D.Disk.moment g.D.Disk.left_since c.args.disk.now c.stage_entry.new.disk (StaysClosed front)
+    (IsClosedOrOpened front c.args.behind.now) (λ b here. inl here) (c.stage_entry.ensures.any_moment told front rest shut ends only)
 
 pub returns-clause-any_moment : goal.returns-clause-any_moment
 returns-clause-any_moment g c = λ told front rest shut ends only.
-    ended g.D.Disk.seen g.D.Disk.may_leave g.D.Disk.moment g.D.Disk.left_since g.met.D.Disk.only_now front
-    c.args.behind.now rest c.args.gate shut c.args.disk.now ends only
-    c.write_at.new.self c.write_at.ensures.crash c.write_at.ensures.time c.sync.new.self c.sync.ensures.crash c.sync.ensures.time
-    (c.in_ok-write_at.ensures.written told) (c.in_ok-sync.ensures.durable told) (c.sync.ensures.seen told)
-    c.write_at-2.new.self c.write_at-2.ensures.crash c.write_at-2.ensures.time c.sync-2.new.self c.sync-2.ensures.crash
-    c.sync-2.ensures.time
+    let behind : List ℕ = c.args.behind.now in
+    let left : List ℕ = drop (length behind) rest in
+    let first = c.in_ok-stage_entry.ensures.done told front rest shut ends only in
+    let again : ClosedAt c.args.gate front shut (behind ++ left) (g.D.Disk.seen c.stage_entry.new.disk) = record {
+      file = first.0;
+      place = ends.place;
+      closed = ends.closed;
+    } in
+    joined g.D.Disk.moment g.D.Disk.left_since c.args.disk.now c.stage_entry.new.disk c.open_gate.new.disk (IsClosedOrOpened front behind)
+    (weakened g.D.Disk.moment g.D.Disk.left_since c.args.disk.now c.stage_entry.new.disk (StaysClosed front)
+    (IsClosedOrOpened front behind) (λ b here. inl here) (c.stage_entry.ensures.any_moment told front rest shut ends only))
+    (c.open_gate.ensures.any_moment told front behind left shut again first.1)
 
 pub returns-clause-done : goal.returns-clause-done
 returns-clause-done g c = λ told front rest shut ends only.
-    done g.D.Disk.seen g.D.Disk.may_leave g.D.Disk.moment g.D.Disk.left_since g.met.D.Disk.only_now front
-    c.args.behind.now rest c.args.gate shut c.args.disk.now ends only
-    c.write_at.new.self c.write_at.ensures.crash c.write_at.ensures.time c.sync.new.self c.sync.ensures.crash c.sync.ensures.time
-    (c.in_ok-write_at.ensures.written told) (c.in_ok-sync.ensures.durable told) (c.sync.ensures.seen told)
-    c.write_at-2.new.self c.write_at-2.ensures.crash c.write_at-2.ensures.time c.sync-2.new.self c.sync-2.ensures.crash
-    c.sync-2.ensures.time
-    (c.in_ok-write_at-2.ensures.written told) (c.in_ok-sync-2.ensures.durable told) (c.sync-2.ensures.seen told)
+    let behind : List ℕ = c.args.behind.now in
+    let left : List ℕ = drop (length behind) rest in
+    let first = c.in_ok-stage_entry.ensures.done told front rest shut ends only in
+    let again : ClosedAt c.args.gate front shut (behind ++ left) (g.D.Disk.seen c.stage_entry.new.disk) = record {
+      file = first.0;
+      place = ends.place;
+      closed = ends.closed;
+    } in
+    c.open_gate.ensures.done told front behind left shut again first.1

@@ -1,13 +1,12 @@
-use Rattle.std.proofs.Common.{◌≡◌, ℕ, ◌<◌, ◌^◌, [], ◌∷◌, ◌++◌, List, drop, length, false, sym, ◌∙◌, ap, subst, arith, length-append}
+use Rattle.std.proofs.Common.{refl, ◌≡◌, ℕ, ◌<◌, ◌^◌, [], ◌∷◌, ◌++◌, List, drop, length, false, sym, ◌∙◌, ap, subst, arith, length-append}
 use Rattle.std.proofs.lemmas.List.{take-append-le}
 use Rattle.std.specs.Result.{is_err}
-use Rattle.spec_wire.specs.journal.Grammar.{front}
 use Rattle.spec_journal.specs.Forms.{form_entry, form_front}
 use Rattle.spec_wire.specs.journal.Moments.{LeavesOnly}
 use Rattle.journal.specs.disk_journal.Entry.{ClosedAt, IsClosedOrOpened}
 use Rattle.journal.specs.disk_journal.Journal.{JournalSettled, BeforeOrAfter}
 use Rattle.journal.proofs.disk_journal.Moments.{weakened}
-use Rattle.journal.proofs.disk_journal.Grown.{all_fit_push, length-front-push, length-plain-push, pushed, either, ok_part}
+use Rattle.journal.proofs.disk_journal.Grown.{all_fit_push, length-front-push, length-plain-push, pushed, either, ok_part, zero_shut}
 use Rattle.journal.proofs.disk_journal.journal.Journal.append.Goals as goal
 
 pub returns-then-is_err-clause-any_moment : goal.returns-then-is_err-clause-any_moment
@@ -20,13 +19,13 @@ returns-then-is_err-clause-any_moment g c = λ told bodies settled.
     } in
     let behind : c.deref.result.now ≡ form_entry c.self.inside.form c.args.body.now ++ 0 ∷ [] = c.deref.ensures.value ∙ c.in_ok-fill.ensures.filled in
     let small : length c.args.body.now < 2 ^ 32 = omega (arith, c.in_ok-admit.ensures.bound) in
-    let run = c.write_entry.ensures.any_moment told (form_front c.self.inside.form bodies) s.rest s.gate ends s.durable in
-    let whole = weakened g.D.Disk.moment g.D.Disk.left_since c.self.inside.disk c.write_entry.new.disk
+    let run = c.add_entry.ensures.any_moment told s.none_waits (form_front c.self.inside.form bodies) s.rest s.gate ends s.durable in
+    let whole = weakened g.D.Disk.moment g.D.Disk.left_since c.self.inside.disk c.add_entry.new.disk
     (IsClosedOrOpened (form_front c.self.inside.form bodies) c.deref.result.now) (BeforeOrAfter bodies c.args.body.now)
-    (λ f here. either c.self.inside.form bodies c.args.body.now f s.fit small
+    (λ f here. either c.self.inside.form bodies c.args.body.now f 0 zero_shut s.fit small
     (subst (λ l. IsClosedOrOpened (form_front c.self.inside.form bodies) l f) behind
     here)) run in
-    subst (λ j. LeavesOnly g.D.Disk.moment g.D.Disk.left_since j.disk c.write_entry.new.disk
+    subst (λ j. LeavesOnly g.D.Disk.moment g.D.Disk.left_since j.disk c.add_entry.new.disk
     (BeforeOrAfter bodies c.args.body.now)) c.self.view_is whole
 
 pub returns-clause-any_moment : goal.returns-clause-any_moment
@@ -39,13 +38,13 @@ returns-clause-any_moment g c = λ told bodies settled.
     } in
     let behind : c.deref.result.now ≡ form_entry c.self.inside.form c.args.body.now ++ 0 ∷ [] = c.deref.ensures.value ∙ c.in_ok-fill.ensures.filled in
     let small : length c.args.body.now < 2 ^ 32 = omega (arith, c.in_ok-admit.ensures.bound) in
-    let run = c.write_entry.ensures.any_moment told (form_front c.self.inside.form bodies) s.rest s.gate ends s.durable in
-    let whole = weakened g.D.Disk.moment g.D.Disk.left_since c.self.inside.disk c.write_entry.new.disk
+    let run = c.add_entry.ensures.any_moment told s.none_waits (form_front c.self.inside.form bodies) s.rest s.gate ends s.durable in
+    let whole = weakened g.D.Disk.moment g.D.Disk.left_since c.self.inside.disk c.add_entry.new.disk
     (IsClosedOrOpened (form_front c.self.inside.form bodies) c.deref.result.now) (BeforeOrAfter bodies c.args.body.now)
-    (λ f here. either c.self.inside.form bodies c.args.body.now f s.fit small
+    (λ f here. either c.self.inside.form bodies c.args.body.now f 0 zero_shut s.fit small
     (subst (λ l. IsClosedOrOpened (form_front c.self.inside.form bodies) l f) behind
     here)) run in
-    subst (λ j. LeavesOnly g.D.Disk.moment g.D.Disk.left_since j.disk c.write_entry.new.disk
+    subst (λ j. LeavesOnly g.D.Disk.moment g.D.Disk.left_since j.disk c.add_entry.new.disk
     (BeforeOrAfter bodies c.args.body.now)) c.self.view_is whole
 
 pub returns-clause-acknowledged : goal.returns-clause-acknowledged
@@ -57,15 +56,15 @@ returns-clause-acknowledged g c = λ told bodies settled.
       closed = s.closed;
     } in
     let behind : c.deref.result.now ≡ form_entry c.self.inside.form c.args.body.now ++ 0 ∷ [] = c.deref.ensures.value ∙ c.in_ok-fill.ensures.filled in
-    let fine : is_err c.write_entry.result ≡ false = sym c.is_err.ensures.value ∙ c.if-is_err.false in
+    let fine : is_err c.add_entry.result ≡ false = sym c.is_err.ensures.value ∙ c.if-is_err.false in
     let small : length c.args.body.now < 2 ^ 32 = omega (arith, c.in_ok-admit.ensures.bound) in
-    let done = ok_part c.write_entry.result _ fine (c.write_entry.ensures.done told (form_front c.self.inside.form bodies) s.rest s.gate ends s.durable) in (
+    let done = ok_part c.add_entry.result _ fine (c.add_entry.ensures.done told s.none_waits (form_front c.self.inside.form bodies) s.rest s.gate ends s.durable) in (
       s.count,
       record {
         gate = 0;
         rest = drop (length c.deref.result.now) s.rest;
         file = done.0 ∙ ap (λ (l : List ℕ). form_front c.self.inside.form bodies ++ 1 ∷ (l ++ drop (length c.deref.result.now) s.rest)) behind
-            ∙ pushed c.self.inside.form bodies c.args.body.now (drop (length c.deref.result.now) s.rest);
+            ∙ pushed c.self.inside.form bodies c.args.body.now (drop (length c.deref.result.now) s.rest) 0;
         closed = omega arith;
         end = omega (arith, s.end, c.sum_bytes.ensures, length-front-push c.self.inside.form bodies c.args.body.now);
         used = omega (arith, s.used, length-plain-push bodies c.args.body.now);
@@ -74,6 +73,7 @@ returns-clause-acknowledged g c = λ told bodies settled.
         some_taken = omega (arith, s.some_taken, length-append bodies (c.args.body.now ∷ []));
         next = s.next ∙ ap (λ (b : List (List ℕ)). length (form_front c.self.inside.form b))
             (sym (take-append-le c.self.inside.taken bodies (c.args.body.now ∷ []) s.some_taken));
+        none_waits = refl;
         goes_on = s.goes_on;
         durable = done.1;
       },
@@ -82,11 +82,11 @@ returns-clause-acknowledged g c = λ told bodies settled.
 pub returns-then-is_err-clause-stays : goal.returns-then-is_err-clause-stays
 returns-then-is_err-clause-stays g c = λ told bodies settled.
     let run = returns-then-is_err-clause-any_moment g c told bodies settled in
-    run.each (g.D.Disk.seen c.write_entry.new.disk) (g.met.D.Disk.counts_now c.write_entry.new.disk _
-    (g.D.Disk.seen c.write_entry.new.disk) run.later (g.met.D.Disk.seen_may_stay c.write_entry.new.disk told))
+    run.each (g.D.Disk.seen c.add_entry.new.disk) (g.met.D.Disk.counts_now c.add_entry.new.disk _
+    (g.D.Disk.seen c.add_entry.new.disk) run.later (g.met.D.Disk.seen_may_stay c.add_entry.new.disk told))
 
 pub returns-clause-stays : goal.returns-clause-stays
 returns-clause-stays g c = λ told bodies settled.
     let run = returns-clause-any_moment g c told bodies settled in
-    run.each (g.D.Disk.seen c.write_entry.new.disk) (g.met.D.Disk.counts_now c.write_entry.new.disk _
-    (g.D.Disk.seen c.write_entry.new.disk) run.later (g.met.D.Disk.seen_may_stay c.write_entry.new.disk told))
+    run.each (g.D.Disk.seen c.add_entry.new.disk) (g.met.D.Disk.counts_now c.add_entry.new.disk _
+    (g.D.Disk.seen c.add_entry.new.disk) run.later (g.met.D.Disk.seen_may_stay c.add_entry.new.disk told))

@@ -14,6 +14,7 @@ returns-clause-all g c = λ told bodies settled.
       count = c.self.inside.count;
       taken = 0;
       next = 8;
+      waits = c.self.inside.waits;
       stopped = c.self.inside.stopped;
       room = vec_capacity c.self.inside.buffer - 4;
     } in

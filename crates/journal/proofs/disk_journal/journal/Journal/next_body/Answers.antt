@@ -15,7 +15,7 @@ returns-in-Ok-clause-in_order g c = λ told bodies settled.
     let e = begun g.D.Disk.seen g.D.Disk.may_leave bodies _ s c.self.inside.gate refl c.if-self.false in
     let is = c.in-Ok.ensures.body told (form_front c.self.inside.form (take c.self.inside.taken bodies)) (get_or bodies c.self.inside.taken []) _ e in
     let out = handed g.D.Disk.seen g.D.Disk.may_leave bodies _ _ c.in-Ok.body s (λ same. c.if-self.false (omega arith))
-    is (c.read_body.ensures.quiet.same told) c.read_body.ensures.quiet.no_more refl refl refl refl refl refl
+    is (c.read_body.ensures.quiet.same told) c.read_body.ensures.quiet.no_more refl refl refl refl refl refl refl
     (omega (arith, c.sum_bytes.ensures)) in
     (ap (λ j. drop j.taken bodies) (sym c.self.view_is) ∙ out.0, out.1)
 

@@ -6,4 +6,4 @@ pub returns-in-Ok-Behind-clause-settled : goal.returns-in-Ok-Behind-clause-settl
 returns-in-Ok-Behind-clause-settled g c = λ told bodies stood.
     found g.D.Disk.seen g.D.Disk.may_leave bodies c.args.disk _ c.in-Ok-Behind.gate c.in-Ok-Behind.used
     c.in-Ok-Behind.count c.in-Ok-Behind.field-0 c.in-Ok-Behind.field-0-is (c.in-Ok-Behind.ensures.mended told) stood refl refl refl
-    refl refl refl
+    refl refl refl refl

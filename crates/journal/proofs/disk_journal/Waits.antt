@@ -1,0 +1,69 @@
+-- A body that waits behind its closed gate.
+use Rattle.std.proofs.Common.{◌≡◌, inl, inr, ℕ, ◌+◌, ◌^◌, ◌<◌, List, [], ◌∷◌, ◌++◌, length, refl, sym, ◌∙◌, ap, subst, arith}
+use Rattle.std.proofs.Common.{append_assoc}
+use Rattle.std.proofs.lemmas.List.{append-nil}
+use Rattle.spec_wire.specs.journal.Grammar.{AllFit}
+use Rattle.spec_journal.specs.declared.form.Form.{Form}
+use Rattle.spec_journal.specs.Forms.{form_entry, form_front, StandsFor}
+use Rattle.journal.specs.disk_journal.Entry.{ClosedAt, StaysClosed, WaitsAt, IsClosedBeforeOrBehind}
+use Rattle.journal.specs.disk_journal.Journal.{BeforeOrAfter, JournalState, JournalWaits}
+use Rattle.journal.proofs.disk_journal.Grown.{all_fit_push, front-push, length-entry, length-front-push, stands}
+
+-- an open gate and its entry belong to what stands before the next one
+pub front-one : (form : Form) (bodies : List (List ℕ)) (body : List ℕ) → form_front form bodies ++ 1 ∷ form_entry form body
+    ≡ form_front form (bodies ++ body ∷ [])
+front-one form bodies body =
+    ap (λ (l : List ℕ). form_front form bodies ++ 1 ∷ l) (sym (append-nil (form_entry form body)))
+    ∙ front-push form bodies body [] ∙ append-nil (form_front form (bodies ++ body ∷ []))
+
+-- the gate of the body that waits stays closed, or it is open and the one behind it is closed
+pub one_waits : (form : Form) (bodies : List (List ℕ)) (body bytes : List ℕ) → AllFit bodies → length body < 2 ^ 32
+    → IsClosedBeforeOrBehind (form_front form bodies) (form_entry form body) bytes → BeforeOrAfter bodies body bytes
+one_waits form bodies body bytes fit small (inl stays) = inl (inr (stands form bodies bytes fit stays))
+one_waits form bodies body bytes fit small (inr stays) =
+    inr (inr (stands form (bodies ++ body ∷ []) bytes (all_fit_push bodies body fit small)
+    (subst (λ (l : List ℕ). StaysClosed l bytes) (front-one form bodies body) stays)))
+
+-- what stands for these bodies while the gate behind them stays closed
+pub none_more : (form : Form) (bodies : List (List ℕ)) (bytes : List ℕ) → AllFit bodies → StaysClosed (form_front form bodies) bytes
+    → StandsFor bytes bodies
+none_more form bodies bytes fit stays = inr (stands form bodies bytes fit stays)
+
+module _ {D : Type 0} (seen : D → List ℕ) (may_leave : D → List ℕ → Type 0) where
+  -- the entry that waits, its gate and the one at its end
+  pub waits_at : (journal : JournalState D) (bodies : List (List ℕ)) (body : List ℕ) (gate : ℕ)
+      → (w : JournalWaits seen may_leave journal bodies body) → journal.end ≡ gate + 1
+      → WaitsAt (length (form_front journal.form bodies)) gate (form_front journal.form bodies) (form_entry journal.form body) w.gate w.last
+      w.rest (seen journal.disk)
+  waits_at journal bodies body gate w end = record {
+    file = w.file;
+    place = refl;
+    end = omega (arith, end, w.end, length-front-push journal.form bodies body, length-entry journal.form body);
+    closed = w.closed;
+    behind = w.behind;
+  }
+
+  -- the same as a closed gate with an entry, a closed gate and any bytes behind it
+  pub closed_first : (journal : JournalState D) (bodies : List (List ℕ)) (body : List ℕ) (w : JournalWaits seen may_leave journal bodies body)
+      → ClosedAt (length (form_front journal.form bodies)) (form_front journal.form bodies) w.gate
+      ((form_entry journal.form body ++ w.last ∷ []) ++ w.rest) (seen journal.disk)
+  closed_first journal bodies body w = record {
+    file = w.file ∙ ap (λ (l : List ℕ). form_front journal.form bodies ++ w.gate ∷ l)
+        (sym (append_assoc (form_entry journal.form body) (w.last ∷ []) w.rest));
+    place = refl;
+    closed = w.closed;
+  }
+
+-- behind a closed gate, an entry with a closed gate at its end
+pub put_first : (front entry behind left : List ℕ) (gate : ℕ) → behind ≡ entry ++ 0 ∷ []
+    → front ++ gate ∷ (behind ++ left) ≡ front ++ gate ∷ (entry ++ 0 ∷ left)
+put_first front entry behind left gate is =
+    ap (λ (l : List ℕ). front ++ gate ∷ (l ++ left)) is ∙ ap (λ (l : List ℕ). front ++ gate ∷ l) (append_assoc entry (0 ∷ []) left)
+
+-- and the same behind an entry whose gate is open now
+pub put_next : (form : Form) (bodies : List (List ℕ)) (waiting entry behind left : List ℕ) (last : ℕ) → behind ≡ entry ++ 0 ∷ []
+    → (form_front form bodies ++ 1 ∷ form_entry form waiting) ++ last ∷ (behind ++ left)
+    ≡ form_front form (bodies ++ waiting ∷ []) ++ last ∷ (entry ++ 0 ∷ left)
+put_next form bodies waiting entry behind left last is =
+    ap (λ (l : List ℕ). l ++ last ∷ (behind ++ left)) (front-one form bodies waiting)
+    ∙ put_first (form_front form (bodies ++ waiting ∷ [])) entry behind left last is
