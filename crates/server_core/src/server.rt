@@ -24,7 +24,7 @@ use crate::signing::signer_of;
 use crate::standing::standing_of;
 use base_outside::{Disk, Standing};
 use journal::RefusedStart;
-use server_checks::{Config, EventError, ServerEvent};
+use server_checks::{Config, EventError, ServerEvent, Tables};
 use server_effects::Answer;
 use spec_crypto::Signer;
 use std::alloc::{AllocError, Global};
@@ -94,6 +94,13 @@ impl<D: Disk> Server<D> {
         ensures { result.now ≡ config_of self.now }
     {
         &self.state.tables.config
+    }
+
+    /// What it holds but for its journal, for whoever asks whether a LOCK would wait.
+    pub fn tables(&self) -> &Tables
+        ensures { result.now ≡ (state_of self.now).tables }
+    {
+        &self.state.tables
     }
 
     /// The count of faults at which a call of the disk failed.
