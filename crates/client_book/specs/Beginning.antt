@@ -1,5 +1,5 @@
 -- What a channel without a connection is told.
-use Rattle.std.specs.Prelude.{◌≡◌, ℕ, ◌+◌, ◌==◌, Bool, not, ◌&&◌, if◌then◌else◌}
+use Rattle.std.specs.Prelude.{◌≡◌, ℕ, ◌+◌, ◌<◌, ◌==◌, Bool, not, ◌&&◌, if◌then◌else◌}
 use Rattle.client_ends.specs.declared.ends.config.Bound.{Bound}
 use Rattle.spec_crypto.specs.declared.sessions.material.Keys.{Keys}
 use Rattle.spec_exchange.specs.Client.{Client}
@@ -49,9 +49,9 @@ told_begun c s channel first shuns =
     else if c.live then told_live c s shuns
     else told_none c s channel
 
--- the number is the next one of the session that was accepted last
+-- the number, of 16 bits, is the next one of the session that was accepted last
 abbrev pub IsNextIn : Told → Shared → Type 0
-IsNextIn (Bind bound number) s = (bound.keys ≡ s.keys) × (number ≡ s.numbers + 1)
+IsNextIn (Bind bound number) s = (bound.keys ≡ s.keys) × (number ≡ s.numbers + 1) × (number < 65536)
 IsNextIn _ s = Unit {0}
 
 -- a number that was given is given to no other

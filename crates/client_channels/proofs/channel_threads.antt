@@ -1,5 +1,8 @@
 mod Each
 mod Ending
+mod Once
+mod Ordered
+mod Origins
 mod Rising
 mod Seated
 mod Splitting

@@ -1,3 +1,4 @@
+pub mod Nonces
 pub mod Numbers
 pub mod Running
 pub mod Seating

@@ -1,10 +1,9 @@
 -- What comes on a link, call by call.
-use Rattle.std.proofs.Common.{◌≡◌, ℕ, ◌<◌, ◌^◌, ◌||◌, Bool, true, List, [], ◌++◌, inl, inr, length, take}
+use Rattle.std.proofs.Common.{◌≡◌, ℕ, ◌<◌, ◌^◌, ◌||◌, Bool, List, [], ◌++◌, inl, inr, length, take}
 use Rattle.std.proofs.Common.{refl, sym, ap, ◌∙◌, subst, append_assoc}
 use Rattle.std.proofs.lemmas.List.{append-nil}
 use Rattle.base_outside.specs.network.Link.{LinkGives, is_link_end}
 use Rattle.base_outside.specs.streams.Faults.{Rose}
-use Rattle.serve_turns.specs.link_serving.Passage.{Passed}
 use Rattle.spec_wire.specs.messages.Frames.{Breaks, Whole, front}
 use Rattle.spec_wire.specs.declared.messages.refusal.FrameError.{FrameError}
 use Rattle.spec_wire.specs.declared.messages.refusal.FrameError.TheVariants as errors

@@ -1,6 +1,6 @@
 -- What a link took of a text.
 use Rattle.std.proofs.Common.{◌≡◌, ℕ, ◌+◌, ◌-◌, ◌≤◌, List, [], ◌++◌, Ok, Err, length, take, drop}
-use Rattle.std.proofs.Common.{refl, sym, ap, ◌∙◌, subst, append_assoc}
+use Rattle.std.proofs.Common.{sym, ap, ◌∙◌, subst, append_assoc}
 use Rattle.std.specs.Prelude.{Result, OnErr}
 use Rattle.std.proofs.lemmas.List.{take_all, take_rest, take-append-drop}
 use Rattle.std.proofs.Math.Seq.{take-add}

@@ -1,9 +1,9 @@
 -- What holds of each element of a list at its place.
-use Rattle.std.proofs.Common.{◌≡◌, ◌<◌, ℕ, zero, suc, ◌+◌, ◌-◌, List, [], ◌∷◌, ◌++◌, Some, length, get_or, map, reverse, arith, refl, sym}
-use Rattle.std.proofs.Common.{subst, ap, ◌∙◌}
-use Rattle.std.specs.Prelude.{slice_index_or}
-use Rattle.std.specs.Option.{option_to_list}
-use Rattle.std.proofs.lemmas.List.{get_or-map, get_or-reverse, get_or_append_left, get_or_push, length-map, length_push, length-reverse}
+use Rattle.std.proofs.Common.{◌≡◌, ◌<◌, ◌==◌, false, ℕ, zero, suc, ◌+◌, ◌-◌, List, [], ◌∷◌, ◌++◌, length, get_or, map, reverse, arith, refl, sym}
+use Rattle.std.proofs.Common.{subst}
+use Rattle.std.proofs.lemmas.Bool.Decides.{nat_tests}
+use Rattle.std.specs.Prelude.{remove, slice_index_or}
+use Rattle.std.proofs.lemmas.List.{get_or-reverse, get_or_append_left, get_or_push, length_push, length-reverse}
 use Rattle.client_channels.specs.channel_threads.Seating.{EachAt}
 use mathlib.Core.Logic.{dite}
 use native.Mathlib.Decide.{ℕ_discrete}
@@ -31,6 +31,17 @@ module _ {X : Type 0} (P : ℕ → X → Type 0) where
         (λ k d lt. subst (λ (y : X). P k y) (get_or_append_left ys (x ∷ []) d k lt) (whole k d (omega (arith, long, lt)))),
         subst (λ (y : X). P (length ys) y) (get_or_push ys x x (length ys) refl) (whole (length ys) x (omega (arith, long))),
       )
+
+  -- the first one, and those behind it
+  pub each_first : (x : X) (xs : List X) → EachAt P (x ∷ xs) → P 0 x
+  each_first x xs h = h 0 x (omega arith)
+
+  pub each_behind : (x : X) (xs : List X) → EachAt P (x ∷ xs) → EachAt (λ k y. P (k + 1) y) xs
+  each_behind x xs h k d lt = subst (λ (n : ℕ). P n (slice_index_or xs k d)) (omega arith) (h (suc k) d (omega (arith, lt)))
+
+  pub each_cons : (x : X) (xs : List X) → P 0 x → EachAt (λ k y. P (k + 1) y) xs → EachAt P (x ∷ xs)
+  each_cons x xs p h zero d lt = p
+  each_cons x xs p h (suc k) d lt = subst (λ (n : ℕ). P n (slice_index_or xs k d)) (omega arith) (h k d (omega (arith, lt)))
 
   pub at_each : (xs : List X) → EachAt P xs → (k : ℕ) (x : X) → k < length xs → x ≡ slice_index_or xs k x → P k x
   at_each xs h k x lt is = subst (λ (y : X). P k y) (sym is) (h k x lt)
@@ -62,3 +73,11 @@ same_images f g (x ∷ xs) (y ∷ ys) long h =
     let one : f x ≡ g y = h zero x y (omega arith) in
     let rest : map f xs ≡ map g ys = same_images f g xs ys (omega (arith, long)) (λ k d e lt. h (suc k) d e (omega (arith, lt))) in
     λ i. one i ∷ rest i
+
+-- a list from which the first one is taken
+pub first_taken : {X : Type 0} (xs rest : List X) (x : X) → 0 < length xs → x ≡ slice_index_or xs 0 x → rest ≡ remove xs 0 → xs ≡ x ∷ rest
+first_taken [] rest x some at is = absurd (omega (arith, some))
+first_taken (y ∷ ys) rest x some at is = λ i. sym at i ∷ sym is i
+
+pub some_left : (n m : ℕ) → (n == 0) ≡ false → n ≡ m → 0 < m
+some_left n m some is = grind (arith, nat_tests)

@@ -1,10 +1,9 @@
 -- What is known of a client whose channels have ended.
-use Rattle.std.proofs.Common.{◌≡◌, ℕ, Bool, List, [], ◌∷◌, Result, Ok, Err, Some, refl, sym, ap, subst, ◌∙◌}
+use Rattle.std.proofs.Common.{◌≡◌, ℕ, Bool, List, [], ◌∷◌, Result, Ok, Err, Some, sym, ap, subst, ◌∙◌}
 use Rattle.std.specs.Prelude.{Option as Perhaps, OnOk, unwrap_or}
 use Rattle.client_ends.specs.declared.ends.config.ClientConfig.{ClientConfig}
 use Rattle.client_steps.specs.declared.whole_client.client.Client.{Client as Core}
 use Rattle.client_values.specs.declared.operations.values.OpKind.{OpKind}
-use Rattle.serve_turns.specs.declared.shared_book.view.Entry.{Entry}
 use Rattle.serve_turns.specs.declared.shared_book.view.View.{View}
 use Rattle.serve_turns.specs.shared_book.Histories.{entries_of}
 use Rattle.serve_turns.specs.shared_book.Numbers.{AreApart, IsOneOf, numbers_in}
@@ -13,11 +12,13 @@ use Rattle.serve_turns.specs.shared_book.Words.{lasting}
 use Rattle.client_book.specs.Steps.{IsNew}
 use Rattle.client_book.specs.declared.turn.Told.{Told}
 use Rattle.client_book.specs.declared.turn.Turn.{Turn}
-use Rattle.client_channels.specs.channel_threads.Running.{AreChannels, ChannelsRan, HasRun, HasWorked, events_of, salt_of, submits_from}
+use Rattle.client_channels.specs.channel_threads.Nonces.{AreChannels, HasWorked}
+use Rattle.client_channels.specs.channel_threads.Running.{ChannelsRan, HasRun, events_of, salt_of, submits_from}
 use Rattle.client_channels.specs.channel_threads.Seating.{KeepsOwn}
 use Rattle.client_channels.specs.channel_turns.Rounds.{GoesRound, been}
 use Rattle.client_channels.specs.channel_turns.Turning.{Placed}
 use Rattle.client_channels.specs.declared.channel_turns.shared_client.ClientTurns.{ClientTurns}
+use Rattle.client_channels.proofs.channel_threads.Once.{never_twice}
 use Rattle.client_channels.proofs.channel_threads.Rising.{numbers_rise}
 use Rattle.client_channels.proofs.channel_threads.Seated.{is_whole}
 
@@ -69,5 +70,9 @@ module _ {K : Type 0} (told : Type 0) (given left written : K → List ℕ) (fau
         none_else = λ place e at. subst (λ (n : ℕ). IsOneOf e.seat (n ∷ numbers_in w.ended)) number
             (c.none_else (is_whole w number made) place e at);
         numbers = numbers_rise c.opening run.last c.log c.replays;
+        nonces = λ differ d.
+            never_twice told given left written faults ended bars config seed net_faults (salt_of seed) c.opening run.last c.log count w.ended
+            (subst (λ (b : ClientTurns). IsNew (salt_of seed) b.book) (opening_is c.opening first w.opening c.opens opens) new) c.replays
+            c.ended_are (c.apart).1 channels differ d;
         ends = run.ends;
       }

@@ -11,7 +11,7 @@ use Rattle.serve_turns.specs.declared.shared_book.view.Entry.{Entry}
 use Rattle.serve_turns.specs.shared_book.Histories.{Replays}
 use Rattle.spec_crypto.specs.declared.sessions.material.Keys.{Keys}
 use Rattle.client_book.specs.Beginning.{IsNextIn, Shared, behind_begun}
-use Rattle.client_book.specs.Steps.{FailsBy, GivesUp, Goes, Happens, Stops, TellsAct, ended_on, failing, is_nothing, shared_of}
+use Rattle.client_book.specs.Steps.{FailsBy, Goes, Happens, TellsAct, ended_on, failing, is_nothing, shared_of}
 use Rattle.client_book.specs.declared.book.ClientBook.{ClientBook}
 use Rattle.client_book.specs.declared.turn.Told.{Told}
 use Rattle.client_book.specs.declared.turn.Told.TheVariants as tells
@@ -51,7 +51,7 @@ not_by_failing false old new s told (inr (rests, shared, is, live)) b n e = not_
 
 -- the next number, which is then the highest, with the keys of the session that was accepted last
 abbrev IsNext : ClientBook → ClientBook → Bound → ℕ → Type 0
-IsNext old new b n = (n ≡ old.numbers + 1) × (new.numbers ≡ n) × (b.keys ≡ old.keys)
+IsNext old new b n = (n ≡ old.numbers + 1) × (new.numbers ≡ n) × (b.keys ≡ old.keys) × (n < 65536)
 
 next_begun : (old new : ClientBook) (told : Told) (b : Bound) (n : ℕ) → told ≡ tells.Bind b n → shared_of new ≡ behind_begun told
     (shared_of old)
@@ -60,7 +60,7 @@ next_begun old new told b n e shared next =
     let given : IsNextIn (tells.Bind b n) (shared_of old) = subst (λ (t : Told). IsNextIn t (shared_of old)) e next in
     let behind : shared_of new ≡ behind_begun (tells.Bind b n) (shared_of old) =
     subst (λ (t : Told). shared_of new ≡ behind_begun t (shared_of old)) e shared in
-    (given.1, ap (λ (s : Shared). s.numbers) behind, given.0)
+    (given.1, ap (λ (s : Shared). s.numbers) behind, given.0, given.2)
 
 next_of : (old new : ClientBook) (turn : Turn) (told : Told) → Goes old turn told new → (b : Bound) (n : ℕ) → told ≡ tells.Bind b n
     → IsNext old new b n
@@ -177,6 +177,11 @@ above_none n from to [] i replays g = absurd (none_at g.entry g.stands)
 above_none n from to (e ∷ es) zero (next, step, rest) g = let more = (at_first e es n from next step g).1.0 in omega arith
 above_none n from to (e ∷ es) (suc i) (next, step, rest) g = above_none n next to es i rest (at_later e es i n g)
 
+below_given : (n : ℕ) (from to : ClientTurns) (log : Log) (i : ℕ) → Replays TurnSteps from log to → GivesAt log i n → n < 65536
+below_given n from to [] i replays g = absurd (none_at g.entry g.stands)
+below_given n from to (e ∷ es) zero (next, step, rest) g = (at_first e es n from next step g).1.3
+below_given n from to (e ∷ es) (suc i) (next, step, rest) g = below_given n next to es i rest (at_later e es i n g)
+
 above_both : (m n : ℕ) (from to : ClientTurns) (log : Log) (i j : ℕ) → Replays TurnSteps from log to → i < j → GivesAt log i m
     → GivesAt log j n
     → NoneAccepted log i j → m < n
@@ -282,9 +287,38 @@ keyed_both k n from to (e ∷ es) (suc i) (suc j) (next, step, rest) lt a g none
     (record { entry = a.entry; session = a.session; stands = a.stands; accepts = a.accepts }) (at_later e es j n g)
     (λ h x low less at. none (suc h) x (omega (arith, low)) (omega (arith, less)) at)
 
+-- ---- no session was accepted
+
+-- memory ran out, or the keys are of none
+abbrev IsBare : ClientTurns → Type 0
+IsBare b = (b.book.stopped ≡ true) ⊎ (b.book.keys.cipher ≡ 0)
+
+bare_on : (old new : ClientTurns) (turn : Turn) (told : Told) → TurnSteps old turn told new → (AcceptsSession turn → ⊥) → IsBare old
+    → IsBare new
+bare_on old new turn told (inl stops) other h = inl stops.stopped
+bare_on old new turn told (inr (going, goes)) other (inl stopped) = absurd (let both : true ≡ false = sym stopped ∙ going in cc)
+bare_on old new turn told (inr (going, goes)) other (inr zero_is) =
+    inr (ap (λ (k : Keys). k.cipher) (keys_stay old.book new.book turn told other goes) ∙ zero_is)
+
+bare_given : (n : ℕ) (b : Bound) (old new : ClientTurns) → (old.book.stopped ≡ false) × IsNext old.book new.book b n → IsBare old
+    → b.keys.cipher ≡ 0
+bare_given n b old new (going, next) (inl stopped) = absurd (let both : true ≡ false = sym stopped ∙ going in cc)
+bare_given n b old new (going, next) (inr zero_is) = ap (λ (k : Keys). k.cipher) next.2 ∙ zero_is
+
+-- one that was bound is bound with these
+pub bare_from : (n : ℕ) (from to : ClientTurns) (log : Log) (j : ℕ) → Replays TurnSteps from log to → IsBare from → (g : GivesAt log j n)
+    → ((i : ℕ) (e : Entry Turn Told) → i < j → slice_get log i ≡ Some e → AcceptsSession e.event → ⊥) → g.bound.keys.cipher ≡ 0
+unfolding at_later
+bare_from n from to [] j replays h g none = absurd (none_at g.entry g.stands)
+bare_from n from to (e ∷ es) zero (next, step, rest) h g none = bare_given n g.bound from next (at_first e es n from next step g) h
+bare_from n from to (e ∷ es) (suc j) (next, step, rest) h g none =
+    bare_from n next to es j rest (bare_on from next e.event e.reply step (none 0 e (omega arith) refl) h) (at_later e es j n g)
+    (λ i x lt at. none (suc i) x (omega (arith, lt)) at)
+
 pub numbers_rise : (from to : ClientTurns) (log : List (Entry Turn Told)) → Replays TurnSteps from log to → BoundNumbersRise log
 numbers_rise from to log replays = record {
   above = λ i n g. above_none n from to log i replays g;
+  below = λ i n g. below_given n from to log i replays g;
   rise = λ i j m n lt g h none. above_both m n from to log i j replays lt g h none;
   of_session = λ i j n keys lt a g none. keyed_both keys n from to log i j replays lt a g none;
 }

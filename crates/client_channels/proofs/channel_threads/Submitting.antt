@@ -1,5 +1,5 @@
 -- Operations that are submitted one behind another.
-use Rattle.std.proofs.Common.{◌≡◌, ℕ, ◌+◌, List, [], ◌∷◌, ◌++◌, length, map, reverse, arith, refl, sym, ap, ◌∙◌}
+use Rattle.std.proofs.Common.{◌≡◌, ℕ, ◌+◌, List, [], ◌∷◌, ◌++◌, length, reverse, arith, refl, sym, ap, ◌∙◌}
 use Rattle.std.proofs.lemmas.List.{append-nil, append_assoc, map-append, reverse-append}
 use Rattle.client_values.specs.declared.operations.values.OpKind.{OpKind}
 use Rattle.client_book.specs.declared.turn.Turn.{Turn}

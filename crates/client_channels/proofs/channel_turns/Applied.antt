@@ -1,5 +1,5 @@
 -- What a turn at the client tells, from what the seat's call tells.
-use Rattle.std.proofs.Common.{◌≡◌, ◌⊎◌, ℕ, List, [], ◌∷◌, ◌++◌, inl, inr, refl, sym, subst}
+use Rattle.std.proofs.Common.{ℕ, List, [], ◌∷◌, ◌++◌, inl, inr, sym, subst}
 use Rattle.client_events.specs.declared.event_calls.steps.Act.{Act}
 use Rattle.client_events.specs.declared.event_calls.steps.Act.TheVariants as acts
 use Rattle.client_steps.specs.declared.whole_client.client.Client.{Client as Core}
@@ -7,13 +7,12 @@ use Rattle.serve_turns.specs.declared.shared_book.view.Entry.{Entry}
 use Rattle.serve_turns.specs.declared.shared_book.view.View.{View}
 use Rattle.serve_turns.specs.shared_book.Histories.{Replays, entry_of}
 use Rattle.serve_turns.specs.shared_book.Seats.{Applied}
-use Rattle.client_book.specs.Steps.{ClientSteps, Stops, TellsAct, TellsRequest}
+use Rattle.client_book.specs.Steps.{ClientSteps, TellsAct}
 use Rattle.client_channels.specs.channel_turns.Sharing.{TurnSteps}
 use Rattle.client_channels.specs.channel_turns.Turning.{CanSendTold}
 use Rattle.client_channels.specs.declared.channel_turns.shared_client.ClientTurns.{ClientTurns}
 use Rattle.client_book.specs.declared.book.ClientBook.{ClientBook}
 use Rattle.client_book.specs.declared.turn.Told.{Told}
-use Rattle.client_book.specs.declared.turn.Told.TheVariants as tells
 use Rattle.client_book.specs.declared.turn.Turn.{Turn}
 use Rattle.client_book.specs.declared.turn.Turn.TheVariants as turns
 

@@ -8,12 +8,12 @@ use Rattle.client_ends.specs.declared.line_calls.incoming.Answer.{Answer}
 use Rattle.client_ends.specs.dialog_calls.Turning.{DialogHears}
 use Rattle.client_ends.specs.ends.Shown.{ShowsDialog, ShowsLine, token_of}
 use Rattle.client_ends.specs.line_calls.Interim.{LineGives}
-use Rattle.client_ends.specs.line_calls.Sending.{IsRequest, LineSends}
+use Rattle.client_ends.specs.line_calls.Sending.{IsRequest, LineCounts, LineSends}
 use Rattle.spec_exchange.specs.State.{Message}
 use Rattle.spec_world.specs.Ends.{ClientEnd}
 use Rattle.wire_bytes.specs.declared.headers.request.Request.{Request}
-use Rattle.client_channels.specs.channel_turns.Asides.{DialogTakes, LineGoes, LineTakes, TakesOrLoses}
-use Rattle.client_channels.specs.channel_turns.Sides.{Breaks, Hears, Lost, Runs, Says, Talks, number_in, side_heard}
+use Rattle.client_channels.specs.channel_turns.Asides.{DialogTakes, LineGoes, LineTakes}
+use Rattle.client_channels.specs.channel_turns.Sides.{Breaks, Hears, Runs, Says, number_in, side_heard}
 use Rattle.client_channels.specs.declared.channel_turns.starting.Aim.{Aim}
 
 pub dialog_takes : (a : Aim) (d : Dialog) (message : List ℕ) (number : ℕ) (h : Heard) (behind : Dialog) → number ≡ number_in a
@@ -36,8 +36,8 @@ line_breaks l message behind gives = inr (inr (behind, gives, refl))
 
 pub line_goes : (l : Line) (r : Request) (frame : List ℕ) (behind : Line)
     → ((n : ClientEnd) (m : Message) (charge : ℕ) → ShowsLine l n → IsRequest r m charge → m.message_id ≡ n.purse.next
-    → LineSends n m charge (token_of r.token) behind (Ok frame)) → LineGoes l r (Says frame (Runs behind))
-line_goes l r frame behind sends = inl (frame, behind, sends, refl)
+    → LineSends n m charge (token_of r.token) behind (Ok frame)) → LineCounts l behind (Ok frame) → LineGoes l r (Says frame (Runs behind))
+line_goes l r frame behind sends counts = inl (frame, behind, sends, counts, refl)
 
 pub line_spent : (l : Line) (r : Request) (behind : Line)
     → ((n : ClientEnd) (m : Message) (charge : ℕ) → ShowsLine l n → IsRequest r m charge → m.message_id ≡ n.purse.next

@@ -1,16 +1,14 @@
 -- Steps of a channel on its link, one behind another.
-use Rattle.std.proofs.Common.{◌≡◌, ℕ, zero, suc, Bool, List, [], ◌++◌, inl, inr, refl, sym, ap, subst, ◌∙◌}
-use Rattle.base_outside.specs.streams.Faults.{Rose}
+use Rattle.std.proofs.Common.{◌≡◌, ℕ, zero, suc, Bool, List, [], ◌++◌, inl, inr, refl, sym, subst}
 use Rattle.serve_turns.specs.link_serving.Passage.{Passed}
-use Rattle.spec_wire.specs.messages.Frames.{frame_spelling}
-use Rattle.client_channels.specs.channel_links.Coming.{Comes, FrameComes, IsOver, OverComes}
+use Rattle.client_channels.specs.channel_links.Coming.{Comes, IsOver, OverComes}
 use Rattle.client_channels.specs.channel_links.Going.{SaysOn}
 use Rattle.client_channels.specs.channel_turns.Asides.{Asides, TakesOrLoses}
 use Rattle.client_channels.specs.channel_turns.Links as links
 use Rattle.client_channels.specs.channel_turns.Links.{ComesIf, GivesNoMore, IsAside, IsOverBy, Loses, On, Passes, Reads, StepBy, StepsIn}
 use Rattle.client_channels.specs.channel_turns.Links.{TakesFrame, Waits}
 use Rattle.client_channels.specs.channel_turns.Links.{Writes, WritesPart, on}
-use Rattle.client_channels.specs.channel_turns.Sides.{Ends, Lost, Says, Side, over}
+use Rattle.client_channels.specs.channel_turns.Sides.{Lost, Says, Side, over}
 use Rattle.client_channels.specs.channel_turns.Turning.{Placed}
 use Rattle.client_channels.specs.declared.channel_links.taking.Came.{Came}
 use Rattle.client_channels.specs.declared.channel_links.taking.Came.TheVariants.{Frame, Lack, Over}

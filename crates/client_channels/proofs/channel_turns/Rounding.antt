@@ -1,9 +1,9 @@
 -- Rounds of a channel, one behind another.
-use Rattle.std.proofs.Common.{◌≡◌, ◌⊎◌, ℕ, zero, suc, Bool, List, [], ◌++◌, Some, None, Option, inl, inr, refl, sym, ap, subst, ◌∙◌}
+use Rattle.std.proofs.Common.{◌≡◌, ◌⊎◌, ℕ, zero, suc, Bool, List, Some, None, inl, inr, refl, sym, ap}
 use Rattle.client_ends.specs.declared.ends.config.ClientConfig.{ClientConfig}
 use Rattle.serve_turns.specs.link_serving.Passage.{IsNewLink}
 use Rattle.client_channels.specs.channel_turns.Asides.{TellsLack}
-use Rattle.client_channels.specs.channel_turns.Rounds.{AsksOnce, Been, Connects, Fails, GoesRound, NetFailed, Lacks, Rests, Round, RoundsIn}
+use Rattle.client_channels.specs.channel_turns.Rounds.{AsksOnce, Been, Connects, Fails, GoesRound, NetFailed, Lacks, Rests, Round}
 use Rattle.client_channels.specs.channel_turns.Rounds.{UsesLink, been}
 use Rattle.client_channels.specs.channel_turns.Sides.{Ends, aim_of}
 use Rattle.client_channels.specs.channel_turns.Turning.{Placed, TurnsOnce}

@@ -1,7 +1,7 @@
 -- Steps of a channel while nothing passes over its link, one behind another.
-use Rattle.std.proofs.Common.{◌≡◌, ℕ, zero, suc, List, [], ◌∷◌, ◌++◌, refl, sym, ap, subst, ◌∙◌}
+use Rattle.std.proofs.Common.{ℕ, zero, suc, List, refl, sym, subst}
 use Rattle.client_channels.specs.channel_turns.Asides as asides
-use Rattle.client_channels.specs.channel_turns.Asides.{AsideBy, Asides, AsidesIn, GoesOn, HasTurn, Lacks, Moves, TellsLack}
+use Rattle.client_channels.specs.channel_turns.Asides.{AsideBy, Asides, AsidesIn, HasTurn, Lacks, TellsLack}
 use Rattle.client_channels.specs.channel_turns.Sides.{Ends, Side, TakesTurn}
 use Rattle.client_channels.specs.channel_turns.Turning.{Placed, TurnsOnce}
 use Rattle.client_channels.specs.declared.channel_turns.starting.Aim.{Aim}

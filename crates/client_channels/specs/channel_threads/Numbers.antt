@@ -30,10 +30,11 @@ pub record GivesAt (log : List (Entry Turn Told)) (place number : ℕ) : Type 0 
 abbrev pub NoneAccepted : List (Entry Turn Told) → ℕ → ℕ → Type 0
 NoneAccepted log i j = (k : ℕ) (e : Entry Turn Told) → i < k → k < j → slice_get log k ≡ Some e → AcceptsSession e.event → ⊥
 
--- Of two numbers that were given while no further session was accepted, the later one is the larger. One that was given in a session is
--- above 1, the number of the channel that made the session, and its channel is bound with that session's keys.
+-- A number has two bytes, as in a nonce. Of two that were given while no further session was accepted, the later one is the larger. One that
+-- was given in a session is above 1, the number of the channel that made the session, and its channel is bound with that session's keys.
 pub record BoundNumbersRise (log : List (Entry Turn Told)) : Type 0 where
   pub above : (i n : ℕ) → GivesAt log i n → 0 < n
+  pub below : (i n : ℕ) → GivesAt log i n → n < 65536
   pub rise : (i j m n : ℕ) → i < j → GivesAt log i m → GivesAt log j n → NoneAccepted log i j → m < n
   pub of_session : (i j n : ℕ) (keys : Keys) → i < j → AcceptsAt log i keys → (g : GivesAt log j n) → NoneAccepted log i j
       → (1 < n) × (g.bound.keys ≡ keys)

@@ -1,5 +1,5 @@
 -- A client's channels from its first operation to its last outcome.
-use Rattle.std.specs.Prelude.{◌≡◌, ℕ, ◌+◌, ◌-◌, ◌<◌, Bool, true, false, List, [], ◌∷◌, map, length, take, slice_get, Some}
+use Rattle.std.specs.Prelude.{◌≡◌, ℕ, ◌+◌, Bool, true, false, List, [], ◌∷◌, map, take, slice_get, Some}
 use Rattle.std.specs.Int.{from_le_bytes, w64}
 use Rattle.client_ends.specs.declared.ends.config.ClientConfig.{ClientConfig}
 use Rattle.client_steps.specs.declared.whole_client.client.Client.{Client as Core}
@@ -20,9 +20,8 @@ use Rattle.client_book.specs.declared.turn.Told.{Told}
 use Rattle.client_book.specs.declared.turn.Turn.{Turn}
 use Rattle.client_book.specs.declared.turn.Turn.TheVariants as turns
 use Rattle.client_channels.specs.Draws.{channel_draw}
+use Rattle.client_channels.specs.channel_threads.Nonces.{AreChannels, NoNonceTwice, SessionKeysDiffer}
 use Rattle.client_channels.specs.channel_threads.Numbers.{BoundNumbersRise}
-use Rattle.client_channels.specs.channel_threads.Seating.{EachAt}
-use Rattle.client_channels.specs.channel_turns.Rounds.{GoesRound, been}
 use Rattle.client_channels.specs.channel_turns.Sharing.{TurnSteps}
 use Rattle.client_channels.specs.channel_turns.Turning.{Placed}
 use Rattle.client_channels.specs.declared.channel_turns.shared_client.ClientTurns.{ClientTurns}
@@ -53,15 +52,6 @@ pub record HasRun (v : View ClientTurns Turn Told) (client : Core) : Type 0 wher
 
 module _ {K : Type 0} (told : Type 0) (given left written : K → List ℕ) (faults : K → ℕ) (ended : K → Bool) (bars : ℕ → ℕ → Type 0)
     (config : ClientConfig) (seed : List ℕ) {N : Type 0} (net_faults : N → ℕ) where
-  -- these are all turns of a channel, from its first to its last
-  abbrev pub HasWorked : ℕ → List Placed → Type 0
-  HasWorked channel own =
-      (draws : ℕ) × GoesRound told given left written faults ended bars config seed channel net_faults (been [] 0) (been own draws)
-
-  -- the seats of so many channels, each with its number and its entries; the last channel's stands first
-  abbrev pub AreChannels : ℕ → List (ℕ × List Placed) → Type 0
-  AreChannels count seats = (length seats ≡ count) × EachAt (λ k x. HasWorked (count - 1 - k) x.1) seats
-
   -- So many channels ran these operations. All turns at the client are one history from a new client on. The seat of number 0 submits the
   -- operations, in order. Each further turn is one of a channel, which has a seat of its own. At its end every operation is settled, and the
   -- client is the one that the history gives.
@@ -74,8 +64,10 @@ module _ {K : Type 0} (told : Type 0) (given left written : K → List ℕ) (fau
     pub submits : events_of (entries_of 0 0 log) ≡ submits_from 1 ops
     pub seats : List (ℕ × List Placed)
     pub entries : HaveAll log seats
-    pub channels : AreChannels count seats
+    pub channels : AreChannels told given left written faults ended bars config seed net_faults count seats
     pub apart : AreApart (0 ∷ numbers_in seats)
     pub none_else : (place : ℕ) (e : Entry Turn Told) → slice_get log place ≡ Some e → IsOneOf e.seat (0 ∷ numbers_in seats)
     pub numbers : BoundNumbersRise log
+    pub nonces : SessionKeysDiffer log → (d : ℕ × List Placed)
+        → NoNonceTwice told given left written faults ended bars config seed net_faults count seats channels d
     pub ends : EndsAs last.book client

@@ -8,7 +8,7 @@ use Rattle.client_ends.specs.declared.line_calls.incoming.Answer.{Answer}
 use Rattle.client_ends.specs.dialog_calls.Turning.{DialogHears}
 use Rattle.client_ends.specs.ends.Shown.{ShowsDialog, ShowsLine, token_of}
 use Rattle.client_ends.specs.line_calls.Interim.{LineGives}
-use Rattle.client_ends.specs.line_calls.Sending.{IsRequest, LineSends}
+use Rattle.client_ends.specs.line_calls.Sending.{IsRequest, LineCounts, LineSends}
 use Rattle.spec_exchange.specs.State.{Message}
 use Rattle.spec_world.specs.Ends.{ClientEnd}
 use Rattle.wire_bytes.specs.declared.headers.request.Request.{Request}
@@ -45,13 +45,13 @@ TakesOrLoses a side message s = Takes a side message s ⊎ (s ≡ Lost)
 
 -- ---- what it does by itself
 
--- a request becomes a frame of its line, or no nonce is left for it
+-- a request becomes a frame of its line, sealed under its next nonce where it seals; or no nonce is left for it
 abbrev pub LineGoes : Line → Request → Side → Type 0
 LineGoes l r s =
     ((frame : List ℕ) × (behind : Line)
     × ((n : ClientEnd) (m : Message) (charge : ℕ) → ShowsLine l n → IsRequest r m charge → m.message_id ≡ n.purse.next
     → LineSends n m charge (token_of r.token) behind (Ok frame))
-    × (s ≡ Says frame (Runs behind)))
+    × LineCounts l behind (Ok frame) × (s ≡ Says frame (Runs behind)))
     ⊎ ((behind : Line)
     × ((n : ClientEnd) (m : Message) (charge : ℕ) → ShowsLine l n → IsRequest r m charge → m.message_id ≡ n.purse.next
     → LineSends n m charge (token_of r.token) behind (Err Spent))

@@ -1,9 +1,9 @@
 -- What a channel does on a link, step by step: what it reads and writes there, and what it does meanwhile.
-use Rattle.std.specs.Prelude.{◌≡◌, ◌⊎◌, ℕ, zero, suc, Bool, List, [], ◌∷◌, ◌++◌, Option, None, Some, Result, Ok, Err}
+use Rattle.std.specs.Prelude.{◌≡◌, ◌⊎◌, ℕ, zero, suc, Bool, List, [], ◌++◌, Option, None, Some, Result, Ok, Err}
 use Rattle.base_outside.specs.streams.Faults.{Rose}
 use Rattle.serve_turns.specs.link_serving.Passage.{Passed}
 use Rattle.spec_wire.specs.messages.Frames.{Whole, frame_spelling, front}
-use Rattle.client_channels.specs.channel_links.Coming.{FrameComes, GivesNone, IsOver, OverComes}
+use Rattle.client_channels.specs.channel_links.Coming.{FrameComes, IsOver, OverComes}
 use Rattle.client_channels.specs.channel_turns.Asides.{Asides, TakesOrLoses}
 use Rattle.client_channels.specs.channel_turns.Sides.{Ends, Lost, Runs, Says, Side, Talks, over}
 use Rattle.client_channels.specs.channel_turns.Turning.{Placed}

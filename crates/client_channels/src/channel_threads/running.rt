@@ -1,15 +1,17 @@
 //! The channels of a client, from its first operation to its last outcome.
-ghost use Rattle.std.specs.Prelude.{◌≡◌, ℕ, ◌<◌, ◌^◌, [], length, map, reverse, vec_len, IfOk, OnOk};
+ghost use Rattle.std.specs.Prelude.{◌≡◌, ℕ, ◌+◌, ◌<◌, ◌^◌, [], ◌∷◌, length, map, reverse, vec_len, IfOk, OnOk};
 ghost use Rattle.client_ends.specs.dialog_requests.Dialogs.{CanOffer};
 ghost use Rattle.serve_turns.specs.shared_book.Numbers.{numbers_in};
 ghost use Rattle.serve_turns.specs.shared_book.Turns.{first_view};
 ghost use Rattle.serve_turns.specs.shared_book.Words.{lasting, view_of, AreOfOneBook, IsSameSeat, IsSeatOf};
 ghost use Rattle.client_book.specs.Steps.{IsNew};
-ghost use Rattle.client_channels.specs.channel_threads.Running.{AreChannels, ChannelsRan, EndsAs, HasRun, HasWorked, events_of, salt_of};
+ghost use Rattle.client_channels.specs.channel_threads.Nonces.{AreChannels, HasWorked};
+ghost use Rattle.client_channels.specs.channel_threads.Running.{ChannelsRan, EndsAs, HasRun, events_of, salt_of};
 ghost use Rattle.client_channels.specs.channel_threads.Running.{submits_from};
 ghost use Rattle.client_channels.specs.channel_threads.Seating.{EachAt, IsAlone, KeepsOwn, seat_told};
 ghost use Rattle.client_channels.specs.channel_turns.Rounds.{GoesRound, been};
 ghost use Rattle.client_channels.specs.declared.channel_turns.shared_client.ClientTurns.{ClientTurns as BookHeld};
+ghost use denote.Param.Send.{IsSend, IsSync};
 
 use crate::channel_turns::{ChannelWorked, ClientTurns, Gate, News, Outside, Worked, ask, work};
 use crate::draws::{OF_THE_CLIENT, draw_8};
@@ -99,8 +101,8 @@ fn jobs_of<W: Wait>(
     Ok(jobs)
 }
 
-/// The channels run, each on a thread of its own where one is to be had, until each has ended.
-fn work_all<W, N, G>(
+/// The channels behind the first run, each on a thread of its own where one is to be had, until each has ended.
+fn work_others<W, N, G>(
     rt: &W,
     outside: &Outside<N>,
     config: &ClientConfig,
@@ -112,13 +114,13 @@ where
     W: Wait + Threads + Sync,
     N: Net + Drop + Send,
     G: Gate,
-    requires own { EachAt (λ k j. IsSeatOf book.now j.seat × (j.channel ≡ k) × IsAlone (view_of j.seat) × ((view_of j.seat).own ≡ []))
+    requires own { EachAt (λ k j. IsSeatOf book.now j.seat × (j.channel ≡ k + 1) × IsAlone (view_of j.seat) × ((view_of j.seat).own ≡ []))
         jobs.items }
     requires offers { CanOffer config.now }
     ensures own { IfOk result (λ v. EachAt (λ k w. IsSeatOf book.now w.seat × IsAlone (view_of w.seat)) v.items) }
     ensures works { IfOk result (λ v. EachAt (λ k w. HasWorked N.L.told N.L.given N.L.left N.L.written N.L.faults N.L.ended
         (G.bars gate.now) config.now outside.now.seed
-        N.faults k (view_of w.seat).own) v.items) }
+        N.faults (k + 1) (view_of w.seat).own) v.items) }
     ensures numbers { IfOk result (λ v. map (λ w. (view_of w.seat).number) v.items ≡ map (λ j. (view_of j.seat).number) jobs.items) }
 {
     let given = thread::map_vec(
@@ -137,6 +139,89 @@ where
         },
     )?;
     Ok(given)
+}
+
+/// The first channel runs in this thread, and the others beside it, or behind it where no thread is to be had: they wait for the session
+/// that it makes.
+fn work_beside<W, N, G>(
+    rt: &W,
+    outside: &Outside<N>,
+    config: &ClientConfig,
+    gate: &G,
+    book: &SharedBook<ClientTurns>,
+    first: BookSeat<ClientTurns>,
+    others: Vec<ChannelJob>,
+) -> Result<Vec<ChannelWorked<N::L>>, AllocError>
+where
+    W: Wait + Threads + Sync,
+    N: Net + Drop + Send,
+    G: Gate,
+    requires first { IsSeatOf book.now first × IsAlone (view_of first) × ((view_of first).own ≡ []) }
+    requires others { EachAt (λ k j. IsSeatOf book.now j.seat × (j.channel ≡ k + 1) × IsAlone (view_of j.seat)
+        × ((view_of j.seat).own ≡ [])) others.items }
+    requires offers { CanOffer config.now }
+    ensures own { IfOk result (λ v. EachAt (λ k w. IsSeatOf book.now w.seat × IsAlone (view_of w.seat)) v.items) }
+    ensures works { IfOk result (λ v. EachAt (λ k w. HasWorked N.L.told N.L.given N.L.left N.L.written N.L.faults N.L.ended
+        (G.bars gate.now) config.now outside.now.seed
+        N.faults k (view_of w.seat).own) v.items) }
+    ensures numbers { IfOk result (λ v. map (λ w. (view_of w.seat).number) v.items
+        ≡ (view_of first).number ∷ map (λ j. (view_of j.seat).number) others.items) }
+{
+    let (worked, mine) = thread::join(
+        rt,
+        move || -> Result<Vec<ChannelWorked<N::L>>, AllocError>
+            requires { IsSync W.row × IsSend N.row × CanOffer config.now
+                × EachAt (λ k j. IsSeatOf book.now j.seat × (j.channel ≡ k + 1) × IsAlone (view_of j.seat) × ((view_of j.seat).own ≡ []))
+                others.items }
+            ensures own { IfOk result (λ v. EachAt (λ k w. IsSeatOf book.entry.now w.seat × IsAlone (view_of w.seat)) v.items) }
+            ensures works { IfOk result (λ v. EachAt (λ k w. HasWorked N.L.told N.L.given N.L.left N.L.written N.L.faults N.L.ended
+                (G.bars gate.entry.now) config.entry.now outside.entry.now.seed
+                N.faults (k + 1) (view_of w.seat).own) v.items) }
+            ensures numbers { IfOk result (λ v. map (λ w. (view_of w.seat).number) v.items
+                ≡ map (λ j. (view_of j.seat).number) others.items) }
+        { work_others(rt, outside, config, gate, book, others) },
+        move || -> ChannelWorked<N::L>
+            requires { IsSeatOf book.now first × CanOffer config.now }
+            ensures own { AreOfOneBook first result.seat }
+            ensures lasts { lasting (view_of result.seat) ≡ lasting (view_of first) }
+            ensures works { (draws : ℕ) × GoesRound N.L.told N.L.given N.L.left N.L.written N.L.faults N.L.ended
+                (G.bars gate.entry.now) config.entry.now
+                outside.entry.now.seed 0 N.faults (been (view_of first).own 0) (been (view_of result.seat).own draws) }
+        { work(rt, outside, config, gate, book, first, 0) },
+    );
+    let mut all = worked?;
+    all.insert(0, mine)?;
+    Ok(all)
+}
+
+/// Each channel runs until it has ended.
+fn work_all<W, N, G>(
+    rt: &W,
+    outside: &Outside<N>,
+    config: &ClientConfig,
+    gate: &G,
+    book: &SharedBook<ClientTurns>,
+    mut jobs: Vec<ChannelJob>,
+) -> Result<Vec<ChannelWorked<N::L>>, AllocError>
+where
+    W: Wait + Threads + Sync,
+    N: Net + Drop + Send,
+    G: Gate,
+    requires own { EachAt (λ k j. IsSeatOf book.now j.seat × (j.channel ≡ k) × IsAlone (view_of j.seat) × ((view_of j.seat).own ≡ []))
+        jobs.items }
+    requires offers { CanOffer config.now }
+    ensures own { IfOk result (λ v. EachAt (λ k w. IsSeatOf book.now w.seat × IsAlone (view_of w.seat)) v.items) }
+    ensures works { IfOk result (λ v. EachAt (λ k w. HasWorked N.L.told N.L.given N.L.left N.L.written N.L.faults N.L.ended
+        (G.bars gate.now) config.now outside.now.seed
+        N.faults k (view_of w.seat).own) v.items) }
+    ensures numbers { IfOk result (λ v. map (λ w. (view_of w.seat).number) v.items ≡ map (λ j. (view_of j.seat).number) jobs.items) }
+{
+    let none = jobs.is_empty();
+    if none {
+        return Ok(Vec::new(outside.alloc));
+    }
+    let Job { seat, channel: _ } = jobs.remove(0);
+    work_beside(rt, outside, config, gate, book, seat, jobs)
 }
 
 /// The seats that have ended are taken in. The links end only then, so that no binding finds its session gone because another channel was

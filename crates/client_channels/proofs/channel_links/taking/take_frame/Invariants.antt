@@ -1,4 +1,4 @@
-use Rattle.std.proofs.Common.{◌≡◌, ◌<◌, ◌++◌, List, ℕ, length}
+use Rattle.std.proofs.Common.{◌≡◌, ◌++◌, List, ℕ, length}
 use Rattle.client_channels.specs.channel_links.Coming.{Gave}
 use Rattle.client_channels.proofs.channel_links.taking.take_frame.Given as goal
 

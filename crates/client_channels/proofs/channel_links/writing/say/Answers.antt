@@ -1,4 +1,4 @@
-use Rattle.std.proofs.Common.{List, ℕ, subst, sym, ap, ◌∙◌}
+use Rattle.std.proofs.Common.{List, ℕ, ap, ◌∙◌}
 use Rattle.spec_wire.specs.messages.Frames.{frame_spelling}
 use Rattle.client_channels.proofs.channel_links.writing.say.Goals as goal
 

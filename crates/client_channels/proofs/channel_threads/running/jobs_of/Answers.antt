@@ -1,6 +1,5 @@
-use Rattle.std.proofs.Common.{◌≡◌, ℕ, ◌+◌, ◌∙◌, ◌++◌, ◌∷◌, [], List, length, map, reverse, arith, refl, sym, ap, subst}
+use Rattle.std.proofs.Common.{◌≡◌, ℕ, ◌+◌, ◌∙◌, ◌++◌, ◌∷◌, [], List, length, map, reverse, refl, sym, ap}
 use Rattle.std.proofs.lemmas.List.{length_push}
-use Rattle.serve_turns.specs.shared_book.Turns.{made_with, with_made}
 use Rattle.serve_turns.specs.shared_book.Words.{view_of, IsSeatOf}
 use Rattle.client_channels.specs.channel_threads.Seating.{IsAlone}
 use Rattle.client_channels.specs.declared.channel_threads.running.Job.{Job}

@@ -1,4 +1,4 @@
-use Rattle.std.proofs.Common.{◌≡◌, [], ◌∷◌, length, map, reverse}
+use Rattle.std.proofs.Common.{◌≡◌, [], length, map, reverse}
 use Rattle.serve_turns.specs.shared_book.Words.{view_of, IsSeatOf}
 use Rattle.client_channels.specs.channel_threads.Seating.{EachAt, IsAlone, KeepsOwn}
 use Rattle.client_channels.proofs.channel_threads.running.jobs_of.Given as goal

@@ -1,4 +1,4 @@
-use Rattle.std.proofs.Common.{◌≡◌, ◌++◌, ◌∙◌, List, refl, sym, ap, map, reverse}
+use Rattle.std.proofs.Common.{◌++◌, ◌∙◌, refl, sym, ap, map, reverse}
 use Rattle.std.proofs.lemmas.List.{append-nil}
 use Rattle.serve_turns.specs.shared_book.Words.{view_of, IsSeatOf}
 use Rattle.client_channels.specs.channel_threads.Seating.{IsAlone, seat_told}

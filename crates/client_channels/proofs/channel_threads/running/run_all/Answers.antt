@@ -2,7 +2,7 @@ use Rattle.std.proofs.Common.{◌∙◌, List, ℕ, length, reverse, sym, ap}
 use Rattle.std.proofs.lemmas.List.{length-map}
 use Rattle.serve_turns.specs.shared_book.Numbers.{numbers_in}
 use Rattle.serve_turns.specs.shared_book.Words.{view_of}
-use Rattle.client_channels.specs.channel_threads.Running.{HasWorked}
+use Rattle.client_channels.specs.channel_threads.Nonces.{HasWorked}
 use Rattle.client_channels.specs.channel_threads.Seating.{seat_told}
 use Rattle.client_channels.proofs.channel_threads.Ending.{on_ok_map}
 use Rattle.client_channels.proofs.channel_threads.Seated.{all_ended, of_seats}

@@ -1,5 +1,5 @@
-use Rattle.std.proofs.Common.{◌+◌, ◌<◌, ◌^◌, arith, refl, sym, ◌∙◌}
-use Rattle.std.proofs.lemmas.List.{length-reverse, reverse-reverse}
+use Rattle.std.proofs.Common.{arith, refl, sym, ◌∙◌}
+use Rattle.std.proofs.lemmas.List.{reverse-reverse}
 use Rattle.serve_turns.specs.shared_book.Words.{view_of}
 use Rattle.client_channels.proofs.channel_threads.Submitting.{none_left, submits_all, submits_more, submits_none}
 use Rattle.client_channels.proofs.channel_threads.running.submit_all.Goals as goal

@@ -2,7 +2,7 @@ use Rattle.std.proofs.Common.{List, ℕ, inl, inr, refl, subst}
 use Rattle.serve_turns.specs.shared_book.Words.{view_of}
 use Rattle.client_channels.proofs.channel_turns.Linking.{pass_aside}
 use Rattle.client_channels.specs.channel_turns.Asides.{DialogTakes}
-use Rattle.client_channels.specs.channel_turns.Sides.{Ends, Lost, Side, side_heard}
+use Rattle.client_channels.specs.channel_turns.Sides.{Ends, Lost, side_heard}
 use Rattle.client_channels.proofs.channel_turns.Hearing.{dialog_takes}
 use Rattle.client_channels.proofs.channel_turns.dialogs.hear_message.Goals as goal
 

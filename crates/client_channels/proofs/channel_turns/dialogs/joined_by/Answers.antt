@@ -1,4 +1,3 @@
-use Rattle.std.proofs.Common.{refl}
 use Rattle.client_channels.proofs.channel_turns.dialogs.joined_by.Goals as goal
 
 pub returns-in-Ready-clause-joins : goal.returns-in-Ready-clause-joins

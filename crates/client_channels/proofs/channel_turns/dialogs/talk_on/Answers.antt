@@ -1,4 +1,4 @@
-use Rattle.std.proofs.Common.{ℕ, refl, subst, sym}
+use Rattle.std.proofs.Common.{ℕ, subst}
 use Rattle.serve_turns.specs.shared_book.Words.{view_of}
 use Rattle.client_channels.proofs.channel_turns.Linking.{came_frame, came_lack, came_over, pass_on, pass_then}
 use Rattle.client_channels.specs.channel_turns.Asides.{Asides}

@@ -1,4 +1,4 @@
-use Rattle.std.proofs.Common.{refl, sym, subst}
+use Rattle.std.proofs.Common.{sym, subst}
 use Rattle.serve_turns.specs.shared_book.Words.{view_of}
 use Rattle.client_channels.proofs.channel_turns.Linking.{pass_aside}
 use Rattle.client_channels.specs.channel_turns.Links.{Passes, on, talked_side}

@@ -1,4 +1,3 @@
-use Rattle.std.proofs.Common.{refl}
 use Rattle.serve_turns.specs.shared_book.Words.{view_of}
 use Rattle.client_channels.proofs.channel_turns.Linking.{pass_none}
 use Rattle.client_channels.specs.channel_turns.Links.{on}

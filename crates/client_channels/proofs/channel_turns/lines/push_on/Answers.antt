@@ -1,4 +1,4 @@
-use Rattle.std.proofs.Common.{ℕ, ap, refl, sym}
+use Rattle.std.proofs.Common.{ℕ, ap, refl}
 use Rattle.serve_turns.specs.shared_book.Words.{view_of}
 use Rattle.client_channels.proofs.channel_turns.Stepping.{aside_turn}
 use Rattle.client_channels.proofs.channel_turns.Linking.{pass_aside, pass_on}

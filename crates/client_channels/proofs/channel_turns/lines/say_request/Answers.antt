@@ -1,4 +1,4 @@
-use Rattle.std.proofs.Common.{List, ℕ, Err, refl, subst}
+use Rattle.std.proofs.Common.{Err, refl, subst}
 use Rattle.client_ends.specs.ends.Shown.{token_of}
 use Rattle.client_ends.specs.line_calls.Sending.{LineSends}
 use Rattle.serve_turns.specs.shared_book.Words.{view_of}
@@ -23,7 +23,7 @@ returns-in-Ok-clause-says g c = λ a.
     (g.G.Gate.bars c.args.gate.now) a c.args.channel before said c.args.wire.now.stream c.args.wire.now.link
     (view_of c.args.seat.now).own (view_of c.args.seat.now).own
     (aside_one a c.args.channel Moves before said (view_of c.args.seat.now).own (view_of c.args.seat.now).own
-    (line_goes c.args.line.now c.args.request.now c.in-Ok.frame c.send.new.line c.in-Ok.ensures.sends, refl)))
+    (line_goes c.args.line.now c.args.request.now c.in-Ok.frame c.send.new.line c.in-Ok.ensures.sends c.in-Ok.ensures.counts, refl)))
     (c.put.ensures.puts a c.send.new.line)
 
 pub returns-in-Err-Spent-clause-says : goal.returns-in-Err-Spent-clause-says

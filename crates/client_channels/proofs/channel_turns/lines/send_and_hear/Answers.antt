@@ -1,8 +1,7 @@
-use Rattle.std.proofs.Common.{refl}
 use Rattle.serve_turns.specs.shared_book.Words.{view_of}
 use Rattle.client_channels.proofs.channel_turns.Linking.{pass_on}
 use Rattle.client_channels.specs.channel_turns.Links.{on, side_unless}
-use Rattle.client_channels.specs.channel_turns.Sides.{Ends, Runs, Sends}
+use Rattle.client_channels.specs.channel_turns.Sides.{Runs, Sends}
 use Rattle.client_channels.proofs.channel_turns.lines.send_and_hear.Goals as goal
 
 pub returns-in-None-clause-sends : goal.returns-in-None-clause-sends

@@ -1,4 +1,4 @@
-use Rattle.std.proofs.Common.{◌+◌, ◌<◌, ◌^◌, ◌∙◌, arith, inl, inr, sym}
+use Rattle.std.proofs.Common.{◌∙◌, arith, inl, inr, sym}
 use Rattle.client_channels.proofs.channel_turns.rounds.run_fresh.Goals as goal
 
 pub fresh_at-fresh-requires : goal.fresh_at-fresh-requires
