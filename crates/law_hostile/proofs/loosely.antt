@@ -2,6 +2,8 @@ pub mod Lists
 pub mod KindsStay
 pub mod Staying
 pub mod Refusing
+pub mod SettingUp
 pub mod Hearing
 pub mod Runs
 pub mod Rows
+pub mod Dialogs

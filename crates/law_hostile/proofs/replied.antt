@@ -1,2 +1,4 @@
 pub mod Saying
 pub mod Owning
+pub mod Responses
+pub mod Awaiting

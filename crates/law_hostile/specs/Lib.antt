@@ -10,5 +10,6 @@ pub mod empties
 pub mod ids
 pub mod meant
 pub mod replied
+pub mod dialogs
 pub mod finals
 pub mod premises

@@ -1,2 +1,4 @@
 pub mod Replies
 pub mod Taken
+pub mod Told
+pub mod Awaited

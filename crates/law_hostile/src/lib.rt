@@ -5,6 +5,7 @@
 #![tactic(auto)]
 
 mod acts;
+mod dialogs;
 mod empties;
 mod finals;
 mod ids;
@@ -20,6 +21,7 @@ mod taken_ids;
 mod unforged;
 
 pub use acts::{acts_are_guarded_law, faulty_acts_not_law};
+pub use dialogs::{channels_are_counted_law, dialogs_come_first_law};
 pub use empties::lists_are_empty_law;
 pub use finals::{accepted_was_made_law, made_was_signed_law, signed_was_made_law};
 pub use ids::{own_frames_law, own_ids_rise_law};
@@ -29,7 +31,9 @@ pub use negotiating::repeat_negotiation_law;
 pub use placed::{heard_is_own_law, signed_for_opening_law};
 pub use premises::short_runs_law;
 pub use puts::{put_stays_law, signed_reply_was_put_law, signed_was_put_law};
-pub use replied::{signed_replies_law, taken_replies_law};
+pub use replied::{
+    signed_replies_law, signed_replies_tell_law, taken_replies_are_awaited_law, taken_replies_law,
+};
 pub use sifting::lists_may_sift_law;
 pub use taken_ids::{frames_take_once_law, opening_takes_once_law, signed_takes_once_law};
 pub use unforged::forged_or_signed_law;

@@ -1,11 +1,9 @@
 -- Computed.
-use Rattle.std.proofs.Common.{◌≡◌, ℕ, [], ◌∷◌, true, false, Some, None, length, refl}
+use Rattle.std.proofs.Common.{◌≡◌, [], ◌∷◌, true, false, Some, refl}
 use Rattle.std.specs.Char.Utf16.{utf16_chars}
 use Rattle.std.specs.Str.{chars}
-use Rattle.spec_exchange.specs.Operations.{WasOk, Action, Unsettled}
-use Rattle.spec_hostile.specs.RepeatRuns.{Give, is_heard, is_served}
-use Rattle.spec_hostile.specs.SignedFor.{OnOpening}
-use Rattle.examples_world.specs.repeats.Linked.{acts_of_one, given, is_signed_at, outcome_in, signed_places, put_bare, put_echo, status_at}
+use Rattle.spec_hostile.specs.RepeatRuns.{Give, is_served}
+use Rattle.examples_world.specs.repeats.Linked.{acts_of_one, given, status_at}
 use Rattle.spec_wire.specs.messages.Chain.{is_badly_linked, piece}
 use Rattle.spec_wire.specs.messages.Classes.{is_directory_class, is_query_class, is_set_class, class_fault}
 use Rattle.spec_wire.specs.messages.Contexts.{contexts_end, with_contexts, contexts_fault}

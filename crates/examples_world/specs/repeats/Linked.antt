@@ -12,7 +12,7 @@ use Rattle.spec_world.specs.Messages.{header_in}
 use Rattle.spec_world.specs.Ends.{ClientEnd, ServerEnd, no_client_end}
 use Rattle.spec_world.specs.Events.{bytes_start}
 use Rattle.spec_hostile.specs.RepeatRuns.{RepeatWorld, RepeatEvent, UpFrame, DownFrame, repeat_run}
-use Rattle.spec_hostile.specs.SignedFor.{Watched, SignedEntry, KeyPlace, watching, entries_up, carries_signature}
+use Rattle.spec_hostile.specs.SignedFor.{SignedEntry, KeyPlace, watching, entries_up, carries_signature}
 use Rattle.spec_hostile.specs.HostileNetwork.{repeat_acts}
 use Rattle.examples_world.specs.connections.Parts.{some_keys, some_settings}
 use Rattle.examples_world.specs.runs.Ends.{echo}

@@ -11,7 +11,7 @@ use Rattle.spec_world.specs.Settings.{WorldSettings}
 use Rattle.spec_world.specs.Messages.{header_in}
 use Rattle.spec_world.specs.Ends.{ConnEnd}
 use Rattle.spec_world.specs.Connection.{ConnectionStep}
-use Rattle.spec_world.specs.World.{World, Wires, serve_frame, served_by, served_mutely, step_at, paid}
+use Rattle.spec_world.specs.World.{World, Wires, serve_frame, served_by, served_mutely, step_at}
 use Rattle.spec_world.specs.Events.{Plain, bytes_happen, bytes_changed, bytes_later}
 use Rattle.spec_hostile.specs.RepeatRuns.{RepeatWorld, RepeatEvent, Same, Give, UpFrame, DownFrame, puts_up, is_heard, is_served}
 use Rattle.spec_hostile.specs.RepeatRuns.{uses_no_list, own_connection, with_opening, same_done, loaded_up, loaded_down, lists_as, sents}
@@ -70,7 +70,7 @@ pub record Holds (z : WorldSettings) (r : RepeatWorld) : Type 0 where
   pub paid : AllPaid r.world
   pub bear : AllBear z r.ups
 
-ready_of : (w : World) → HasEmptyLists w → AllPaid w → Ready w
+pub ready_of : (w : World) → HasEmptyLists w → AllPaid w → Ready w
 ready_of w e p j = record { purse = p j; frames = e.up j; values = e.sent j }
 
 abbrev SamePurses : (ℕ → Wires) → (ℕ → Wires) → Type 0
@@ -92,7 +92,7 @@ lists_paid w k us ds heard all j =
 
 -- ---- the events that use no list
 
-changed_behind : (z : WorldSettings) (w : World) (e : Event) → uses_no_list e ≡ true → Ready w → Behind z (bytes_changed z w e)
+pub changed_behind : (z : WorldSettings) (w : World) (e : Event) → uses_no_list e ≡ true → Ready w → Behind z (bytes_changed z w e)
 changed_behind z w (Submit g op) s all = behind_of z w all
 changed_behind z w (Open k) s all = open_behind z w k _ all
 changed_behind z w (Push k slotless pick) s all = push_behind z w k slotless pick all
@@ -107,7 +107,7 @@ changed_behind z w (Crash k kept) s all = absurd (cc)
 changed_behind z w (Wait n) s all = absurd (cc)
 changed_behind z w (Finish refusal) s all = absurd (cc)
 
-happen_behind : (z : WorldSettings) (w : World) (e : Event) → Ready w → Behind z (bytes_changed z w e)
+pub happen_behind : (z : WorldSettings) (w : World) (e : Event) → Ready w → Behind z (bytes_changed z w e)
     → Behind z (bytes_happen z w (Plain e))
 happen_behind z w e all h =
     either (Behind z) (is_possible w.values e) (bytes_later (bytes_changed z w e) (moments e)) w (λ _. h) (λ _. behind_of z w all)
@@ -157,7 +157,7 @@ up_holds z r k u on h =
 
 -- ---- Give down
 
-loaded_ready : (z : WorldSettings) (r : RepeatWorld) (k : ℕ) (d : DownFrame) → Holds z r → Ready (loaded_down r k d)
+pub loaded_ready : (z : WorldSettings) (r : RepeatWorld) (k : ℕ) (d : DownFrame) → Holds z r → Ready (loaded_down r k d)
 unfolding sents up_frames
 loaded_ready z r k d h j =
     let p = lists_paid r.world k [] (d ∷ []) true h.paid in

@@ -77,7 +77,6 @@ sifts_up c xs within fewer =
     record {
       client = refl;
       server = refl;
-      next = refl;
       up = within;
       down = λ n y h. (n, h);
       none = λ e. e;
@@ -91,7 +90,6 @@ sifts_down c ys within none fewer =
     record {
       client = refl;
       server = refl;
-      next = refl;
       up = λ n x h. (n, h);
       down = within;
       none = none;

@@ -19,7 +19,7 @@ use Rattle.law_order.specs.order.Newest.{Newest}
 use Rattle.law_order.proofs.order.Newer.{newest}
 use Rattle.law_order.proofs.order.Lower.{below}
 use Rattle.law_hostile.specs.loosely.LooseRuns.{LooseEvent, Meets, Loses, Overtakes, Hears, loses, overtakes, loose_happens, loose_run}
-use Rattle.law_hostile.specs.loosely.LooseRuns.{is_idle, heard_apart, loose_acts_now, loose_acts, LooselyOnce, LooselyNewer}
+use Rattle.law_hostile.specs.loosely.LooseRuns.{may_hear, heard_apart, loose_acts_now, loose_acts, LooselyOnce, LooselyNewer}
 use Rattle.law_hostile.proofs.loosely.Lists.{loses_sifts, overtakes_sifts}
 use Rattle.law_hostile.proofs.loosely.KindsStay.{begins as kinds_begin}
 use Rattle.law_hostile.proofs.loosely.Staying.{Held, held_keeps, held_sifts}
@@ -72,7 +72,7 @@ begins z =
 abbrev loose_after : World → LooseEvent → (ℕ → ℕ) → ℕ → ℕ
 loose_after w e a g = if loose_acts_now w e g then a g + 1 else a g
 
-hears_keeps : (share : List ℕ) (w : World) (a : ℕ → ℕ) (x : Sent) (b : Bool) → is_idle x.message ≡ b → Held share w a
+hears_keeps : (share : List ℕ) (w : World) (a : ℕ → ℕ) (x : Sent) (b : Bool) → may_hear w.client x ≡ b → Held share w a
     → Held share (if b then heard_apart w x (answer w x) else w)
     (λ g. if b && (is_send_of g x.token && (answer w x).acted) then a g + 1 else a g)
 hears_keeps share w a x true e i =
@@ -87,7 +87,7 @@ event_keeps share w a (Loses k up place) i =
     held_sifts share w a k (loses (w.conns k) up place) (loses_sifts (w.conns k) up place) i
 event_keeps share w a (Overtakes k up place) i =
     held_sifts share w a k (overtakes (w.conns k) up place) (overtakes_sifts (w.conns k) up place) i
-event_keeps share w a (Hears x) i = hears_keeps share w a x (is_idle x.message) refl i
+event_keeps share w a (Hears x) i = hears_keeps share w a x (may_hear w.client x) refl i
 
 counts : List LooseEvent → World → (ℕ → ℕ) → ℕ → ℕ
 counts [] w a = a

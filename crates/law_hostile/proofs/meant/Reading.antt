@@ -35,31 +35,33 @@ use Rattle.law_hostile.proofs.ids.Bearing.{own_moves, asked_moves}
 
 -- ---- numbers
 
--- the command's number is none of a dialog's first two
-record IsLineNumber (n : ℕ) : Type 0 where
-  small : n < 256 ^ 2
-  greets_not : (n == 0) ≡ false
+-- the command's number is none of a dialog's first two, nor an ECHO's
+pub record IsLineNumber (n : ℕ) : Type 0 where
+  pub small : n < 256 ^ 2
+  pub greets_not : (n == 0) ≡ false
+  pub sets_not : (n == 1) ≡ false
+  pub asks_not : (n == 13) ≡ false
 
 own_number : (op : Op) (guid file slot turn : ℕ) → IsLineNumber (number_of_command (request_of op guid file slot turn))
-own_number (OpCreate path access share disposition persist directory) guid file slot turn = record { small = omega arith; greets_not = refl }
-own_number (OpWrite create at bytes) guid file slot turn = record { small = omega arith; greets_not = refl }
-own_number (OpRead create at size) guid file slot turn = record { small = omega arith; greets_not = refl }
-own_number (OpEnd create size) guid file slot turn = record { small = omega arith; greets_not = refl }
-own_number (OpTime create time) guid file slot turn = record { small = omega arith; greets_not = refl }
-own_number (OpRename create path) guid file slot turn = record { small = omega arith; greets_not = refl }
-own_number (OpRemove create) guid file slot turn = record { small = omega arith; greets_not = refl }
-own_number (OpLock create at size exclusive) guid file slot turn = record { small = omega arith; greets_not = refl }
-own_number (OpUnlock create at size) guid file slot turn = record { small = omega arith; greets_not = refl }
-own_number (OpFlush create) guid file slot turn = record { small = omega arith; greets_not = refl }
-own_number (OpStat create) guid file slot turn = record { small = omega arith; greets_not = refl }
-own_number (OpList create) guid file slot turn = record { small = omega arith; greets_not = refl }
-own_number (OpClose create) guid file slot turn = record { small = omega arith; greets_not = refl }
+own_number (OpCreate path access share disposition persist directory) guid file slot turn = record { small = omega arith; greets_not = refl; sets_not = refl; asks_not = refl }
+own_number (OpWrite create at bytes) guid file slot turn = record { small = omega arith; greets_not = refl; sets_not = refl; asks_not = refl }
+own_number (OpRead create at size) guid file slot turn = record { small = omega arith; greets_not = refl; sets_not = refl; asks_not = refl }
+own_number (OpEnd create size) guid file slot turn = record { small = omega arith; greets_not = refl; sets_not = refl; asks_not = refl }
+own_number (OpTime create time) guid file slot turn = record { small = omega arith; greets_not = refl; sets_not = refl; asks_not = refl }
+own_number (OpRename create path) guid file slot turn = record { small = omega arith; greets_not = refl; sets_not = refl; asks_not = refl }
+own_number (OpRemove create) guid file slot turn = record { small = omega arith; greets_not = refl; sets_not = refl; asks_not = refl }
+own_number (OpLock create at size exclusive) guid file slot turn = record { small = omega arith; greets_not = refl; sets_not = refl; asks_not = refl }
+own_number (OpUnlock create at size) guid file slot turn = record { small = omega arith; greets_not = refl; sets_not = refl; asks_not = refl }
+own_number (OpFlush create) guid file slot turn = record { small = omega arith; greets_not = refl; sets_not = refl; asks_not = refl }
+own_number (OpStat create) guid file slot turn = record { small = omega arith; greets_not = refl; sets_not = refl; asks_not = refl }
+own_number (OpList create) guid file slot turn = record { small = omega arith; greets_not = refl; sets_not = refl; asks_not = refl }
+own_number (OpClose create) guid file slot turn = record { small = omega arith; greets_not = refl; sets_not = refl; asks_not = refl }
 
 off : {X : Type 0} → false ≡ true → X
 off e = absurd (let h : false ≡ true = e in cc)
 
 asked_number : (op : Op) (guid file : ℕ) → is_create op ≡ true → IsLineNumber (number_of_command (reconnect_of op guid file))
-asked_number (OpCreate path access share disposition persist directory) guid file e = record { small = omega arith; greets_not = refl }
+asked_number (OpCreate path access share disposition persist directory) guid file e = record { small = omega arith; greets_not = refl; sets_not = refl; asks_not = refl }
 asked_number (OpWrite create at bytes) guid file e = off e
 asked_number (OpRead create at size) guid file e = off e
 asked_number (OpEnd create size) guid file e = off e
@@ -73,13 +75,13 @@ asked_number (OpStat create) guid file e = off e
 asked_number (OpList create) guid file e = off e
 asked_number (OpClose create) guid file e = off e
 
-line_number : (z : WorldSettings) (c : Command) → FitsCommand z c → IsLineNumber (number_of_command c)
+pub line_number : (z : WorldSettings) (c : Command) → FitsCommand z c → IsLineNumber (number_of_command c)
 line_number z c (OfOperation op guid file slot turn e keeps g f s n) =
     subst (λ d. IsLineNumber (number_of_command d)) (sym e) (own_number op guid file slot turn)
 line_number z c (OfAttach op guid file e keeps creates g f) =
     subst (λ d. IsLineNumber (number_of_command d)) (sym e) (asked_number op guid file creates)
 line_number z c (OfTree e) =
-    subst (λ d. IsLineNumber (number_of_command d)) (sym e) (record { small = omega arith; greets_not = refl })
+    subst (λ d. IsLineNumber (number_of_command d)) (sym e) (record { small = omega arith; greets_not = refl; sets_not = refl; asks_not = refl })
 
 pub fits_no_dialog : (z : WorldSettings) (c : Command) → FitsCommand z c → number_of_command c ≡ 0 → ⊥
 fits_no_dialog z c fits e =
@@ -92,13 +94,13 @@ weight_low (OpWrite create at bytes) k = grind (arith, nat_tests)
 weight_low (OpRead create at size) k = grind (arith, nat_tests)
 weight_low _ k = omega arith
 
-charge_low : (n : ℕ) → n ≤ 1048577 → charge_of n < 256 ^ 2
+pub charge_low : (n : ℕ) → n ≤ 1048577 → charge_of n < 256 ^ 2
 charge_low n l = either (λ m. m < 256 ^ 2) (n == 0) 1 ((n - 1) / 65536 + 1) (λ _. omega arith) (λ _. omega (arith, l))
 
 no_bytes : (n : ℕ) → n ≡ 0 → n ≤ 1048577
 no_bytes n e = omega (arith, e)
 
-moves_low : (z : WorldSettings) (c : Command) → FitsCommand z c → bytes_moved c ≤ 1048577
+pub moves_low : (z : WorldSettings) (c : Command) → FitsCommand z c → bytes_moved c ≤ 1048577
 moves_low z c (OfOperation op guid file slot turn e keeps g f s n) =
     subst (λ w. w ≤ 1048577) (sym (ap bytes_moved e ∙ own_moves op guid file slot turn)) (weight_low op keeps)
 moves_low z c (OfAttach op guid file e keeps creates g f) =
@@ -107,7 +109,7 @@ moves_low z c (OfTree e) = no_bytes (bytes_moved c) (ap bytes_moved e)
 
 -- ---- the header
 
-abbrev head_of : Message → Header
+abbrev pub head_of : Message → Header
 head_of m = request_header m (charge_of (bytes_moved m.command)) (number_of_command m.command) true
 
 flags_fit : (b : Bool) → bit_if true 8 + bit_if b 0x2000_0000 < 256 ^ 4
@@ -118,10 +120,10 @@ flags_fit false = omega arith
 wide : (n : ℕ) → n < 256 ^ 2 → n < 256 ^ 4
 wide n l = omega (arith, l)
 
-long_id : (n : ℕ) → n < 2 ^ 64 → n < 256 ^ 8
+pub long_id : (n : ℕ) → n < 2 ^ 64 → n < 256 ^ 8
 long_id n l = omega (arith, l)
 
-head_fits : (z : WorldSettings) (m : Message) → FitsRequest z m → m.message_id < 2 ^ 64 → IsWritableHeader (head_of m)
+pub head_fits : (z : WorldSettings) (m : Message) → FitsRequest z m → m.message_id < 2 ^ 64 → IsWritableHeader (head_of m)
 head_fits z m i id =
     let number = line_number z m.command i.command in (
       refl,
@@ -229,7 +231,7 @@ client_not : (b : Bool) (told other : ℕ) → b ≡ false → (if b then told e
 client_not true told other e = absurd (let q : true ≡ false = e in cc)
 client_not false told other e = refl
 
-text_signed : (s : Signer) (m : Message) (frame : List ℕ) → frame ≡ signed s (request_text m (charge_of (bytes_moved m.command)) true)
+pub text_signed : (s : Signer) (m : Message) (frame : List ℕ) → frame ≡ signed s (request_text m (charge_of (bytes_moved m.command)) true)
     → IsMessage (head_of m) (body_of m.command) frame
 unfolding request_text
 text_signed s m frame e = Signed s e

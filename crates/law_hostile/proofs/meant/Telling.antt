@@ -94,11 +94,11 @@ bare_of f frame x ok plain = by (begins_sealed frame) refl
 
 -- ---- of one message only it is there
 
-only_get : (xs : List Checked) (y c : Checked) (i : ℕ) → xs ≡ y ∷ [] → slice_get xs i ≡ Some c → y ≡ c
+pub only_get : (xs : List Checked) (y c : Checked) (i : ℕ) → xs ≡ y ∷ [] → slice_get xs i ≡ Some c → y ≡ c
 only_get xs y c zero e at = let q : Some y ≡ Some c = subst (λ l. slice_get l 0 ≡ Some c) e at in cc
 only_get xs y c (suc n) e at = absurd (none_in [] n c refl (subst (λ l. slice_get l (suc n) ≡ Some c) e at))
 
-raw_of : (f : ServerEnd) (frame : List ℕ) (x : Frame) (c : Checked) (i : ℕ) → check_frame f frame ≡ Ok x → begins_sealed frame ≡ false
+pub raw_of : (f : ServerEnd) (frame : List ℕ) (x : Frame) (c : Checked) (i : ℕ) → check_frame f frame ≡ Ok x → begins_sealed frame ≡ false
     → messages_in frame ≡ Some (heard_in frame ∷ []) → slice_get x.messages i ≡ Some c → c.raw ≡ frame
 raw_of f frame x c i ok bare one at =
     let y = heard_in frame in

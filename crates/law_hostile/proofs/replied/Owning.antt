@@ -30,7 +30,7 @@ unfolding watched_run
 signed_at z [] v after t all = all.0
 signed_at z (e ∷ es) v after t all = signed_at z es v after (watched_happens z t e) all.1
 
-run_fine : (z : WorldSettings) (es : List RepeatEvent) (t : Watched) → z.client.ciphers ≡ [] → Holds z t → Holds z (watched_run z es t)
+pub run_fine : (z : WorldSettings) (es : List RepeatEvent) (t : Watched) → z.client.ciphers ≡ [] → Holds z t → Holds z (watched_run z es t)
 unfolding watched_run
 run_fine z [] t c h = h
 run_fine z (e ∷ es) t c h = run_fine z es (watched_happens z t e) c (event_holds z t e c h)

@@ -13,7 +13,6 @@ itself c =
     record {
       client = refl;
       server = refl;
-      next = refl;
       up = λ n x h. (n, h);
       down = λ n y h. (n, h);
       none = λ e. e;

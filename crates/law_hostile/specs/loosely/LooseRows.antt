@@ -1,8 +1,9 @@
 -- A world in which three requests wait on a connection, and three replies: what the events between those of the model leave of them.
-use Rattle.std.specs.Prelude.{ℕ, Bool, List, [], ◌∷◌, false, map, Some, None}
-use Rattle.spec_exchange.specs.Commands.{Command, Aside}
+use Rattle.std.specs.Prelude.{ℕ, Bool, List, [], ◌∷◌, true, false, map, Some, None}
+use Rattle.spec_exchange.specs.Commands.{Command, Aside, Setup, Shows, Logon}
 use Rattle.spec_exchange.specs.State.{Empty}
-use Rattle.spec_exchange.specs.Network.{World, Sent, Received, ForOp, op_of}
+use Rattle.spec_exchange.specs.Network.{World, Sent, Received, ForDialog, ForOp, op_of}
+use Rattle.law_sessions.specs.sessions.Sessions.{logon_user}
 use Rattle.law_hostile.specs.loosely.LooseRuns.{LooseEvent, loose_happens, loose_acts_now}
 
 -- a request of operation g
@@ -21,6 +22,29 @@ asks_for command g = record {
     command = command;
   };
 }
+
+-- a SESSION_SETUP of a client of this ClientGuid, whose token shows this
+abbrev pub asks_session : ℕ → Shows → Sent
+asks_session guid shows = record {
+  token = ForDialog;
+  message = record (asks_for (Aside 0) 0).message {
+    client_guid = guid;
+    command = Setup (record {
+      readable = true;
+      binding = false;
+      signed = false;
+      verified = false;
+      previous = 0;
+      cipher = 0;
+      signing = 1;
+      shows = shows;
+    });
+  };
+}
+
+-- the logon of a user whose name has a letter more than the client's
+abbrev pub other_logon : World → Shows
+other_logon w = Logon (97 ∷ logon_user w.client.who.logon)
 
 -- that isn't signed as owed
 abbrev pub asks_badly_for : Command → ℕ → Sent

@@ -1,14 +1,18 @@
 -- Runs of the model of values on a network that also loses single messages, delivers them in another order, and gives the server
 -- messages that none of its lists has: between its events a message or a reply that waits is lost, or the one behind it overtakes it,
--- or the server hears one that isn't signed or sealed as owed, or asks for nothing, and its answer goes nowhere.
-use Rattle.std.specs.Prelude.{◌≡◌, ℕ, zero, suc, ◌+◌, ◌≤◌, Bool, true, false, ◌&&◌, ◌||◌, if◌then◌else◌, List, [], ◌∷◌, is_some}
+-- or the server hears one that isn't signed or sealed as owed, or asks for nothing, or sets up a session for the client's user, and its
+-- answer goes nowhere.
+use Rattle.std.specs.Prelude.{◌≡◌, ℕ, zero, suc, ◌+◌, ◌≤◌, Bool, true, false, not, ◌&&◌, ◌||◌, ◌==◌, if◌then◌else◌, List, [], ◌∷◌, is_some}
 use Rattle.spec_exchange.specs.Table.{put}
-use Rattle.spec_exchange.specs.Commands.{Command, Aside}
+use Rattle.spec_exchange.specs.Content.{same_bytes}
+use Rattle.spec_exchange.specs.Commands.{Command, Aside, Setup, Shows, Logon}
 use Rattle.spec_exchange.specs.State.{Message, Answer, no_later}
 use Rattle.spec_exchange.specs.Operations.{is_ok}
-use Rattle.spec_exchange.specs.Network.{World, Event, Conn, Sent, Settings, happens, start, with_answer, answer, traced, logged}
+use Rattle.spec_exchange.specs.Client.{Client}
+use Rattle.spec_exchange.specs.Network.{World, Event, Conn, Sent, Settings, happens, start, with_answer, answer, traced, logged, is_own}
 use Rattle.spec_exchange.specs.Runs.{acts_now, is_once, is_send_of, never_acted}
 use Rattle.spec_exchange.specs.Statements.{NeverAfterNewer}
+use Rattle.law_sessions.specs.sessions.Sessions.{logon_user}
 
 -- ---- lists, whose places count from 0
 
@@ -39,7 +43,7 @@ pub data LooseEvent : Type 0 where
   Meets : (event : Event) → LooseEvent
   Loses : (k : ℕ) (up : Bool) (place : ℕ) → LooseEvent
   Overtakes : (k : ℕ) (up : Bool) (place : ℕ) → LooseEvent
-  Hears : (sent : Sent) → LooseEvent  -- the server, what no list has; a message that may act is none
+  Hears : (sent : Sent) → LooseEvent  -- the server, what no list has; a message by which an operation may act is none
 
 abbrev pub with_connection : World → ℕ → Conn → World
 with_connection w k c = record w { conns = put w.conns k c }
@@ -53,6 +57,24 @@ is_aside _ = false
 abbrev pub is_idle : Message → Bool
 is_idle m = is_some m.fault || is_aside m.command
 
+-- no logon, or this user's
+abbrev pub shows_user : List ℕ → Shows → Bool
+shows_user user (Logon other) = same_bytes other user
+shows_user user _ = true
+
+-- a SESSION_SETUP that shows so
+abbrev pub is_own_logon : Client → Command → Bool
+is_own_logon c (Setup request) = shows_user (logon_user c.who.logon) request.shows
+is_own_logon c _ = false
+
+-- of the client's ClientGuid, and of the sequence 0
+abbrev pub sets_up_own : Client → Message → Bool
+sets_up_own c m = (m.channel_sequence == 0) && ((m.client_guid == c.who.guid) && is_own_logon c m.command)
+
+-- what the server may hear though no list has it: such a SESSION_SETUP is no operation's
+abbrev pub may_hear : Client → Sent → Bool
+may_hear c x = is_idle x.message || (not (is_own x.token) && sets_up_own c x.message)
+
 -- the step is taken, its records and its place in the log stand, and no list changes
 abbrev pub heard_apart : World → Sent → Answer → World
 heard_apart w x A = record (with_answer w A) {
@@ -65,7 +87,7 @@ abbrev pub loose_happens : World → LooseEvent → World
 loose_happens w (Meets e) = happens w e
 loose_happens w (Loses k up place) = with_connection w k (loses (w.conns k) up place)
 loose_happens w (Overtakes k up place) = with_connection w k (overtakes (w.conns k) up place)
-loose_happens w (Hears x) = if is_idle x.message then heard_apart w x (answer w x) else w
+loose_happens w (Hears x) = if may_hear w.client x then heard_apart w x (answer w x) else w
 
 unfoldable pub loose_run : List LooseEvent → World → World
 loose_run [] w = w
@@ -75,7 +97,7 @@ abbrev pub loose_acts_now : World → LooseEvent → ℕ → Bool
 loose_acts_now w (Meets e) g = acts_now w e g
 loose_acts_now w (Loses k up place) g = false
 loose_acts_now w (Overtakes k up place) g = false
-loose_acts_now w (Hears x) g = is_idle x.message && (is_send_of g x.token && (answer w x).acted)
+loose_acts_now w (Hears x) g = may_hear w.client x && (is_send_of g x.token && (answer w x).acted)
 
 unfoldable pub loose_acts : List LooseEvent → World → ℕ → ℕ
 loose_acts [] w g = 0

@@ -15,7 +15,6 @@ use Rattle.law_order.specs.order.Newest.{Newest}
 pub record Sifted (c d : Conn) : Type 0 where
   pub client : d.client_open ≡ c.client_open
   pub server : d.server_open ≡ c.server_open
-  pub next : d.next_id ≡ c.next_id
   pub up : (n : ℕ) (x : Sent) → slice_get d.up n ≡ Some x → (m : ℕ) × (slice_get c.up m ≡ Some x)
   pub down : (n : ℕ) (y : Received) → slice_get d.down n ≡ Some y → (m : ℕ) × (slice_get c.down m ≡ Some y)
   pub none : c.down ≡ [] → d.down ≡ []
