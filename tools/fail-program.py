@@ -8,10 +8,12 @@ with memory prints, with status 0, or to end with 8 and a beginning of it.
 
 serve: a server of two connections, whose client makes a session on one and binds the other to it, creates, writes, reads and closes a
 file in turns on both, and asks anew where it is told NO_MEMORY. The server has to end with 0, or with 8 before it listens; an operation
-is answered as with memory, or with NO_MEMORY, or its connection ends, and the server prints that it ended as `memory`. What was
-acknowledged has to stand for a server that is begun in the same folder with memory.
+is answered as with memory, or with NO_MEMORY, or its connection ends, and the server prints that it ended as `memory`. A connection for
+which memory runs out before it is taken in ends without an answer, and isn't counted, so that the server waits for one more; where no
+thread can be made the second one waits for the first one's end. What was acknowledged has to stand for a server that is begun in the
+same folder with memory.
 
-run: the client of two channels writes, reads and closes a file at a server with memory. It has to end with 0 and print what one with
+run: the client of four channels writes, reads and closes a file at a server with memory. It has to end with 0 and print what one with
 memory prints, or with 8 and print nothing, or with 11 and tell of each operation the same, that it is unknown, or that its open is gone.
 
 served: the same, and the server's allocations fail. The server has to end as in serve, and the client with 0, 8, 11 or as one whose
@@ -36,8 +38,10 @@ SCRIPTS = {
 }
 NO_MEMORY = 0xC0000017
 HELLO, NAME, SECONDS = b"hello", "a.txt", 30
-# Behind the default two channels, and what a client with memory prints.
-FILE = "op create a.txt rw - create plain\nop write 1 0 68656c6c6f\nop read 1 0 16\nop close 1\n"
+SOON = 3
+# Over so many channels, so that lists of threads are split, and what a client with memory prints.
+CHANNELS = 4
+FILE = f"channels {CHANNELS}\nop create a.txt rw - create plain\nop write 1 0 68656c6c6f\nop read 1 0 16\nop close 1\n"
 TOLD = "1 ok created\n2 ok 5\n3 ok 68656c6c6f\n4 ok\norder 1 2 3\nfile a.txt 5 68656c6c6f\n"
 NO_MEMORY_WORD, END_OF_FILE = "refused c0000017", "3 refused c0000011"
 
@@ -108,6 +112,14 @@ class Served:
             time.sleep(0.002)
         return False
 
+    def ends_soon(self):
+        """Whether it ends by itself, without another connection."""
+        try:
+            self.process.wait(timeout=SOON)
+        except subprocess.TimeoutExpired:
+            return False
+        return True
+
     def ended(self):
         """Its status, its lines, and how often it allocated; one that doesn't end by itself is ended."""
         try:
@@ -133,10 +145,12 @@ class Lost(Exception):
 
 
 class Peer:
-    """The client's side: its connections, whether it was told NO_MEMORY, and what was acknowledged."""
+    """The client's side: its connections, whether it was told NO_MEMORY, whether a connection ended without an answer, whether the second
+    one had none while the first one stood, and what was acknowledged."""
 
     def __init__(self, port):
-        self.port, self.clients, self.short, self.kept = port, [], False, {}
+        self.port, self.clients, self.kept = port, [], {}
+        self.short = self.unanswered = self.waits = False
 
     def asked(self, call):
         """What a call gives, asked anew where it is told NO_MEMORY."""
@@ -155,7 +169,11 @@ class Peer:
         """A connection with a session of its own in the share, or bound to that of another one."""
         client = self.asked(lambda: Client(self.port, guid=to and to.guid))
         self.clients.append(client)
-        self.asked(client.negotiate)
+        try:
+            self.asked(client.negotiate)
+        except Lost:
+            self.unanswered = not self.short
+            raise
         self.asked(lambda: client.log_on("user", "Password", to=to))
         if to is None:
             self.asked(lambda: client.connect_tree("data"))
@@ -165,7 +183,11 @@ class Peer:
         """A file that is created, written, read and closed, in turns on two connections; False where one ends before."""
         try:
             first = self.connected()
-            second = self.connected(first)
+            try:
+                second = self.connected(first)
+            except TimeoutError:
+                self.waits = True
+                return False
             opened = self.asked(lambda: first.create(NAME, disposition=MAKE))
             self.kept[NAME] = b""
             self.asked(lambda: second.write(opened.file, 0, HELLO))
@@ -211,14 +233,21 @@ def came_about(program, folder, library, number):
     peer = Peer(server.port)
     done = peer.works()
     peer.ends()
+    let_go = peer.unanswered and not server.ends_soon()
+    if let_go:
+        Link(server.port).close()
     status, printed, calls = server.ended()
     if status == 8:
         what = "8, when it had listened"
     elif done:
         what = f"{status}, and all is answered" + (", once NO_MEMORY in front" if peer.short else "")
+    elif let_go:
+        what = f"{status}, and a connection ends before it is taken in"
+    elif peer.waits:
+        what = f"{status}, and the second connection waits for the first one's end"
     else:
         what = f"{status}, and a connection ends as memory"
-    told = "memory" in printed or status == 8
+    told = "memory" in printed or status == 8 or let_go or peer.waits
     return what, status in (0, 8) and (done or told) and stands(program, folder, peer), calls
 
 
@@ -298,7 +327,7 @@ def keeps(program, folder, printed):
 def ran_once(program, folder, library, number, at_server):
     """What a run comes to in which one call of one of both programs fails, whether that is right, and how often that one allocated."""
     # One that counts its connections tells how often it allocates; else a channel may need one connection more.
-    server = Served(program, folder, None if number else 2, library if at_server else None, number)
+    server = Served(program, folder, None if number else CHANNELS, library if at_server else None, number)
     if not server.listens():
         status, printed, calls = server.ended()
         return f"{status}, before it listens", status == 8 and not printed, calls
@@ -328,7 +357,7 @@ def each_of(program, library, at_server):
         else:
             tally.wrong.append(f"call {number}: {what}")
         number += 1
-    return tally.told("served, a client of two channels" if at_server else "run, two channels and a file", calls)
+    return tally.told("served, a client of four channels" if at_server else "run, four channels and a file", calls)
 
 
 def run(program, library):

@@ -6,7 +6,8 @@ has the servers, and says what it wants). Samba has several channels, and nothin
 
 - store: MiB a second of --size MiB, in writes of 1 MiB, by `PROGRAM run` over 1 and 4 channels, and of a put by smbclient;
 - small: how many writes of 4 KiB a second, over 1 and 4 channels;
-- long: of --operations writes of 4 KiB and of ten times as many, how many microseconds each takes, and how many bytes of memory.
+- long: of --operations writes of 4 KiB and of ten times as many, how many microseconds each takes, and how many bytes of memory. They go
+  round the same 1,000 places, since a write that makes the file longer costs more than one that doesn't.
 
 What Samba refuses, as sealed sessions, is said in place of a figure. A run over several channels that hasn't ended behind its limit is
 tried again, since Samba may drop a frame of a connection that it hands on (tools/run_samba.py)."""
@@ -80,7 +81,7 @@ def script(path, sealed, channels, lines):
 
 
 def fills(count):
-    return (f"op fill 1 {(number % 10000) * 4096} 4096 61\n" for number in range(count))
+    return (f"op fill 1 {(number % 1000) * 4096} 4096 61\n" for number in range(count))
 
 
 def store(make, sealed, program, here, size, conf):
