@@ -11,7 +11,7 @@ use Rattle.spec_world.specs.Ends.{ClientEnd}
 use Rattle.spec_world.specs.Messages.{has_header, header_in}
 use Rattle.spec_world.specs.Settings.{ClientSettings}
 use Rattle.spec_world.specs.Dialog.{first_refusal, is_dialogs, is_response, response_in, unless}
-use Rattle.client_ends.specs.response_faults.Judging.{JudgesTree, SignsTree, answers_on, faults, response_judged, signs_tree}
+use Rattle.client_ends.specs.response_faults.Judging.{JudgesTree, SignsTree, answers_on, response_judged, signs_tree}
 use Rattle.client_ends.specs.declared.ends.config.ClientConfig.{ClientConfig}
 use Rattle.client_ends.specs.declared.ends.line.Line.{Line}
 use Rattle.client_ends.specs.ends.Shown.{ShowsSeals, settings_of}

@@ -1,5 +1,5 @@
 -- An interim response, behind which the response still comes (MS-SMB2 3.2.5.1.5).
-use Rattle.std.specs.Prelude.{◌≡◌, ◌==◌, ◌&&◌, ℕ, Bool, true, false, if◌then◌else◌, List, Option, Some, None, Result, Ok, Err}
+use Rattle.std.specs.Prelude.{◌==◌, ◌&&◌, ℕ, Bool, true, false, if◌then◌else◌, List, Option, Some, None, Result, Ok, Err}
 use Rattle.spec_crypto.specs.sessions.Sealing.{opened}
 use Rattle.spec_exchange.specs.Commands.{has_bit}
 use Rattle.spec_exchange.specs.Network.{Token, ForDialog, ForOp, ForAttach}

@@ -1,6 +1,6 @@
 -- What a session of the code shows of a client of the model: an equation for each column of its session and its channels.
 -- All other columns are free.
-use Rattle.std.specs.Prelude.{◌≡◌, ℕ, ◌≤◌, Bool, true, false, if◌then◌else◌, length, slice_index_or}
+use Rattle.std.specs.Prelude.{◌≡◌, ℕ, ◌≤◌, Bool, false, if◌then◌else◌, length, slice_index_or}
 use Rattle.std.specs.List.{sum_by}
 use Rattle.client_rows.specs.declared.session_state.session.Session.{Session}
 use Rattle.client_rows.specs.declared.session_state.session.Cut.{Cut}

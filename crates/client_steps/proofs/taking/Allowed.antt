@@ -1,5 +1,5 @@
 -- Whether an operation may be taken, by the tests of the code.
-use Rattle.std.proofs.Common.{◌≡◌, ℕ, ◌+◌, ◌-◌, ◌<◌, ◌≤◌, ◌==◌, ◌&&◌, ◌||◌, nat_lt, Bool, true, false, refl, ap, sym, ◌∙◌, arith}
+use Rattle.std.proofs.Common.{◌≡◌, ℕ, ◌+◌, ◌<◌, ◌≤◌, ◌==◌, ◌&&◌, ◌||◌, nat_lt, Bool, true, false, refl, ap, sym, ◌∙◌, arith}
 use Rattle.spec_exchange.specs.Operations.{Op, create_of, is_create, keeps_limits}
 use Rattle.spec_exchange.specs.Client.{Client, may_take}
 

@@ -10,7 +10,7 @@ use Rattle.client_values.specs.declared.operations.shapes.Kind.{Kind}
 use Rattle.client_values.specs.declared.operations.shapes.Kind.TheVariants as kinds
 use Rattle.client_values.specs.operations.Waiting.{at_of, kind_of, size_of}
 use Rattle.client_rows.specs.declared.operation_rows.row.Row.{Row}
-use Rattle.client_rows.specs.operation_rows.Rows.{row_at, stands, owner, kind, begins, ends, links}
+use Rattle.client_rows.specs.operation_rows.Rows.{row_at, stands, owner, kind}
 use Rattle.client_rows.specs.operation_rows.Holding.{IsSafe}
 use Rattle.client_rows.specs.operation_rows.Taking.{IsRowNew}
 use Rattle.client_rows.proofs.operation_rows.Adding.{at_new, at_old}

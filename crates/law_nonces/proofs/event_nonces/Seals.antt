@@ -1,10 +1,10 @@
 -- What a frame's answer leaves of the seals, where others drew numbers between its events; and from which logon each seal is.
-use Rattle.std.proofs.Common.{◌≡◌, ℕ, zero, suc, ◌+◌, ◌≤◌, Bool, true, false, not, ◌&&◌, if◌then◌else◌, List, [], ◌∷◌, ◌++◌}
-use Rattle.std.proofs.Common.{length, refl, sym, ap, subst, arith, Option, Some, None, slice_get, add-one}
+use Rattle.std.proofs.Common.{◌≡◌, ℕ, zero, suc, ◌+◌, Bool, true, false, not, ◌&&◌, if◌then◌else◌, List, [], ◌∷◌, ◌++◌}
+use Rattle.std.proofs.Common.{length, refl, subst, arith, Option, Some, None, slice_get, add-one}
 use Rattle.spec_exchange.specs.Table.{put}
 use Rattle.spec_crypto.specs.declared.sessions.material.Keys.{Keys}
 use Rattle.law_server.proofs.tables.Logic.{either}
-use Rattle.spec_world.specs.Ends.{ServerEnd, ConnEnd, Spent}
+use Rattle.spec_world.specs.Ends.{ServerEnd, Spent}
 use Rattle.spec_world.specs.Logon.{Progress, Stays, Interim, Final}
 use Rattle.spec_world.specs.Answering.{SaidReply, Seal, all_texts, concatenated, each_joined, first_text, has_nonces, joined_in, later_texts}
 use Rattle.spec_world.specs.Answering.{seal_by, seals_by, seals_of, server_end_behind, server_end_moved, text_limit, told_each}

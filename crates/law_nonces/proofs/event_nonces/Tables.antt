@@ -1,21 +1,20 @@
 -- What one event leaves of the numbers that sessions drew.
-use Rattle.std.proofs.Common.{◌≡◌, ℕ, ◌==◌, true, false, List, inr, refl, sym, ◌∙◌, subst, Option, Some, None}
+use Rattle.std.proofs.Common.{ℕ, inr, refl, sym, ◌∙◌, subst, Option, Some, None}
 use Rattle.spec_exchange.specs.Commands.{Command, Aside}
 use Rattle.spec_exchange.specs.Network.{answer_to}
-use Rattle.spec_exchange.specs.State.{Server, Message, ServerEvent, Accept, End, Heard}
+use Rattle.spec_exchange.specs.State.{Server, Message, Accept, End, Heard}
 use Rattle.spec_exchange.specs.Step.{step, with_deadlines, expire}
 use Rattle.law_server.specs.tables.Fits.{Fits}
 use Rattle.law_server.proofs.tables.Applied.{expired_keeps, journal_keeps}
 use Rattle.law_server.proofs.tables.SessionEffects.{deadlines_keeps}
 use Rattle.law_server.proofs.tables.Stepped.{stepped}
 use Rattle.spec_world.specs.Ends.{Logons}
-use Rattle.spec_world.specs.Lacking.{Expires, alone_records, expired_alone}
-use Rattle.spec_world.specs.Logon.{progress}
+use Rattle.spec_world.specs.Lacking.{expired_alone}
 use Rattle.law_nonces.proofs.negotiation.Making.{FaultFine, IsOther}
-use Rattle.law_nonces.specs.server_nonces.Numbering.{AreNamed, key_sessions}
+use Rattle.law_nonces.specs.server_nonces.Numbering.{key_sessions}
 use Rattle.law_nonces.proofs.server_nonces.Drawing.{SameNumbers, accept_numbers, before_numbers, drew, end_numbers, same_draws, same_named}
 use Rattle.law_nonces.proofs.server_nonces.Drawing.{written_numbers}
-use Rattle.law_nonces.specs.event_nonces.Events.{AloneDraws, HeardDraws, IsFaultDenied, KeysBehind, NonceTables, OtherDraws}
+use Rattle.law_nonces.specs.event_nonces.Events.{AloneDraws, HeardDraws, IsFaultDenied, NonceTables, OtherDraws}
 
 -- ---- a message
 

@@ -8,7 +8,7 @@ use Rattle.spec_exchange.specs.Client.{settle_no_slots}
 use Rattle.spec_exchange.specs.ClientStep.{Act, Pick, Nothing, CloseChannels, AllSettled, Pushes, act, client_after}
 use Rattle.spec_exchange.specs.ClientStep.{pick_act, some_unsettled}
 use Rattle.spec_exchange.specs.Network.{Event, Submit, Open, Push, Serve, Take, Cut, Drop, Restart, Crash, Wait, Finish, Sent}
-use Rattle.spec_exchange.specs.Network.{is_possible, moments, run}
+use Rattle.spec_exchange.specs.Network.{is_possible, moments}
 use Rattle.spec_wire.specs.credits.Ids.{counted, outside}
 use Rattle.spec_wire.specs.credits.Window.{HeldIds}
 use Rattle.spec_wire.specs.credits.Exchange.{Line, FrontIsHeld, NothingIsRefused}

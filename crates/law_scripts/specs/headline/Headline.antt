@@ -1,5 +1,5 @@
 -- What holds of the run of a script.
-use Rattle.std.specs.Prelude.{◌≡◌, ℕ, ◌<◌, ◌^◌, List, ◌++◌}
+use Rattle.std.specs.Prelude.{◌≡◌, ◌<◌, ◌^◌, List, ◌++◌}
 use Rattle.law_replies.specs.courses.Courses.{AreHonest, count_lines, course_of, restarts_of, submits_of}
 use Rattle.spec_exchange.specs.Network as network
 use Rattle.spec_exchange.specs.Statements.{BytesNow, NeverAfterNewer, Once, OneConnections}

@@ -1,4 +1,4 @@
-use Rattle.std.proofs.Common.{List, ℕ, Option, Some, subst}
+use Rattle.std.proofs.Common.{List, ℕ, Some, subst}
 use Rattle.spec_world.specs.Dialog.{if_response, response_in}
 use Rattle.client_ends.specs.line_calls.Interim.{TakesInterim, interim_to}
 use Rattle.client_ends.proofs.line_calls.Interims.{gives_answer, gives_error, gives_none}
