@@ -1,5 +1,6 @@
 #!/usr/bin/env python3
 """Lets each allocation of the program fail in turn: tools/fail-program.py PROGRAM [drill] [serve] [run] [served]
+[threads]
 
 PROGRAM is the built `smb311`. A library that is loaded in front of the C library answers the Nth call of malloc with no memory.
 
@@ -18,6 +19,8 @@ memory prints, or with 8 and print nothing, or with 11 and tell of each operatio
 
 served: the same, and the server's allocations fail. The server has to end as in serve, and the client with 0, 8, 11 or as one whose
 operations may also be refused for want of memory. After both, what the client was told stands for a server with memory.
+
+threads: clients of 2 to 8 channels, each with each set of its threads refused. They have to print what one with all its threads prints.
 
 It prints how often each came about, and each run that is wrong. The status is 0 where there is none. It needs a C compiler (`cc`) and, but
 for drill, the package `cryptography`; it takes some minutes, and proves nothing."""
@@ -41,7 +44,7 @@ HELLO, NAME, SECONDS = b"hello", "a.txt", 30
 SOON = 3
 # Over so many channels, so that lists of threads are split, and what a client with memory prints.
 CHANNELS = 4
-FILE = f"channels {CHANNELS}\nop create a.txt rw - create plain\nop write 1 0 68656c6c6f\nop read 1 0 16\nop close 1\n"
+FILE = "op create a.txt rw - create plain\nop write 1 0 68656c6c6f\nop read 1 0 16\nop close 1\n"
 TOLD = "1 ok created\n2 ok 5\n3 ok 68656c6c6f\n4 ok\norder 1 2 3\nfile a.txt 5 68656c6c6f\n"
 NO_MEMORY_WORD, END_OF_FILE = "refused c0000017", "3 refused c0000011"
 
@@ -52,8 +55,8 @@ class Tally:
     def __init__(self):
         self.found, self.wrong = collections.Counter(), []
 
-    def told(self, name, calls):
-        print(f"{name}: {calls} allocations")
+    def told(self, name, calls, of="allocations"):
+        print(f"{name}: {calls} {of}")
         if not calls:
             self.wrong.append("none was counted")
         for what, times in self.found.most_common():
@@ -273,11 +276,12 @@ def serve(program, library):
 # ---- run
 
 
-def asked(program, port, library=None, number=0):
-    """The status of a client of two channels, what it printed, and how often it allocated."""
-    words, env = [program, "run", f"127.0.0.1:{port}"], failing(library, number)
+def asked(program, port, library=None, number=0, channels=CHANNELS, refused=0):
+    """The status of a client of so many channels, what it printed, and how often it allocated."""
+    words, env = [program, "run", f"127.0.0.1:{port}"], failing(library, number, 1, refused)
+    script = f"channels {channels}\n{FILE}"
     try:
-        ran = subprocess.run(words, input=FILE.encode(), capture_output=True, env=env, timeout=SECONDS)
+        ran = subprocess.run(words, input=script.encode(), capture_output=True, env=env, timeout=SECONDS)
     except subprocess.TimeoutExpired as late:
         return "no end", (late.stdout or b"").decode(), calls_in(late.stderr or b"")
     return ran.returncode, ran.stdout.decode(), calls_in(ran.stderr)
@@ -368,8 +372,27 @@ def served(program, library):
     return each_of(program, library, True)
 
 
+def threads(program, library):
+    """The first channel has the command's own thread, and each further one has one that may be refused."""
+    wrong = 0
+    for channels in range(2, 9):
+        tally, sets = Tally(), 2 ** (channels - 1)
+        for refused in range(sets):
+            with tempfile.TemporaryDirectory() as folder:
+                server = Served(program, folder, None)
+                assert server.listens(), "no server begins"
+                status, printed, _ = asked(program, server.port, library, 0, channels, refused)
+                server.stopped()
+            if (status, printed) == (0, TOLD):
+                tally.found["0, and all is printed"] += 1
+            else:
+                tally.wrong.append(f"threads refused {refused:b}: status {status}, {printed[:200]!r}")
+        wrong += tally.told(f"threads, {channels} channels", sets, "sets that are refused")
+    return wrong
+
+
 def main(words):
-    ways = {"drill": drill, "serve": serve, "run": run, "served": served}
+    ways = {"drill": drill, "serve": serve, "run": run, "served": served, "threads": threads}
     names = words[1:] or list(ways)
     if not words or words[0].startswith("-") or not set(names) <= set(ways):
         sys.exit(__doc__)
