@@ -1,0 +1,10 @@
+mod Never
+mod InTheWay
+mod Going
+mod Chains
+mod Firsts
+mod Sends
+mod Tries
+mod Turns
+mod Named
+mod Begins
