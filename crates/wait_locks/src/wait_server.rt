@@ -71,6 +71,13 @@ impl<D: Disk> WaitServer<D> {
         self.starved
     }
 
+    /// The server that they wait for.
+    pub fn server(&self) -> &Server<D>
+        ensures { result.now ≡ self.now.server }
+    {
+        &self.server
+    }
+
     /// One event, and all waiters that it lets go. The room for its responses is taken first.
     ///
     /// `Memory`: it found none; nobody was tried then, but an end dropped its connection's waiters. `DiskFault`: a step of the server
