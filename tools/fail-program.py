@@ -25,6 +25,7 @@ threads: clients of 2 to 8 channels, each with each set of its threads refused. 
 It prints how often each came about, and each run that is wrong. The status is 0 where there is none. It needs a C compiler (`cc`) and, but
 for drill, the package `cryptography`; it takes some minutes, and proves nothing."""
 import collections
+import functools
 import os
 import subprocess
 import sys
@@ -254,12 +255,13 @@ def came_about(program, folder, library, number):
     return what, status in (0, 8) and (done or told) and stands(program, folder, peer), calls
 
 
-def serve(program, library):
+def each_of(name, library, once):
+    """What a run comes to whose calls fail in turn, each in a folder of its own. Call 0 is none: it tells how many there are."""
     tally, number, calls = Tally(), 0, 1
     while number <= calls:
         with tempfile.TemporaryDirectory() as folder:
             try:
-                what, right, count = came_about(program, folder, library, number)
+                what, right, count = once(folder, library, number)
             except (AssertionError, Refused, Wrong, Closed, TimeoutError) as error:
                 what, right, count = f"{type(error).__name__}: {error}", False, 0
         if number == 0:
@@ -270,7 +272,11 @@ def serve(program, library):
         else:
             tally.wrong.append(f"call {number}: {what}")
         number += 1
-    return tally.told("serve, two connections and a file", calls)
+    return tally.told(name, calls)
+
+
+def serve(program, library):
+    return each_of("serve, two connections and a file", library, functools.partial(came_about, program))
 
 
 # ---- run
@@ -328,7 +334,7 @@ def keeps(program, folder, printed):
     return server.ended()[0] == 0 and content in due
 
 
-def ran_once(program, folder, library, number, at_server):
+def ran_once(program, at_server, folder, library, number):
     """What a run comes to in which one call of one of both programs fails, whether that is right, and how often that one allocated."""
     # One that counts its connections tells how often it allocates; else a channel may need one connection more.
     server = Served(program, folder, None if number else CHANNELS, library if at_server else None, number)
@@ -345,31 +351,12 @@ def ran_once(program, folder, library, number, at_server):
     return what if right else f"{what}: {printed!r}", right, counted if at_server else calls
 
 
-def each_of(program, library, at_server):
-    tally, number, calls = Tally(), 0, 1
-    while number <= calls:
-        with tempfile.TemporaryDirectory() as folder:
-            try:
-                what, right, count = ran_once(program, folder, library, number, at_server)
-            except (AssertionError, Refused, Wrong, Closed, TimeoutError) as error:
-                what, right, count = f"{type(error).__name__}: {error}", False, 0
-        if number == 0:
-            assert right, what
-            calls = count
-        elif right:
-            tally.found[what] += 1
-        else:
-            tally.wrong.append(f"call {number}: {what}")
-        number += 1
-    return tally.told("served, a client of four channels" if at_server else "run, four channels and a file", calls)
-
-
 def run(program, library):
-    return each_of(program, library, False)
+    return each_of("run, four channels and a file", library, functools.partial(ran_once, program, False))
 
 
 def served(program, library):
-    return each_of(program, library, True)
+    return each_of("served, a client of four channels", library, functools.partial(ran_once, program, True))
 
 
 def threads(program, library):
