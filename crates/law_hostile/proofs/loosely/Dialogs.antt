@@ -1,30 +1,26 @@
 -- What each law on once and newer rests on stays where a dialog's response comes down that no server's list had, and where a client waits for
 -- the end of a session's dialog at once.
-use Rattle.std.proofs.Common.{◌≡◌, ℕ, ◌+◌, ◌≤◌, ◌<◌, Bool, true, false, List, [], ◌∷◌, ◌++◌, refl, arith, Option, Some, None, is_some}
+use Rattle.std.proofs.Common.{◌≡◌, ℕ, ◌≤◌, ◌<◌, true, false, List, [], ◌∷◌, ◌++◌, arith, Some}
 use Rattle.spec_exchange.specs.Table.{put}
-use Rattle.spec_exchange.specs.Status.{success, more_processing_required}
-use Rattle.spec_exchange.specs.State.{Server, Reply, Empty, no_later}
-use Rattle.spec_exchange.specs.CheckSetup.{is_new, tree_in}
+use Rattle.spec_exchange.specs.Status.{success}
+use Rattle.spec_exchange.specs.State.{Reply, Empty}
 use Rattle.spec_exchange.specs.Opens.{id_of}
-use Rattle.spec_exchange.specs.Client.{Client, Stage, SaidFirst, SaidSecond, AskedTree}
-use Rattle.spec_exchange.specs.Dialogs.{went_on}
-use Rattle.spec_exchange.specs.Network.{World, Conn, Received, Token, ForDialog, ForOp, ForAttach, Take, happens, with_client, later}
-use Rattle.law_sessions.specs.messages.Connections.{Connections, copies}
+use Rattle.spec_exchange.specs.Client.{SaidSecond}
+use Rattle.spec_exchange.specs.Network.{World, Conn, Received, ForDialog, ForOp, ForAttach, Take, happens, with_client, later}
+use Rattle.law_sessions.specs.messages.Connections.{copies}
 use Rattle.law_sessions.proofs.messages.WentOn.{went_on_keeps as went_on_links}
 use Rattle.law_sessions.proofs.messages.Say.{say_keeps as say_links}
 use Rattle.law_sessions.proofs.sessions.Told.{told_keeps}
 use Rattle.law_sessions.proofs.sessions.Say.{say_keeps as say_sessions}
 use Rattle.law_sessions.proofs.sessions.Dialog.{Tells}
-use Rattle.law_creates.specs.Creates.{Creates, seen}
+use Rattle.law_creates.specs.Creates.{seen}
 use Rattle.law_creates.proofs.WentOn.{went_on_creates}
 use Rattle.law_creates.proofs.Say.{say_creates}
-use Rattle.law_locks.specs.Locks.{Locks}
 use Rattle.law_locks.proofs.WentOn.{went_on_keeps as went_on_locks}
 use Rattle.law_locks.proofs.Say.{say_told}
-use Rattle.law_order.specs.order.Newest.{Newest}
 use Rattle.law_hostile.specs.loosely.LooseRuns.{with_connection}
-use Rattle.law_hostile.proofs.loosely.KindsStay.{KindsHold, carries, put_waits}
-use Rattle.law_hostile.proofs.loosely.Staying.{Core, Held, held_keeps}
+use Rattle.law_hostile.proofs.loosely.KindsStay.{carries, put_waits}
+use Rattle.law_hostile.proofs.loosely.Staying.{Held, held_keeps}
 
 -- ---- a moment passes
 
