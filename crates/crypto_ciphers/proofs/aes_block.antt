@@ -1,8 +1,11 @@
-mod BlockPairs
 pub mod Counted
 pub mod Fronts
-mod LookUps
+pub mod PlaneCipher
+pub mod PlaneRounds
+pub mod PlaneSteps
 pub mod Rounds
 pub mod Steps
 pub mod Sums
 pub mod Table
+pub mod Turns
+pub mod Wires

@@ -1,15 +1,17 @@
-//! AES with keys of 128 and 256 bits (FIPS 197), by tables of 256 words, and four blocks at a time by tables of 16 bytes.
+//! AES with keys of 128 and 256 bits (FIPS 197), by tables of 256 words, and eight blocks at a time by planes of their bits.
 
 mod cipher;
+mod circuit;
 mod columns;
+mod eight;
 mod front;
+mod gates;
 mod key;
-mod nibbles;
-mod pairs;
+mod planes;
 mod sbox;
 mod state;
 mod tables;
-mod wide;
+mod turning;
 
 pub use cipher::Aes;
 pub use front::Front;

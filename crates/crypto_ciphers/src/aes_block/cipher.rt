@@ -3,14 +3,14 @@ ghost use Rattle.std.specs.Prelude.{◌≡◌, ◌≤◌, ◌⊎◌, ◌*◌, �
 ghost use Rattle.spec_crypto.specs.ciphers.Aes.{replaced, mixed_columns, block_sum, round_key, after, cipher, rounds, schedule};
 ghost use Rattle.crypto_ciphers.specs.aes_block.Columns.{state};
 ghost use Rattle.crypto_ciphers.specs.aes_block.Fronts.{IsBlockFront};
-ghost use Rattle.crypto_ciphers.specs.aes_block.Lanes.{AreWideKeys};
+ghost use Rattle.crypto_ciphers.specs.aes_block.Planes.{ArePlaneKeys};
 
 use crate::aes_block::columns::{
     Columns, block_of, columns_of, key_of, last_round_of, round_of, sum_of,
 };
+use crate::aes_block::eight::{TwoRuns, plane_keys_of, runs_of};
 use crate::aes_block::front::{Front, cipher_behind, front_of};
 use crate::aes_block::key::expanded_of;
-use crate::aes_block::wide::{four_of, wide_keys_of};
 use std::marker::Model;
 use std::simd::prelude::*;
 
@@ -122,25 +122,32 @@ impl Aes {
     {
         cipher_behind(&self.words[..self.count], front, block)
     }
-    /// The key of each round, for blocks in lanes.
-    pub(crate) fn wide_keys(&self) -> [u8x32; 15]
-        ensures { AreWideKeys self.now result }
+
+    /// The planes of the key of each round.
+    pub(crate) fn plane_keys(&self) -> [[u8x16; 8]; 15]
+        ensures { ArePlaneKeys self.now result }
     {
-        wide_keys_of(&self.words[..self.count])
+        plane_keys_of(&self.words[..self.count])
     }
 
-    /// Four blocks under the key.
-    pub(crate) fn encrypt_four(
+    /// Eight blocks under the key, as two runs of four.
+    pub(crate) fn encrypt_eight(
         &self,
-        keys: &[u8x32; 15],
+        keys: &[[u8x16; 8]; 15],
         a: &[u8; 16],
         b: &[u8; 16],
         c: &[u8; 16],
         d: &[u8; 16],
-    ) -> [[u8; 16]; 4]
-        requires { AreWideKeys self.now keys.now }
-        ensures { result ≡ cipher self.now a.now ∷ cipher self.now b.now ∷ cipher self.now c.now ∷ cipher self.now d.now ∷ [] }
+        e: &[u8; 16],
+        f: &[u8; 16],
+        g: &[u8; 16],
+        h: &[u8; 16],
+    ) -> TwoRuns
+        requires { ArePlaneKeys self.now keys.now }
+        ensures first { result.first ≡ cipher self.now a.now ∷ cipher self.now b.now ∷ cipher self.now c.now ∷ cipher self.now d.now ∷ [] }
+        ensures second { result.second
+            ≡ cipher self.now e.now ∷ cipher self.now f.now ∷ cipher self.now g.now ∷ cipher self.now h.now ∷ [] }
     {
-        four_of(&self.words[..self.count], keys, a, b, c, d)
+        runs_of(&self.words[..self.count], keys, a, b, c, d, e, f, g, h)
     }
 }

@@ -1,5 +1,6 @@
 //! What the modes share: blocks of bytes, the chain over them, masking block by block, and the comparison of tags.
-ghost use Rattle.std.specs.Prelude.{ℕ, List, ◌≡◌, ◌≤◌, ◌<◌, ◌*◌, ◌+◌, ◌-◌, ◌/◌, ◌++◌, ◌↔◌, IsTrue, length, take, drop, min, slice_index, OnOk};
+ghost use Rattle.std.specs.Prelude.{ℕ, List, ◌≡◌, ◌≤◌, ◌<◌, ◌*◌, ◌+◌, ◌-◌, ◌/◌, ◌++◌, ◌↔◌, IsTrue, length, take, drop, min, slice_index};
+ghost use Rattle.std.specs.Prelude.{OnOk};
 ghost use Rattle.crypto_ciphers.specs.aes_block.Fronts.{IsBlockFront};
 ghost use Rattle.crypto_ciphers.specs.aes_modes.InPlace.{masked_to, run_of};
 ghost use Rattle.spec_crypto.specs.ciphers.Aes.{block_sum, cipher};

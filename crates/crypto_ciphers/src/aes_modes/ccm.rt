@@ -123,30 +123,39 @@ fn counted(zero: &[u8; 16], i: u64) -> [u8; 16]
     block_sum_of(zero, &number)
 }
 
-/// Masks the first runs of a text, four blocks each, where they stand, under the counter blocks from 1 on, by that of
-/// number 0.
-fn mask_runs(aes: &Aes, nonce: &[u8], zero: &[u8; 16], text: &mut [u8], runs: usize)
+/// Masks the first pairs of runs of a text, eight blocks each, where they stand, under the counter blocks from 1 on, by that
+/// of number 0.
+fn mask_runs(aes: &Aes, nonce: &[u8], zero: &[u8; 16], text: &mut [u8], pairs: usize)
     requires long { 7 ≤ length nonce.now }
     requires short { length nonce.now ≤ 13 }
     requires zero { zero.now ≡ counter_block nonce.now 0 }
     requires fits { length text.old < 256 ^ (15 - length nonce.now) }
-    requires runs { 64 * runs ≤ length text.old }
-    ensures { text.new ≡ masked_to aes.now (λ i. counter_block nonce.now (i + 1)) text.old (64 * runs) }
+    requires runs { 64 * (2 * pairs) ≤ length text.old }
+    ensures { text.new ≡ masked_to aes.now (λ i. counter_block nonce.now (i + 1)) text.old (64 * (2 * pairs)) }
 {
-    let keys = aes.wide_keys();
-    for i in 0..runs {
-        let four = aes.encrypt_four(
+    // The planes of the keys cost as much as a few blocks.
+    if pairs == 0 {
+        return;
+    }
+    let keys = aes.plane_keys();
+    for i in 0..pairs {
+        let eight = aes.encrypt_eight(
             &keys,
-            &counted(zero, (4 * i) as u64 + 1),
-            &counted(zero, (4 * i + 1) as u64 + 1),
-            &counted(zero, (4 * i + 2) as u64 + 1),
-            &counted(zero, (4 * i + 3) as u64 + 1),
+            &counted(zero, (4 * (2 * i)) as u64 + 1),
+            &counted(zero, (4 * (2 * i) + 1) as u64 + 1),
+            &counted(zero, (4 * (2 * i) + 2) as u64 + 1),
+            &counted(zero, (4 * (2 * i) + 3) as u64 + 1),
+            &counted(zero, (4 * (2 * i + 1)) as u64 + 1),
+            &counted(zero, (4 * (2 * i + 1) + 1) as u64 + 1),
+            &counted(zero, (4 * (2 * i + 1) + 2) as u64 + 1),
+            &counted(zero, (4 * (2 * i + 1) + 3) as u64 + 1),
         );
-        mask_run(text, i, &four);
+        mask_run(text, 2 * i, &eight.first);
+        mask_run(text, 2 * i + 1, &eight.second);
     }
 }
 
-/// Masks a text where it stands, under the counter blocks from 1 on: in runs of four blocks, and the rest by a front of a
+/// Masks a text where it stands, under the counter blocks from 1 on: eight blocks at a time, and the rest by a front of a
 /// counter block, which serves until the number's last byte is 0 again.
 fn mask(aes: &Aes, nonce: &[u8], text: &mut [u8])
     requires long { 7 ≤ length nonce.now }
@@ -155,8 +164,9 @@ fn mask(aes: &Aes, nonce: &[u8], text: &mut [u8])
     ensures { text.new ≡ ciphertext aes.now nonce.now text.old }
 {
     let zero = counter_block_of(nonce, 0);
-    let runs = text.len() / 64;
-    mask_runs(aes, nonce, &zero, text, runs);
+    let pairs = text.len() / 128;
+    mask_runs(aes, nonce, &zero, text, pairs);
+    let runs = 2 * pairs;
     let mut front = aes.front_of(&counted(&zero, (4 * runs) as u64));
     for i in 4 * runs..block_count_of(text) {
         let block = counted(&zero, i as u64 + 1);

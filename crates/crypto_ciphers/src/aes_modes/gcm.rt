@@ -38,33 +38,43 @@ fn counter_block_of(nonce: &[u8; 12], i: u32) -> [u8; 16]
     ]
 }
 
-/// Masks the first runs of a text, four blocks each, where they stand, under the counter blocks from 2 on.
-fn mask_runs(aes: &Aes, nonce: &[u8; 12], text: &mut [u8], runs: usize)
+/// Masks the first pairs of runs of a text, eight blocks each, where they stand, under the counter blocks from 2 on.
+fn mask_runs(aes: &Aes, nonce: &[u8; 12], text: &mut [u8], pairs: usize)
     requires fits { length text.old < 2 ^ 36 - 31 }
-    requires runs { 64 * runs ≤ length text.old }
-    ensures { text.new ≡ masked_to aes.now (λ i. counter_block nonce.now (i + 2)) text.old (64 * runs) }
+    requires runs { 64 * (2 * pairs) ≤ length text.old }
+    ensures { text.new ≡ masked_to aes.now (λ i. counter_block nonce.now (i + 2)) text.old (64 * (2 * pairs)) }
 {
-    let keys = aes.wide_keys();
-    for i in 0..runs {
-        let four = aes.encrypt_four(
+    // The planes of the keys cost as much as a few blocks.
+    if pairs == 0 {
+        return;
+    }
+    let keys = aes.plane_keys();
+    for i in 0..pairs {
+        let eight = aes.encrypt_eight(
             &keys,
-            &counter_block_of(nonce, (4 * i + 2) as u32),
-            &counter_block_of(nonce, (4 * i + 1 + 2) as u32),
-            &counter_block_of(nonce, (4 * i + 2 + 2) as u32),
-            &counter_block_of(nonce, (4 * i + 3 + 2) as u32),
+            &counter_block_of(nonce, (4 * (2 * i) + 2) as u32),
+            &counter_block_of(nonce, (4 * (2 * i) + 1 + 2) as u32),
+            &counter_block_of(nonce, (4 * (2 * i) + 2 + 2) as u32),
+            &counter_block_of(nonce, (4 * (2 * i) + 3 + 2) as u32),
+            &counter_block_of(nonce, (4 * (2 * i + 1) + 2) as u32),
+            &counter_block_of(nonce, (4 * (2 * i + 1) + 1 + 2) as u32),
+            &counter_block_of(nonce, (4 * (2 * i + 1) + 2 + 2) as u32),
+            &counter_block_of(nonce, (4 * (2 * i + 1) + 3 + 2) as u32),
         );
-        mask_run(text, i, &four);
+        mask_run(text, 2 * i, &eight.first);
+        mask_run(text, 2 * i + 1, &eight.second);
     }
 }
 
-/// Masks a text where it stands, under the counter blocks from 2 on: in runs of four blocks, and the rest by a front of a
+/// Masks a text where it stands, under the counter blocks from 2 on: eight blocks at a time, and the rest by a front of a
 /// counter block, which serves until the number's last byte is 0 again.
 fn mask(aes: &Aes, nonce: &[u8; 12], text: &mut [u8])
     requires { length text.old < 2 ^ 36 - 31 }
     ensures { text.new ≡ ciphertext aes.now nonce.now text.old }
 {
-    let runs = text.len() / 64;
-    mask_runs(aes, nonce, text, runs);
+    let pairs = text.len() / 128;
+    mask_runs(aes, nonce, text, pairs);
+    let runs = 2 * pairs;
     let mut front = aes.front_of(&counter_block_of(nonce, (4 * runs + 1) as u32));
     for i in 4 * runs..block_count_of(text) {
         let block = counter_block_of(nonce, (i + 2) as u32);

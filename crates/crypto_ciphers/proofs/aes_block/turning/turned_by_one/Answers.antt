@@ -1,0 +1,8 @@
+use Rattle.crypto_ciphers.proofs.aes_block.Turns.{low_one, high_one}
+use Rattle.crypto_ciphers.proofs.aes_block.turning.turned_by_one.Goals as goal
+
+pub returns-clause-first : goal.returns-clause-first
+returns-clause-first c = low_one c.args.a c.args.b c.fits-a c.fits-b
+
+pub returns-clause-second : goal.returns-clause-second
+returns-clause-second c = high_one c.args.a c.args.b c.fits-a c.fits-b
