@@ -4,10 +4,11 @@ ghost use Rattle.base_outside.specs.streams.Faults.{CountsFault};
 
 use crate::log_lines::Stamped;
 use crate::shared::{Shared, Store, fill_of};
-use base_outside::{Disk, Failed};
+use base_outside::{Disk, DiskStep, Failed, Renewal, TellsRoom};
+use libc::{EFBIG, ENOSPC};
 use log::{error, warn};
 use std::alloc::Global;
-use std::fs::{File, Files, OpenOptions, TryLockError};
+use std::fs::{File, Files, OpenOptions, TryLockError, remove_file, rename};
 use std::io;
 use std::io::{Eprint, ErrorKind, Write};
 use std::os::unix::fs::{FileExt, OpenOptionsExt};
@@ -19,6 +20,12 @@ const NAME: &str = "smb311.journal";
 
 /// The name of the file whose lock keeps a second server away. It is never renamed or removed, so that all servers lock the same file.
 const LOCK: &str = "smb311.lock";
+
+/// The name of the file into which the journal is written anew. One that was left is emptied by the next draft.
+const DRAFT: &str = "smb311.draft";
+
+/// EDQUOT of Linux.
+const QUOTA: i32 = 122;
 
 /// More bytes than these are kept in a file of their own before they are cut from the journal.
 const KEPT: u64 = 2_097_152;
@@ -37,9 +44,16 @@ struct JournalFiles {
     _lock: File,
 }
 
+/// A draft and how many bytes it has.
+#[derive(Drop)]
+struct DraftFile {
+    file: File,
+    end: u64,
+}
+
 /// A disk over the file `smb311.journal` of the folder in which the program runs. Its first call locks `smb311.lock` and opens the file,
 /// or makes it, readable for its owner alone. Where that fails, or another process holds the lock, the call has failed, and the next call
-/// tries it again. It tells nothing of the bytes: that the file keeps what was synced is trusted.
+/// tries it again. It tells nothing of the bytes: that the file keeps what was synced is trusted, and that a rename is done or not done.
 #[derive(Drop)]
 pub struct JournalFile<'a, W: Wait + Clock + Eprint, R> {
     rt: &'a W,
@@ -47,6 +61,7 @@ pub struct JournalFile<'a, W: Wait + Clock + Eprint, R> {
     shared: &'a Shared,
     // JournalFiles by the first call, so that a server that refuses its words or settings makes no file.
     opened: Option<JournalFiles>,
+    draft: Option<DraftFile>,
     faults: u64,
 }
 
@@ -64,6 +79,24 @@ fn locked<R: Files<File = File>>(files: &R) -> io::Result<File> {
         Err(TryLockError::WouldBlock) => Err(io::Error::from(ErrorKind::WouldBlock)),
         Err(TryLockError::Error(error)) => Err(error),
     }
+}
+
+// A new draft, or the one that was left, without its bytes.
+fn empty_draft<R: Files<File = File>>(files: &R) -> io::Result<File> {
+    let mut options = OpenOptions::new();
+    options
+        .write(true)
+        .read(true)
+        .create(true)
+        .truncate(true)
+        .mode(0o600);
+    options.open(files, DRAFT)
+}
+
+// Whether a call failed only since the disk, a quota or a limit of a file's size allows no more bytes.
+fn is_full(error: &io::Error) -> bool {
+    let code = error.raw_os_error();
+    code == Some(ENOSPC) || code == Some(EFBIG) || code == Some(QUOTA)
 }
 
 // So that the name of a new file is on the disk too.
@@ -156,6 +189,7 @@ impl<'a, W: Wait + Clock + Eprint, R: Files<File = File>> JournalFile<'a, W, R> 
             files,
             shared,
             opened: None,
+            draft: None,
             faults: 0,
         }
     }
@@ -278,6 +312,90 @@ impl<'a, W: Wait + Clock + Eprint, R: Files<File = File>> JournalFile<'a, W, R> 
         self.open()?;
         self.present()?.sync_all()
     }
+
+    // Behind the lock, so that no second server has a draft.
+    fn begin_now(&mut self) -> io::Result<()>
+        ensures { self.new.faults ≡ self.old.faults }
+    {
+        self.open()?;
+        let file = empty_draft(&self.files)?;
+        self.draft = Some(DraftFile { file, end: 0 });
+        Ok(())
+    }
+
+    fn put_now(&mut self, from: &[u8]) -> io::Result<()>
+        ensures { self.new.faults ≡ self.old.faults }
+    {
+        let Some(draft) = &mut self.draft else {
+            return Err(io::Error::from(ErrorKind::NotFound));
+        };
+        draft.file.write_all_at(from, draft.end)?;
+        draft.end = draft.end.saturating_add(from.len() as u64);
+        Ok(())
+    }
+
+    // The bytes are on the disk before the name is the journal's.
+    fn rename_now(&mut self) -> io::Result<()>
+        ensures { self.new.faults ≡ self.old.faults }
+    {
+        let Some(draft) = &self.draft else {
+            return Err(io::Error::from(ErrorKind::NotFound));
+        };
+        draft.file.sync_all()?;
+        rename(&self.files, DRAFT, NAME)
+    }
+
+    // The name is on the disk before a byte is written behind the draft's.
+    fn go_on_now(&mut self) -> io::Result<()>
+        ensures { self.new.faults ≡ self.old.faults }
+    {
+        sync_folder(&self.files)?;
+        if let Some(opened) = &mut self.opened {
+            if let Some(draft) = self.draft.take() {
+                opened.journal = draft.file;
+            }
+        }
+        Ok(())
+    }
+
+    // That there is no room is no fault; what else keeps a step from being done is one.
+    fn step(&mut self, answer: io::Result<()>) -> Result<DiskStep, Failed>
+        ensures { CountsFault self.old.faults self.new.faults result }
+    {
+        let Err(error) = answer else {
+            return Ok(DiskStep::Done);
+        };
+        if is_full(&error) {
+            let log = self.log();
+            warn!(log; "{NAME}: {error}");
+            return Ok(DiskStep::NoRoom);
+        }
+        self.tell(&error);
+        self.faults = self.faults.saturating_add(1);
+        Err(Failed)
+    }
+
+    // Where there is no room for a step on the draft, the draft goes, and the server goes on.
+    fn draft_step(&mut self, answer: io::Result<()>) -> Result<DiskStep, Failed>
+        ensures { CountsFault self.old.faults self.new.faults result }
+    {
+        match self.step(answer) {
+            Ok(DiskStep::Done) => Ok(DiskStep::Done),
+            Ok(DiskStep::NoRoom) => {
+                self.give_up();
+                Ok(DiskStep::NoRoom)
+            }
+            Err(failed) => Err(failed),
+        }
+    }
+
+    fn give_up(&mut self)
+        ensures { self.new.faults ≡ self.old.faults }
+    {
+        self.draft = None;
+        // Where it stays, the next draft empties it.
+        let _removed = remove_file(&self.files, DRAFT);
+    }
 }
 
 impl<'a, W: Wait + Clock + Eprint, R: Files<File = File>> Disk for JournalFile<'a, W, R> {
@@ -332,5 +450,39 @@ impl<'a, W: Wait + Clock + Eprint, R: Files<File = File>> Disk for JournalFile<'
     fn sync(&mut self) -> Result<(), Failed> {
         let answer = self.sync_now();
         self.counted(answer)
+    }
+}
+
+impl<'a, W: Wait + Clock + Eprint, R: Files<File = File>> TellsRoom for JournalFile<'a, W, R> {
+    fn write_if_room(&mut self, at: u64, from: &[u8]) -> Result<DiskStep, Failed> {
+        let answer = self.write_now(at, from);
+        self.step(answer)
+    }
+}
+
+impl<'a, W: Wait + Clock + Eprint, R: Files<File = File>> Renewal for JournalFile<'a, W, R> {
+    ghost drafted = { λ _. [] };
+
+    fn begin_draft(&mut self) -> Result<DiskStep, Failed> {
+        let answer = self.begin_now();
+        self.draft_step(answer)
+    }
+
+    fn put_draft(&mut self, from: &[u8]) -> Result<DiskStep, Failed> {
+        let answer = self.put_now(from);
+        self.draft_step(answer)
+    }
+
+    fn adopt(&mut self) -> Result<DiskStep, Failed> {
+        let renamed = self.rename_now();
+        match self.draft_step(renamed) {
+            Ok(DiskStep::Done) => {}
+            Ok(DiskStep::NoRoom) => return Ok(DiskStep::NoRoom),
+            Err(failed) => return Err(failed),
+        }
+        // From here on a full disk is a fault too: it isn't known which file has the name after a crash.
+        let answer = self.go_on_now();
+        self.counted(answer)?;
+        Ok(DiskStep::Done)
     }
 }

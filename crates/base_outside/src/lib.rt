@@ -10,5 +10,8 @@ pub use network::{
     Clock, Link, MemClock, MemEnd, MemLink, MemNet, Net, News, Printed, SentName, Standing, Watch,
     is_end,
 };
-pub use streams::{Address, Disk, Failed, MemDisk, MemSink, MemSource, Plan, Sink, Source};
+pub use streams::{
+    Address, Disk, DiskStep, Failed, MemDisk, MemRenewal, MemSink, MemSource, Plan, Renewal, Sink,
+    Source, TellsRoom,
+};
 pub use whole_texts::{ReadError, SCRIPT_BYTES, read_script, write_all};

@@ -2,6 +2,8 @@ mod Begin
 mod Bodies
 mod Chain
 mod Crash
+mod Forward
+mod Gathered
 mod Gates
 mod Grown
 mod Lists
@@ -11,4 +13,5 @@ mod Mend
 mod Moments
 mod Quiet
 mod Rest
+mod Rewritten
 mod Waits

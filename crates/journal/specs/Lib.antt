@@ -1,3 +1,1 @@
-pub mod record_bytes
 pub mod disk_journal
-pub mod record_bodies

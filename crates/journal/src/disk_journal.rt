@@ -6,13 +6,16 @@
 //! the next closed gate, before its own gate opens. Behind the mark `smb311j2` each length is followed by
 //! the CRC-32C of it and the body; what is said of crashes doesn't rest on it.
 
+mod ahead;
 mod entry;
 mod form;
+mod group;
 mod journal;
 mod laws;
 mod list;
 mod read;
 mod recovery;
+mod rewrite;
 mod start;
 mod waiting;
 
@@ -21,4 +24,5 @@ pub use laws::{broken_means_nothing, one_break, one_form, one_meaning};
 pub use list::BytesList;
 pub use read::Found;
 pub use recovery::repair;
+pub use rewrite::Rewrite;
 pub use start::prepare;

@@ -4,9 +4,9 @@ use Rattle.std.proofs.lemmas.List.{append-nil}
 use Rattle.spec_exchange.specs.State as model
 use Rattle.spec_exchange.specs.State.{Server}
 use Rattle.spec_exchange.specs.Fold.{nothing_yet, fold_from, with_record}
-use Rattle.journal.specs.record_bytes.Grammar.{SpellsRecords}
-use Rattle.journal.specs.record_bytes.Meaning.{records_of}
-use Rattle.journal.specs.declared.record_bytes.value.Record.{Record}
+use Rattle.journal_bytes.specs.record_bytes.Grammar.{SpellsRecords}
+use Rattle.journal_bytes.specs.record_bytes.Meaning.{records_of}
+use Rattle.journal_bytes.specs.declared.record_bytes.value.Record.{Record}
 use Rattle.law_server.specs.tables.Fits.{Fits, is_sound, all_sound}
 use Rattle.law_server.proofs.tables.Logic.{front_of, back_of, both}
 use Rattle.law_server.proofs.tables.Folded.{folded_keeps, sound_more}

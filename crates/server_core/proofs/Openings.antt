@@ -3,9 +3,9 @@ use Rattle.std.proofs.Common.{◌≡◌, ℕ, ◌+◌, ◌==◌, Bool, true, fal
 use Rattle.spec_exchange.specs.Fold.{epoch_records}
 use Rattle.spec_exchange.specs.State as model
 use Rattle.spec_exchange.specs.State.{Server, VersionRecord, EpochRecord}
-use Rattle.journal.specs.record_bytes.Meaning.{records_of}
-use Rattle.journal.specs.declared.record_bytes.value.Record.{Record}
-use Rattle.journal.specs.declared.record_bytes.value.Record.TheVariants.{Version, Epoch}
+use Rattle.journal_bytes.specs.record_bytes.Meaning.{records_of}
+use Rattle.journal_bytes.specs.declared.record_bytes.value.Record.{Record}
+use Rattle.journal_bytes.specs.declared.record_bytes.value.Record.TheVariants.{Version, Epoch}
 use Rattle.server_core.proofs.durable_state.Choice.{eq_on, eq_off}
 use Rattle.server_core.specs.Opening.{versions_of}
 

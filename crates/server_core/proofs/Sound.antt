@@ -5,11 +5,11 @@ use Rattle.std.proofs.lemmas.List.{drop_more}
 use Rattle.std.specs.Prelude.{Err}
 use Rattle.spec_exchange.specs.Fold.{fold_from}
 use Rattle.spec_exchange.specs.State.{Server}
-use Rattle.journal.specs.record_bytes.Grammar.{SpellsRecords, ReadsRecords}
-use Rattle.journal.specs.record_bytes.Meaning.{record_of, records_of}
-use Rattle.journal.specs.declared.record_bytes.fault.RecordError.{RecordError}
-use Rattle.journal.specs.declared.record_bytes.fault.RecordError.TheVariants as faulty
-use Rattle.journal.specs.declared.record_bytes.value.Record.{Record}
+use Rattle.journal_bytes.specs.record_bytes.Grammar.{SpellsRecords, ReadsRecords}
+use Rattle.journal_bytes.specs.record_bytes.Meaning.{record_of, records_of}
+use Rattle.journal_bytes.specs.declared.record_bytes.fault.RecordError.{RecordError}
+use Rattle.journal_bytes.specs.declared.record_bytes.fault.RecordError.TheVariants as faulty
+use Rattle.journal_bytes.specs.declared.record_bytes.value.Record.{Record}
 use Rattle.journal.specs.declared.disk_journal.journal.JournalError.{JournalError}
 use Rattle.server_core.specs.durable_state.Durable.{DurableShown}
 use Rattle.server_core.specs.declared.durable_state.durable.Durable.{Durable}

@@ -4,11 +4,11 @@ use Rattle.spec_exchange.specs.Fold.{nothing_yet, fold, fold_from}
 use Rattle.spec_exchange.specs.State as model
 use Rattle.spec_journal.specs.declared.form.Form.{Form}
 use Rattle.spec_journal.specs.Forms.{form_front}
-use Rattle.journal.specs.record_bytes.Grammar.{SpellsRecords, BreaksRecords}
-use Rattle.journal.specs.record_bytes.Meaning.{records_of}
-use Rattle.journal.specs.declared.record_bytes.fault.RecordError.{RecordError}
-use Rattle.journal.specs.declared.record_bytes.fault.RecordError.TheVariants as faulty
-use Rattle.journal.specs.declared.record_bytes.value.Record.{Record}
+use Rattle.journal_bytes.specs.record_bytes.Grammar.{SpellsRecords, BreaksRecords}
+use Rattle.journal_bytes.specs.record_bytes.Meaning.{records_of}
+use Rattle.journal_bytes.specs.declared.record_bytes.fault.RecordError.{RecordError}
+use Rattle.journal_bytes.specs.declared.record_bytes.fault.RecordError.TheVariants as faulty
+use Rattle.journal_bytes.specs.declared.record_bytes.value.Record.{Record}
 use Rattle.journal.specs.disk_journal.Journal.{JournalState, JournalSettled}
 use Rattle.journal.specs.declared.disk_journal.journal.JournalError.{JournalError}
 use Rattle.journal.specs.declared.disk_journal.journal.JournalError.TheVariants as causes

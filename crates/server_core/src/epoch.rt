@@ -2,11 +2,11 @@
 ghost use Rattle.std.specs.Prelude.{◌≡◌, ◌≤◌, IfOk, drop, length};
 ghost use Rattle.spec_exchange.specs.Fold.{epoch_records};
 ghost use Rattle.spec_exchange.specs.State.{Server};
-ghost use Rattle.journal.specs.record_bytes.Meaning.{records_of};
+ghost use Rattle.journal_bytes.specs.record_bytes.Meaning.{records_of};
 ghost use Rattle.server_core.specs.Opening.{versions_of};
 
 use crate::durable_state::Durable;
-use journal::{Record, Records};
+use journal_bytes::{Record, Records};
 use std::alloc::{AllocError, Global};
 
 /// The next epoch, in a journal of version 1 behind the record of version 2. Behind 2^32 - 1 epochs, which no journal holds,

@@ -2,8 +2,8 @@
 ghost use Rattle.std.specs.Prelude.{◌≡◌, ℕ, List, true, IfErr, IfOk, MatchResult, None, OnOk, ⊤};
 ghost use Rattle.spec_exchange.specs.State as model;
 ghost use Rattle.spec_wire.specs.journal.Moments.{Quiet};
-ghost use Rattle.journal.specs.record_bytes.Grammar.{SpellsRecords};
-ghost use Rattle.journal.specs.record_bytes.Meaning.{opened, record_of, records_of};
+ghost use Rattle.journal_bytes.specs.record_bytes.Grammar.{SpellsRecords};
+ghost use Rattle.journal_bytes.specs.record_bytes.Meaning.{opened, record_of, records_of};
 ghost use Rattle.journal.specs.disk_journal.Journal.{JournalSettled};
 ghost use Rattle.server_core.specs.durable_state.Durable.{DurableShown};
 ghost use Rattle.law_server.specs.tables.Fits.{Fits, all_sound, is_sound, keeps_root};
@@ -12,7 +12,8 @@ ghost use Rattle.server_core.specs.Reading.{IsReadFrom, ReadRefused, cause_of};
 
 use crate::durable_state::Durable;
 use base_outside::Disk;
-use journal::{Journal, JournalError, NewOpen, Record, RecordError, Records, read_records};
+use journal::{Journal, JournalError};
+use journal_bytes::{NewOpen, Record, RecordError, Records, read_records};
 use server_checks::deletes_on_close;
 use wire_bytes::Bytes;
 

@@ -4,7 +4,7 @@
 
 ghost use Rattle.std.specs.Prelude.{ℕ, List, ◌++◌};
 ghost use Rattle.spec_exchange.specs.State as model;
-ghost use Rattle.journal.specs.record_bodies.Body.{IsBodyOf};
+ghost use Rattle.journal_bytes.specs.record_bodies.Body.{IsBodyOf};
 
 /// The body of records with that of others behind it is the body of both, so that what an open's expiry owes and what the event
 /// behind it owes may be spelled apart.

@@ -2,9 +2,9 @@
 ghost use Rattle.std.specs.Prelude.{ℕ, List, [], ◌∷◌, ◌++◌};
 ghost use Rattle.spec_exchange.specs.Fold.{fold};
 ghost use Rattle.spec_exchange.specs.State as model;
-ghost use Rattle.journal.specs.record_bytes.Grammar.{SpellsRecords};
-ghost use Rattle.journal.specs.record_bytes.Meaning.{records_of};
-ghost use Rattle.journal.specs.declared.record_bytes.value.Record.{Record};
+ghost use Rattle.journal_bytes.specs.record_bytes.Grammar.{SpellsRecords};
+ghost use Rattle.journal_bytes.specs.record_bytes.Meaning.{records_of};
+ghost use Rattle.journal_bytes.specs.declared.record_bytes.value.Record.{Record};
 ghost use Rattle.server_core.specs.Reading.{BodiesSpell};
 
 /// With one more body, which spells records in the version that the records before it have reached, bodies spell these records too.

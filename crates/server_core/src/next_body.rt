@@ -5,11 +5,11 @@
 ghost use Rattle.std.specs.Prelude.{◌≡◌, ◌++◌, ℕ, List};
 ghost use Rattle.spec_exchange.specs.Fold.{fold};
 ghost use Rattle.spec_exchange.specs.State.{Record};
-ghost use Rattle.journal.specs.record_bodies.Body.{IsBodyOf, bodies_of};
+ghost use Rattle.journal_bytes.specs.record_bodies.Body.{IsBodyOf, bodies_of};
 ghost use Rattle.server_core.specs.Reading.{BodiesSpell};
 
 use crate::laws::more_law;
-use journal::body_law;
+use journal_bytes::body_law;
 
 /// Where bodies spell records of version 2, these and the body of further records, if it has any, spell them all.
 pub fn behind_law()

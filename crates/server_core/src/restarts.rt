@@ -13,7 +13,8 @@ ghost use Rattle.law_server.specs.tables.Fits.{Fits, all_sound};
 ghost use Rattle.server_core.specs.Reading.{BodiesSpell};
 ghost use Rattle.server_core.specs.restart_tables.Restart.{IsNoBody};
 
-use journal::{broken_means_nothing, one_meaning, records_law};
+use journal::{broken_means_nothing, one_meaning};
+use journal_bytes::records_law;
 
 /// Bytes whose bodies spell records that make no open which deletes the root on close are a journal, which no restart refuses as
 /// none (`taken`), and stand for no other records (`same`). A server of whose state the records are told by their fold stands,

@@ -14,9 +14,9 @@ use Rattle.server_checks.specs.event_heard.Heard.{event_of}
 use Rattle.server_checks.specs.declared.event_heard.asked.Asked.{Asked}
 use Rattle.server_checks.specs.declared.event_heard.asked.Asked.TheVariants as askings
 use Rattle.server_checks.specs.declared.event_heard.asked.LogonPart.{LogonPart}
-use Rattle.journal.specs.record_bytes.Meaning.{record_of, records_of}
-use Rattle.journal.specs.declared.record_bytes.value.Record.{Record}
-use Rattle.journal.specs.record_bodies.Body.{IsBody, IsBodyOf, fits_by}
+use Rattle.journal_bytes.specs.record_bytes.Meaning.{record_of, records_of}
+use Rattle.journal_bytes.specs.declared.record_bytes.value.Record.{Record}
+use Rattle.journal_bytes.specs.record_bodies.Body.{IsBody, IsBodyOf, fits_by}
 use Rattle.law_server.specs.tables.Fits.{Fits}
 use Rattle.server_plan.specs.owed_records.Owing.{Owing}
 use Rattle.server_plan.proofs.Lesser.{lesser_owes, none_owed}

@@ -6,7 +6,7 @@ use Rattle.spec_exchange.specs.Records.{fits}
 use Rattle.spec_exchange.specs.State as model
 use Rattle.spec_exchange.specs.Step.{carried_out, event_answer}
 use Rattle.spec_exchange.specs.Step as steps
-use Rattle.journal.specs.record_bodies.Body.{IsBodyOf}
+use Rattle.journal_bytes.specs.record_bodies.Body.{IsBodyOf}
 use Rattle.server_plan.specs.owed_records.Owing.{Owing, may_owe}
 use Rattle.server_plan.specs.declared.plan.Plan.{Plan}
 use Rattle.server_plan.specs.rulings.Rulings.{ruling_of}

@@ -2,7 +2,7 @@
 ghost use Rattle.std.specs.Prelude.{◌≡◌, IfOk, IsOk, false};
 ghost use Rattle.spec_exchange.specs.State.{Server};
 ghost use Rattle.spec_exchange.specs.Step.{carried_out};
-ghost use Rattle.journal.specs.record_bytes.Meaning.{records_of};
+ghost use Rattle.journal_bytes.specs.record_bytes.Meaning.{records_of};
 ghost use Rattle.server_checks.specs.event_heard.Heard.{event_of};
 ghost use Rattle.server_checks.specs.Shown.{TablesShown};
 ghost use Rattle.law_server.specs.tables.Fits.{Fits};
@@ -12,7 +12,7 @@ ghost use Rattle.server_plan.specs.declared.rulings.ruling.Ruling.TheVariants.{S
 
 use crate::owed_records::owed;
 use crate::rulings::{Ruling, all_lost_records, lost_records};
-use journal::Records;
+use journal_bytes::Records;
 use server_checks::{Asked, Tables, Verdict};
 use std::alloc::AllocError;
 

@@ -2,7 +2,7 @@
 
 use crate::vectors::{self, refused, unwritten};
 use crate::words::{bytes_in, number_of, push_bytes, word};
-use journal::{Records, can_write, read_records, write_records};
+use journal_bytes::{Records, can_write, read_records, write_records};
 use std::alloc::{AllocError, Global};
 use std::fmt::Write;
 

@@ -1,6 +1,6 @@
 // A file that refuses a call is a fault of the disk, one for each call, and never an end or a success.
 use base_machine::{JournalFile, Shared, StdDisk};
-use base_outside::{Disk, Failed};
+use base_outside::{Disk, DiskStep, Failed, Renewal};
 use std::fs;
 use std::fs::{File, OpenOptions};
 use std::os::unix::fs::{FileExt, PermissionsExt};
@@ -63,6 +63,29 @@ fn a_write_that_fits_in_part_is_no_success(rt: HostRuntime) -> Result<(), Fail> 
         Err(Failed) => assert_eq!(rt; file.fault_count(), 1),
     }
     assert_eq!(rt; file.cut(0), Ok(()));
+    Ok(())
+}
+
+// What was there before goes only when the draft takes its name; a draft that was left is emptied by the next.
+#[test]
+fn a_draft_takes_the_journals_place(rt: HostRuntime) -> Result<(), Fail> {
+    let here = Shared::new(rt.alloc());
+    let mut disk = JournalFile::new(&rt, &rt, &here);
+    let mut into = [0u8; 4];
+    assert_eq!(rt; disk.write_at(0, b"old"), Ok(()));
+    assert_eq!(rt; disk.begin_draft(), Ok(DiskStep::Done));
+    assert_eq!(rt; disk.put_draft(b"left"), Ok(DiskStep::Done));
+    assert_eq!(rt; disk.begin_draft(), Ok(DiskStep::Done));
+    assert_eq!(rt; disk.put_draft(b"ne"), Ok(DiskStep::Done));
+    assert_eq!(rt; disk.put_draft(b"w!"), Ok(DiskStep::Done));
+    assert_eq!(rt; disk.read(0, &mut into), Ok(3));
+    assert_eq!(rt; disk.adopt(), Ok(DiskStep::Done));
+    assert_eq!(rt; disk.read(0, &mut into), Ok(4));
+    assert_eq!(rt; into, *b"new!");
+    assert_eq!(rt; disk.write_at(4, b"+"), Ok(()));
+    assert_eq!(rt; fs::metadata(&rt, "smb311.journal")?.len(), 5);
+    assert_eq!(rt; File::open(&rt, "smb311.draft").is_err(), true);
+    assert_eq!(rt; disk.fault_count(), 0);
     Ok(())
 }
 

@@ -4,10 +4,11 @@ ghost use Rattle.std.specs.Prelude.{IfOk, OnOk, OnErr, refl};
 ghost use Rattle.base_outside.specs.streams.Disk.{ReadsAt, WritesAt, Torn, CutShort, Follows, Elapses};
 ghost use Rattle.base_outside.specs.streams.Faults.{CountsFault, CountsWhere};
 ghost use Rattle.base_outside.specs.streams.Memory.{next_fails};
+ghost use Rattle.base_outside.specs.streams.Steps.{IfDone, IfNoRoom};
 
 use crate::streams::mem_source::copy_front;
 use crate::streams::plan::Plan;
-use crate::streams::{Disk, Failed};
+use crate::streams::{Disk, DiskStep, Failed, TellsRoom};
 use std::alloc::{AllocError, Global};
 use std::marker::Model;
 use wire_bytes::Bytes;
@@ -105,7 +106,7 @@ fn get(bytes: &[u8], at: u64, into: &mut [u8]) -> usize
 
 impl MemDisk {
     // Whether the next call fails by the plan, which is counted.
-    fn fails(&mut self) -> bool
+    pub(crate) fn fails(&mut self) -> bool
         ensures fails { result ≡ next_fails self.old.failing }
         ensures rest { self.new.failing ≡ drop 1 self.old.failing }
         ensures bytes { self.new.bytes ≡ self.old.bytes }
@@ -116,6 +117,16 @@ impl MemDisk {
             self.faults = self.faults.saturating_add(1);
         }
         fails
+    }
+}
+
+impl MemDisk {
+    // Takes these bytes in place of its own, and gives its own for them.
+    pub(crate) fn exchange(&mut self, bytes: &mut Vec<u8>)
+        ensures own { self.new ≡ record self.old { bytes = bytes.old.items } }
+        ensures given { bytes.new.items ≡ self.old.bytes }
+    {
+        std::mem::swap(&mut self.bytes, bytes);
     }
 }
 
@@ -218,5 +229,26 @@ impl Disk for MemDisk {
             return Err(Failed);
         }
         Ok(())
+    }
+}
+
+impl TellsRoom for MemDisk {
+    fn write_if_room(&mut self, at: u64, from: &[u8]) -> Result<DiskStep, Failed>
+        ensures written { IfDone result (WritesAt self.old.bytes at from.now self.new.bytes) }
+        ensures part { IfNoRoom result (Torn at (length from.now) self.old.bytes self.new.bytes) }
+        ensures kept { IfNoRoom result (self.new.bytes ≡ self.old.bytes) }
+        ensures failed { IsErr result ↔ IsTrue (next_fails self.old.failing) }
+        ensures crash { Follows (Torn at (length from.now)) (λ c. c ≡ self.old.bytes) (λ c. c ≡ self.new.bytes) }
+        ensures time { Elapses 0 0 (λ _ c. c ≡ self.old.bytes) (λ _ c. c ≡ self.new.bytes) (λ c. c ≡ self.new.bytes) }
+        ensures cause { CountsFault self.old.faults self.new.faults result }
+        ensures plan { self.new.failing ≡ drop 1 self.old.failing }
+    {
+        if self.fails() {
+            return Err(Failed);
+        }
+        match put(&mut self.bytes, at, from) {
+            Ok(()) => Ok(DiskStep::Done),
+            Err(_) => Ok(DiskStep::NoRoom),
+        }
     }
 }

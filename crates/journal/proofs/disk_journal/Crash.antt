@@ -29,16 +29,19 @@ module _ (front rest : List ℕ) (gate shut : ℕ) (bytes : List ℕ) (ends : Cl
   before_gate = ap (λ (l : List ℕ). take gate l) ends.file ∙ take_at front (shut ∷ rest) gate ends.place
 
   -- the closed gate stands in each outcome of a write behind it
-  torn_behind : (at n : ℕ) (c : List ℕ) → gate < at → Torn at n bytes c → StaysClosed front c
-  torn_behind at n c later torn =
+  pub torn_stays : (at n : ℕ) (c : List ℕ) → gate < at → Torn at n bytes c → c ≡ front ++ shut ∷ drop (gate + 1) c
+  torn_stays at n c later torn =
       let kept : take (gate + 1) c ≡ front ++ shut ∷ [] = torn.before (gate + 1) (omega (arith, later)) (omega (arith, length-bytes)) ∙ front_is in
-      record {
-        gate = shut;
-        rest = drop (gate + 1) c;
-        file = sym (take-append-drop (gate + 1) c) ∙ ap (λ (l : List ℕ). l ++ drop (gate + 1) c) kept
-            ∙ append_assoc front (shut ∷ []) (drop (gate + 1) c);
-        closed = ends.closed;
-      }
+      sym (take-append-drop (gate + 1) c) ∙ ap (λ (l : List ℕ). l ++ drop (gate + 1) c) kept
+      ∙ append_assoc front (shut ∷ []) (drop (gate + 1) c)
+
+  pub torn_behind : (at n : ℕ) (c : List ℕ) → gate < at → Torn at n bytes c → StaysClosed front c
+  torn_behind at n c later torn = record {
+    gate = shut;
+    rest = drop (gate + 1) c;
+    file = torn_stays at n c later torn;
+    closed = ends.closed;
+  }
 
   -- and in what such a write leaves
   kept_front : (at : ℕ) (piece c : List ℕ) → gate < at → WritesAt bytes at piece c → take (gate + 1) c ≡ front ++ shut ∷ []
@@ -127,15 +130,6 @@ module _ {D : Type 0} (seen : D → List ℕ) (may_leave : D → List ℕ → Ty
       pub kept : (d2 : D) → ((c : List ℕ) → may_leave d2 c → may_leave d1 c) → Goes d1 d2 → Stays d2
       kept d2 crash2 time2 = goes_on moment left_since d0 d1 d2 (StaysClosed front) (may_leave d2) wrote time2
           (λ c now. behind_closed c (crash2 c now))
-
-    pub filled : (at : ℕ) (piece : List ℕ) (d1 d2 : D) → gate < at → WritesAt (seen d0) at piece (seen d1)
-        → Only (seen d1) (may_leave d2) → seen d2 ≡ seen d1
-        → (left : List ℕ) × (seen d2 ≡ front ++ shut ∷ left) × Only (seen d2) (may_leave d2)
-    filled at piece d1 d2 later writes durable seen2 = (
-      drop (gate + 1) (seen d1),
-      seen2 ∙ still_closed front rest gate shut (seen d0) ends at piece (seen d1) later writes,
-      subst (λ f. Only f (may_leave d2)) (sym seen2) durable,
-    )
 
     pub staged : (behind : List ℕ) (d1 d2 : D) → WritesAt (seen d0) (gate + 1) behind (seen d1) → Only (seen d1) (may_leave d2)
         → seen d2 ≡ seen d1

@@ -33,7 +33,7 @@ length-entry form body =
 
 -- ---- one body more
 
-opened-push : (form : Form) (bodies : List (List ℕ)) (body rest : List ℕ) → form_opened form bodies ++ 1 ∷ (form_entry form body ++ rest)
+pub opened-push : (form : Form) (bodies : List (List ℕ)) (body rest : List ℕ) → form_opened form bodies ++ 1 ∷ (form_entry form body ++ rest)
     ≡ form_opened form (bodies ++ body ∷ []) ++ rest
 opened-push form [] body rest = ap (λ (l : List ℕ). 1 ∷ (l ++ rest)) (sym (append-nil (form_entry form body)))
 opened-push form (b ∷ bodies) body rest =

@@ -32,6 +32,10 @@ pub record WaitsAt (gate next : ℕ) (front entry : List ℕ) (shut last : ℕ) 
 abbrev pub IsClosedBeforeOrBehind : List ℕ → List ℕ → List ℕ → Type 0
 IsClosedBeforeOrBehind front entry bytes = StaysClosed front bytes ⊎ StaysClosed (front ++ 1 ∷ entry) bytes
 
+-- the same, or that gate too is open and all of the next entry stands behind it, with any bytes behind that
+abbrev pub IsClosedOrNextOpened : List ℕ → List ℕ → List ℕ → List ℕ → Type 0
+IsClosedOrNextOpened front entry behind bytes = StaysClosed front bytes ⊎ IsClosedOrOpened (front ++ 1 ∷ entry) behind bytes
+
 -- at most 9 bytes: the magic and one gate at most
 abbrev pub IsEntryShort : List ℕ → Type 0
 IsEntryShort bytes = length bytes ≤ 9

@@ -140,6 +140,17 @@ Settles faults old (Err (errors.NotAJournal at)) new = ⊥
 Settles faults old (Err (errors.Full would limit)) new = ⊥
 Settles faults old (Err (errors.Stopped n)) new = (old.stopped ≡ Some n) × (new ≡ old)
 
+-- What `take_ahead` answers, and what it leaves.
+abbrev pub TakesAhead : {D : Type 0} → (D → ℕ) → JournalState D → Result Bool JournalError → JournalState D → Type 0
+TakesAhead faults old (Ok whole) new = (old.stopped ≡ None) × (new ≡ record old { disk = new.disk; room = new.room }) × (old.room ≤ new.room)
+    × (faults new.disk ≡ faults old.disk)
+TakesAhead faults old (Err errors.Memory) new = (old.stopped ≡ None) × OnlyRoom old new
+TakesAhead faults old (Err (errors.DiskFault n)) new = (old.stopped ≡ None) × Rose (faults old.disk) n × (n ≡ faults new.disk)
+    × (new ≡ record old { disk = new.disk; room = new.room; stopped = Some n }) × (old.room ≤ new.room)
+TakesAhead faults old (Err (errors.NotAJournal at)) new = ⊥
+TakesAhead faults old (Err (errors.Full would limit)) new = ⊥
+TakesAhead faults old (Err (errors.Stopped n)) new = (old.stopped ≡ Some n) × (new ≡ old)
+
 -- What `reserve` answers, and what it leaves.
 abbrev pub Reserves : {D : Type 0} → JournalState D → ℕ → Bool → Result Unit JournalError → JournalState D → Type 0
 Reserves old size epoch (Ok _) new = Allows old size epoch × (size + 5 ≤ new.room) × OnlyRoom old new

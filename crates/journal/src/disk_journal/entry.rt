@@ -84,27 +84,6 @@ pub(crate) fn write_entry<D: Disk>(disk: &mut D, gate: u64, behind: &[u8]) -> Re
     open_gate(disk, gate)
 }
 
-/// Writes a piece somewhere behind a closed gate, and syncs. What stands up to the gate stays.
-pub(crate) fn fill_behind<D: Disk>(
-    disk: &mut D,
-    gate: u64,
-    at: u64,
-    piece: &[u8],
-) -> Result<(), Failed>
-    requires { gate < at }
-    ensures done { D.told → (front rest : List ℕ) (shut : ℕ) → ClosedAt gate front shut rest (D.seen disk.old)
-        → Only (D.seen disk.old) (D.may_leave disk.old)
-        → OnOk result ((left : List ℕ) × (D.seen disk.new ≡ front ++ shut ∷ left) × Only (D.seen disk.new) (D.may_leave disk.new)) }
-    ensures any_moment { D.told → (front rest : List ℕ) (shut : ℕ) → ClosedAt gate front shut rest (D.seen disk.old)
-        → Only (D.seen disk.old) (D.may_leave disk.old)
-        → LeavesOnly D.moment D.left_since disk.old disk.new (StaysClosed front) }
-    ensures cause { CountsFault (D.faults disk.old) (D.faults disk.new) result }
-{
-    disk.write_at(at, piece)?;
-    disk.sync()?;
-    Ok(())
-}
-
 /// Cuts what stands behind the closed gate at a place.
 pub(crate) fn cut_behind<D: Disk>(disk: &mut D, gate: u64) -> Result<(), Failed>
     requires { gate < 2 ^ 64 - 1 }

@@ -1,23 +1,30 @@
 // The journal.
-ghost use Rattle.std.specs.Prelude.{◌≡◌, ◌⊎◌, ℕ, ◌+◌, ◌-◌, ◌≤◌, ◌<◌, ◌^◌, List, [], ◌∷◌, ◌++◌, length, IfOk, OnOk, OnErr, vec_capacity};
+ghost use Rattle.std.specs.Prelude.{◌≡◌, ◌⊎◌, ℕ, ◌+◌, ◌-◌, ◌≤◌, ◌<◌, ◌^◌, List, [], ◌∷◌, ◌++◌, length, IfOk, IsTrue, None, OnOk, OnErr, MatchOption, vec_capacity};
 ghost use Rattle.spec_wire.specs.messages.Places.{le};
 ghost use Rattle.spec_journal.specs.Castagnoli.{crc32c};
+ghost use Rattle.spec_journal.specs.declared.form.Form.TheVariants as forms;
 ghost use Rattle.spec_journal.specs.Forms.{BreaksAt, form_entry, form_sum, StandsFor};
 ghost use Rattle.spec_wire.specs.journal.Moments.{LeavesOnly, Quiet};
 ghost use Rattle.journal.specs.disk_journal.Entry.{IsEntryNew};
 ghost use Rattle.journal.specs.disk_journal.Journal.{JournalState, JournalSettled, JournalWaits, JournalAdmits};
-ghost use Rattle.journal.specs.disk_journal.Journal.{Appends, Reserves, Settles, StageAnswers};
+ghost use Rattle.journal.specs.disk_journal.Journal.{Appends, Reserves, Settles, StageAnswers, TakesAhead};
 ghost use Rattle.journal.specs.disk_journal.Journal.{JournalCreates, JournalRecovers, disk_behind};
 ghost use Rattle.journal.specs.disk_journal.Journal.{HandsOut, JournalNextAnswers, HandsOutRest, RestAnswers, HandsOutAll};
 ghost use Rattle.journal.specs.disk_journal.Journal.{AllAnswers, BeforeOrAfter};
+ghost use Rattle.journal.specs.disk_journal.Rewrite.{IsDrafted, RewriteBegins, RewritePuts, RewriteEnds};
+ghost use Rattle.base_outside.specs.streams.Steps.{IfDone, IfNoRoom};
 
 use crate::checksum::{Sum, sums_law};
+use crate::disk_journal::ahead::{fill_ahead, make_zeros};
 use crate::disk_journal::form::sum_bytes;
 use crate::disk_journal::list::BytesList;
 use crate::disk_journal::read::{Found, NoBody, read_body};
+use crate::disk_journal::rewrite::{
+    Rewrite, begin_marked, close_and_adopt, fill_opened, put_quiet,
+};
 use crate::disk_journal::waiting::{add_entry, open_waiting, put_entry};
 use crate::disk_journal::{prepare, repair};
-use base_outside::Disk;
+use base_outside::{Disk, DiskStep, Renewal, TellsRoom};
 use spec_journal::Form;
 use std::alloc::{AllocError, Global};
 use std::marker::Model;
@@ -33,6 +40,9 @@ const LIMIT: u64 = 1_073_741_824;
 
 // A gate behind, and a length in front. Checksums aren't counted: so both forms have room for the same bodies.
 const AROUND: u64 = 5;
+
+// The same with a checksum.
+const AROUND_SUMMED: u64 = 9;
 
 // The most bytes around a body, a checksum among them.
 const MOST_AROUND: usize = 9;
@@ -129,7 +139,12 @@ fn admit(stopped: Option<u64>, used: u64, length: u64, epoch: bool) -> Result<()
 }
 
 // The checksum of an entry, where its form has one, behind what the buffer has.
-fn push_sum(buffer: &mut Vec<u8>, form: Form, front: &[u8], body: &[u8]) -> Result<(), AllocError>
+pub(crate) fn push_sum(
+    buffer: &mut Vec<u8>,
+    form: Form,
+    front: &[u8],
+    body: &[u8],
+) -> Result<(), AllocError>
     requires { front.now ≡ le 4 (length body.now) }
     ensures pushed { OnOk result (buffer.new.items ≡ buffer.old.items ++ form_sum form body.now) }
     ensures room { vec_capacity buffer.old ≤ vec_capacity buffer.new }
@@ -163,21 +178,51 @@ fn push_value(buffer: &mut Vec<u8>, value: u32) -> Result<(), AllocError>
     Ok(())
 }
 
-// What stands behind the gate of an entry: the length, a checksum or none, the body and the next closed gate.
+// The length of a body in four bytes.
 #[tactic(auto, using(wire_bytes::proofs::byte_lists::Endian::le_4))]
+fn front_of(body: &[u8]) -> [u8; 4]
+    requires { length body.now < 2 ^ 32 }
+    ensures { result ≡ le 4 (length body.now) }
+{
+    (body.len() as u32).to_le_bytes()
+}
+
+// The length of a body and its checksum, behind what the buffer has.
+#[tactic(auto, using(crate::proofs::disk_journal::Gathered::sum_short))]
+fn put_head(buffer: &mut Vec<u8>, form: Form, body: &[u8]) -> Result<(), AllocError>
+    requires { length body.now < 2 ^ 32 }
+    ensures put { OnOk result (buffer.new.items ≡ (buffer.old.items ++ le 4 (length body.now)) ++ form_sum form body.now) }
+    ensures long { OnOk result (length buffer.new.items ≤ length buffer.old.items + 8) }
+    ensures room { vec_capacity buffer.old ≤ vec_capacity buffer.new }
+    ensures full { OnErr result (vec_capacity buffer.old < length buffer.old.items + 8) }
+{
+    let front = front_of(body);
+    buffer.extend_from_slice(&front)?;
+    push_sum(buffer, form, &front, body)
+}
+
+// What stands behind the gate of an entry, behind what the buffer has: the length, a checksum or none, the body and the next closed gate.
+pub(crate) fn put_behind(buffer: &mut Vec<u8>, form: Form, body: &[u8]) -> Result<(), AllocError>
+    requires { length body.now < 2 ^ 32 }
+    ensures put { OnOk result (buffer.new.items ≡ buffer.old.items ++ (form_entry form body.now ++ 0 ∷ [])) }
+    ensures room { vec_capacity buffer.old ≤ vec_capacity buffer.new }
+    ensures full { OnErr result (vec_capacity buffer.old < length buffer.old.items + length body.now + 9) }
+{
+    put_head(buffer, form, body)?;
+    buffer.extend_from_slice(body)?;
+    buffer.push(0)?;
+    Ok(())
+}
+
+// The same at the buffer's front.
 fn fill(buffer: &mut Vec<u8>, form: Form, body: &[u8]) -> Result<(), AllocError>
     requires { length body.now < 2 ^ 32 }
     ensures filled { OnOk result (buffer.new.items ≡ form_entry form body.now ++ 0 ∷ []) }
     ensures room { vec_capacity buffer.old ≤ vec_capacity buffer.new }
     ensures full { OnErr result (vec_capacity buffer.old < length body.now + 9) }
 {
-    let front = (body.len() as u32).to_le_bytes();
     buffer.clear();
-    buffer.extend_from_slice(&front)?;
-    push_sum(buffer, form, &front, body)?;
-    buffer.extend_from_slice(body)?;
-    buffer.push(0)?;
-    Ok(())
+    put_behind(buffer, form, body)
 }
 
 impl<D: Disk> Journal<D> {
@@ -264,6 +309,8 @@ impl<D: Disk> Journal<D> {
     /// a disk that stands for it. A crash at any moment of the call leaves a disk that stands for the
     /// bodies before it, or for these and the new one.
     ///
+    /// A body that waits is on the disk before: its gate is opened and synced first.
+    ///
     /// `DiskFault` comes only where the disk's count of faults rose, and carries it; from then on each call
     /// answers `Stopped` with that count. `Full` carries the bytes that the journal would use and its
     /// limit, which is 939,524,096, and 1,073,741,824 for a body that begins an `epoch`.
@@ -274,6 +321,12 @@ impl<D: Disk> Journal<D> {
             → LeavesOnly D.moment D.left_since self.old.disk self.new.disk (BeforeOrAfter bodies body.now) }
         ensures stays { D.told → (bodies : List (List ℕ)) → JournalSettled D.seen D.may_leave self.old bodies
             → BeforeOrAfter bodies body.now (D.seen self.new.disk) }
+        ensures next { D.told → (bodies : List (List ℕ)) (waiting : List ℕ) → JournalWaits D.seen D.may_leave self.old bodies waiting
+            → IfOk result (λ number. (number ≡ length (bodies ++ waiting ∷ []))
+            × JournalSettled D.seen D.may_leave self.new ((bodies ++ waiting ∷ []) ++ body.now ∷ [])) }
+        ensures next_moment { D.told → (bodies : List (List ℕ)) (waiting : List ℕ) → JournalWaits D.seen D.may_leave self.old bodies waiting
+            → LeavesOnly D.moment D.left_since self.old.disk self.new.disk
+            (λ c. StandsFor c bodies ⊎ BeforeOrAfter (bodies ++ waiting ∷ []) body.now c) }
         ensures cause { Appends D.faults self.old body.now epoch result self.new }
     {
         admit(self.stopped, self.used, body.len() as u64, epoch)?;
@@ -446,5 +499,156 @@ impl<D: Disk> Journal<D> {
         ensures { result ≡ self.disk }
     {
         self.disk
+    }
+}
+
+impl<D: TellsRoom> Journal<D> {
+    /// Fills the file ahead with zeros, until 16 MiB stand behind the closed gate at the end, where fewer than 4 MiB do, and syncs: entries
+    /// don't make the file grow then. `false`: the disk has no room for them. The bodies, and one that waits, stay as they are, and a crash
+    /// at any moment of the call leaves a disk that stands for the bodies. `Memory` comes before any call of the disk.
+    pub fn take_ahead(&mut self) -> Result<bool, JournalError>
+        ensures settled { D.told → (bodies : List (List ℕ)) → JournalSettled D.seen D.may_leave self.old bodies
+            → OnOk result (JournalSettled D.seen D.may_leave self.new bodies) }
+        ensures settled_moment { D.told → (bodies : List (List ℕ)) → JournalSettled D.seen D.may_leave self.old bodies
+            → LeavesOnly D.moment D.left_since self.old.disk self.new.disk (λ c. StandsFor c bodies) }
+        ensures waits { D.told → (bodies : List (List ℕ)) (waiting : List ℕ) → JournalWaits D.seen D.may_leave self.old bodies waiting
+            → OnOk result (JournalWaits D.seen D.may_leave self.new bodies waiting) }
+        ensures waits_moment { D.told → (bodies : List (List ℕ)) (waiting : List ℕ) → JournalWaits D.seen D.may_leave self.old bodies waiting
+            → LeavesOnly D.moment D.left_since self.old.disk self.new.disk (λ c. StandsFor c bodies) }
+        ensures filled { D.told → (bodies : List (List ℕ)) → JournalSettled D.seen D.may_leave self.old bodies
+            → IfOk result (λ whole. IsTrue whole → self.new.end + 4194304 ≤ length (D.seen self.new.disk)) }
+        ensures cause { TakesAhead D.faults self.old result self.new }
+    {
+        if let Some(count) = self.stopped {
+            return Err(JournalError::Stopped(count));
+        }
+        // Behind its limit a journal takes no entry.
+        if self.used > LIMIT {
+            return Ok(false);
+        }
+        make_zeros(&mut self.buffer)?;
+        match fill_ahead(&mut self.disk, self.gate, &self.buffer) {
+            Ok(whole) => Ok(whole),
+            Err(_) => {
+                let count = self.disk.fault_count();
+                self.stopped = Some(count);
+                Err(JournalError::DiskFault(count))
+            }
+        }
+    }
+}
+
+impl<D: Renewal> Journal<D> {
+    /// Begins to write the journal anew, with checksums: a draft beside its disk, without bodies. `None` where the disk has no room for
+    /// it. Until `finish` the journal and what a crash leaves of it are as they were, so it may go on at any time, and the draft is
+    /// forgotten.
+    ///
+    /// `DiskFault` comes only where the disk's count of faults rose, and carries it; from then on each call answers `Stopped` with that
+    /// count.
+    pub fn begin_rewrite(&mut self) -> Result<Option<Rewrite>, JournalError>
+        ensures begun { D.told → IfOk result (λ found. MatchOption found (Unit {0}) (λ w. IsDrafted D.drafted self.new.disk w [])) }
+        ensures goes_on { D.told → (bodies : List (List ℕ)) → JournalSettled D.seen D.may_leave self.old bodies
+            → IfOk result (λ _. JournalSettled D.seen D.may_leave self.new bodies) }
+        ensures quiet { Quiet D.told D.seen D.may_leave D.moment D.left_since self.old.disk self.new.disk }
+        ensures cause { RewriteBegins D.faults self.old result self.new }
+    {
+        if let Some(count) = self.stopped {
+            return Err(JournalError::Stopped(count));
+        }
+        match begin_marked(&mut self.disk) {
+            Ok(DiskStep::Done) => Ok(Some(Rewrite::new())),
+            Ok(DiskStep::NoRoom) => Ok(None),
+            Err(_) => {
+                let count = self.disk.fault_count();
+                self.stopped = Some(count);
+                Err(JournalError::DiskFault(count))
+            }
+        }
+    }
+
+    /// Puts a body behind those that were put. Where there is no room for it, or memory runs out, the journal stays as it was, and the
+    /// draft is given up by the caller. `Full` carries the bytes that the new journal would use, and its limit, which is 939,524,096.
+    pub fn put(&mut self, rewrite: &mut Rewrite, body: &[u8]) -> Result<DiskStep, JournalError>
+        ensures put { D.told → (bodies : List (List ℕ)) → IsDrafted D.drafted self.old.disk rewrite.old bodies
+            → IfDone result (IsDrafted D.drafted self.new.disk rewrite.new (bodies ++ body.now ∷ [])) }
+        ensures goes_on { D.told → (bodies : List (List ℕ)) → JournalSettled D.seen D.may_leave self.old bodies
+            → IfOk result (λ _. JournalSettled D.seen D.may_leave self.new bodies) }
+        ensures quiet { Quiet D.told D.seen D.may_leave D.moment D.left_since self.old.disk self.new.disk }
+        ensures cause { RewritePuts D.faults self.old rewrite.old (length body.now) result self.new rewrite.new }
+    {
+        admit(self.stopped, rewrite.used, body.len() as u64, false)?;
+        fill_opened(&mut self.buffer, body)?;
+        match put_quiet(&mut self.disk, &self.buffer) {
+            Ok(DiskStep::Done) => {
+                rewrite.gate += AROUND_SUMMED + body.len() as u64;
+                rewrite.used += AROUND + body.len() as u64;
+                rewrite.count += 1;
+                Ok(DiskStep::Done)
+            }
+            Ok(DiskStep::NoRoom) => Ok(DiskStep::NoRoom),
+            Err(_) => {
+                let count = self.disk.fault_count();
+                self.stopped = Some(count);
+                Err(JournalError::DiskFault(count))
+            }
+        }
+    }
+
+    /// Closes the draft, and lets it take the disk's place: from then on the journal has exactly the bodies that were put, which count as
+    /// handed out. A crash at any moment leaves what stands for the old bodies, or for those that were put. Where there is no room the
+    /// journal stays as it was. After `DiskFault` it isn't known which of both the disk has, and the journal stops.
+    pub fn finish(&mut self, rewrite: &Rewrite) -> Result<DiskStep, JournalError>
+        ensures adopted { D.told → (told : List (List ℕ)) → IsDrafted D.drafted self.old.disk rewrite.now told
+            → IfDone result (JournalSettled D.seen D.may_leave self.new told) }
+        ensures goes_on { D.told → (bodies : List (List ℕ)) → JournalSettled D.seen D.may_leave self.old bodies
+            → IfNoRoom result (JournalSettled D.seen D.may_leave self.new bodies) }
+        ensures any_moment { D.told → (bodies told : List (List ℕ)) → JournalSettled D.seen D.may_leave self.old bodies
+            → IsDrafted D.drafted self.old.disk rewrite.now told
+            → LeavesOnly D.moment D.left_since self.old.disk self.new.disk (λ c. StandsFor c bodies ⊎ StandsFor c told) }
+        ensures stays { D.told → (bodies told : List (List ℕ)) → JournalSettled D.seen D.may_leave self.old bodies
+            → IsDrafted D.drafted self.old.disk rewrite.now told
+            → StandsFor (D.seen self.new.disk) bodies ⊎ StandsFor (D.seen self.new.disk) told }
+        ensures cause { RewriteEnds D.faults self.old rewrite.now result self.new }
+    {
+        if let Some(count) = self.stopped {
+            return Err(JournalError::Stopped(count));
+        }
+        match close_and_adopt(&mut self.disk) {
+            Ok(DiskStep::Done) => {
+                self.go_on_with(rewrite);
+                Ok(DiskStep::Done)
+            }
+            Ok(DiskStep::NoRoom) => Ok(DiskStep::NoRoom),
+            Err(_) => {
+                let count = self.disk.fault_count();
+                self.stopped = Some(count);
+                Err(JournalError::DiskFault(count))
+            }
+        }
+    }
+
+    // The draft is the journal's disk, and its bodies count as handed out.
+    fn go_on_with(&mut self, rewrite: &Rewrite)
+        ensures { self.new ≡ record {
+          disk = self.old.disk;
+          form = forms.Summed;
+          end = rewrite.now.gate + 1;
+          used = rewrite.now.used;
+          count = rewrite.now.count;
+          taken = rewrite.now.count;
+          next = rewrite.now.gate;
+          waits = None;
+          stopped = None;
+          room = self.old.room;
+        } }
+    {
+        self.form = Form::Summed;
+        self.gate = rewrite.gate;
+        self.used = rewrite.used;
+        self.count = rewrite.count;
+        self.taken = rewrite.count;
+        self.next = rewrite.gate;
+        self.waits = None;
+        self.stopped = None;
     }
 }

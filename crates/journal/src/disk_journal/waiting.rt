@@ -4,7 +4,7 @@ ghost use Rattle.base_outside.specs.streams.Disk.{Only};
 ghost use Rattle.base_outside.specs.streams.Faults.{CountsFault};
 ghost use Rattle.spec_wire.specs.journal.Moments.{LeavesOnly};
 ghost use Rattle.journal.specs.disk_journal.Entry.{ClosedAt, StaysClosed, IsClosedOrOpened};
-ghost use Rattle.journal.specs.disk_journal.Entry.{WaitsAt, IsClosedBeforeOrBehind};
+ghost use Rattle.journal.specs.disk_journal.Entry.{WaitsAt, IsClosedBeforeOrBehind, IsClosedOrNextOpened};
 
 use crate::disk_journal::entry::{open_gate, stage_entry, write_entry, write_next};
 use base_outside::{Disk, Failed};
@@ -42,6 +42,13 @@ pub(crate) fn add_entry<D: Disk>(
     ensures any_moment { D.told → waits ≡ None → (front rest : List ℕ) (shut : ℕ) → ClosedAt gate front shut rest (D.seen disk.old)
         → Only (D.seen disk.old) (D.may_leave disk.old)
         → LeavesOnly D.moment D.left_since disk.old disk.new (IsClosedOrOpened front behind.now) }
+    ensures next { D.told → (before : ℕ) → waits ≡ Some before → (front entry rest : List ℕ) (shut last : ℕ)
+        → WaitsAt before gate front entry shut last rest (D.seen disk.old) → Only (D.seen disk.old) (D.may_leave disk.old)
+        → OnOk result ((D.seen disk.new ≡ (front ++ 1 ∷ entry) ++ 1 ∷ (behind.now ++ drop (length behind.now) rest))
+        × Only (D.seen disk.new) (D.may_leave disk.new)) }
+    ensures next_moment { D.told → (before : ℕ) → waits ≡ Some before → (front entry rest : List ℕ) (shut last : ℕ)
+        → WaitsAt before gate front entry shut last rest (D.seen disk.old) → Only (D.seen disk.old) (D.may_leave disk.old)
+        → LeavesOnly D.moment D.left_since disk.old disk.new (IsClosedOrNextOpened front entry behind.now) }
     ensures cause { CountsFault (D.faults disk.old) (D.faults disk.new) result }
 {
     open_waiting(disk, waits)?;

@@ -7,7 +7,7 @@ use Rattle.spec_wire.specs.journal.Moments.{LeavesOnly}
 use Rattle.journal.specs.disk_journal.Journal.{Allows, Appends, JournalState, OnlyRoom, Reserves, JournalSettled, journal_capped}
 use Rattle.journal.specs.declared.disk_journal.journal.JournalError.{JournalError}
 use Rattle.journal.specs.declared.disk_journal.journal.JournalError.TheVariants as causes
-use Rattle.journal.specs.record_bodies.Body.{added_by, bodies_of}
+use Rattle.journal_bytes.specs.record_bodies.Body.{added_by, bodies_of}
 use Rattle.server_core.specs.body_writing.Bodies.{HasBodyRoom, IsLack, LeavesOf, WritesBody, event_error_of}
 
 -- ---- a body's length

@@ -1,7 +1,7 @@
 -- How many bytes a body adds.
 use Rattle.std.proofs.Common.{◌≡◌, ◌≤◌, ◌<◌, ℕ, ◌+◌, ◌==◌, ◌||◌, nat_le, Bool, true, false, List, [], ◌∷◌, length, arith}
 use Rattle.std.proofs.lemmas.Bool.Decides.{nat_tests}
-use Rattle.journal.specs.record_bodies.Body.{added_by, fits_by}
+use Rattle.journal_bytes.specs.record_bodies.Body.{added_by, fits_by}
 
 within : (x n : ℕ) → nat_le x n ≡ true → x ≤ n
 within x n e = grind (arith, nat_tests)

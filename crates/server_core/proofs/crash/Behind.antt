@@ -8,7 +8,7 @@ use Rattle.spec_exchange.specs.Step.{connection_of, expire, expire_records, step
 use Rattle.spec_journal.specs.Forms.{BreaksAt, StandsFor}
 use Rattle.law_records.specs.recovery.Recovers.{RecordRecovers}
 use Rattle.law_records.specs.recovery.Restarted.{EntriesLeft, Restarted}
-use Rattle.journal.specs.record_bodies.Body.{IsBodyOf, bodies_of}
+use Rattle.journal_bytes.specs.record_bodies.Body.{IsBodyOf, bodies_of}
 use Rattle.server_core.specs.journaled_tables.Holds.{EventLeavesBodies}
 use Rattle.server_core.specs.journaled_tables.Journal.{OneBody}
 use Rattle.law_server.specs.tables.Fits.{Fits, all_sound}

@@ -5,10 +5,10 @@ use Rattle.spec_exchange.specs.Fold.{may_restore, may_have_open, restore, same_t
 use Rattle.spec_exchange.specs.Opens.{file_has_open}
 use Rattle.spec_exchange.specs.State as model
 use Rattle.spec_exchange.specs.State.{Server, Origin}
-use Rattle.journal.specs.record_bytes.Meaning.{elements_in, new_open, opened, record_of}
-use Rattle.journal.specs.declared.record_bytes.value.NewOpen.{NewOpen}
-use Rattle.journal.specs.declared.record_bytes.value.Record.{Record}
-use Rattle.journal.specs.declared.record_bytes.value.Record.TheVariants.{Create, Write, SetEnd, Rename, Lock}
+use Rattle.journal_bytes.specs.record_bytes.Meaning.{elements_in, new_open, opened, record_of}
+use Rattle.journal_bytes.specs.declared.record_bytes.value.NewOpen.{NewOpen}
+use Rattle.journal_bytes.specs.declared.record_bytes.value.Record.{Record}
+use Rattle.journal_bytes.specs.declared.record_bytes.value.Record.TheVariants.{Create, Write, SetEnd, Rename, Lock}
 use Rattle.store_opens.specs.open_table.Changes.{restore_refusal}
 use Rattle.server_core.specs.durable_state.Durable.{DurableShown, is_unopened}
 use Rattle.server_core.specs.declared.durable_state.durable.Durable.{Durable}

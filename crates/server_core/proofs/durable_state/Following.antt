@@ -6,8 +6,8 @@ use Rattle.std.proofs.lemmas.List.{drop_more}
 use Rattle.spec_exchange.specs.State as model
 use Rattle.spec_exchange.specs.State.{Server}
 use Rattle.spec_exchange.specs.Fold.{fold_from, with_record}
-use Rattle.journal.specs.record_bytes.Meaning.{record_of, records_of}
-use Rattle.journal.specs.declared.record_bytes.value.Record.{Record}
+use Rattle.journal_bytes.specs.record_bytes.Meaning.{record_of, records_of}
+use Rattle.journal_bytes.specs.declared.record_bytes.value.Record.{Record}
 use Rattle.law_server.specs.tables.Fits.{Fits, is_sound, all_sound}
 use Rattle.law_server.proofs.tables.Logic.{front_of, back_of}
 use Rattle.law_server.proofs.tables.Folded.{recorded_keeps}

@@ -19,8 +19,8 @@ use Rattle.store_files.specs.file_tree.Refusals.{make_refusal, place_refusal, fo
 use Rattle.store_files.specs.declared.file_tree.error.StoreError.{StoreError}
 use Rattle.store_files.specs.declared.file_tree.error.StoreError.TheVariants.{Memory, Status}
 use Rattle.store_files.specs.declared.file_tree.tree.Tree.{Tree}
-use Rattle.journal.specs.record_bytes.Meaning.{new_open, opened}
-use Rattle.journal.specs.declared.record_bytes.value.NewOpen.{NewOpen}
+use Rattle.journal_bytes.specs.record_bytes.Meaning.{new_open, opened}
+use Rattle.journal_bytes.specs.declared.record_bytes.value.NewOpen.{NewOpen}
 use Rattle.store_opens.specs.open_table.Changes.{restore_refusal, restored}
 use Rattle.store_opens.specs.open_table.Changes as opens
 use Rattle.store_opens.specs.open_table.Shown.{ShowsOpens}

@@ -13,9 +13,9 @@ use Rattle.spec_exchange.specs.Fold.{unmark_records}
 use Rattle.law_server.specs.tables.Fits.{Fits}
 use Rattle.law_records.specs.fold.Order.{mark_at, marks_of}
 use Rattle.law_records.proofs.fold.Marks.{marks_whole}
-use Rattle.journal.specs.record_bytes.Meaning.{record_of, records_of}
-use Rattle.journal.specs.declared.record_bytes.value.Record.{Record}
-use Rattle.journal.specs.declared.record_bytes.value.Record.TheVariants.{SetDelete}
+use Rattle.journal_bytes.specs.record_bytes.Meaning.{record_of, records_of}
+use Rattle.journal_bytes.specs.declared.record_bytes.value.Record.{Record}
+use Rattle.journal_bytes.specs.declared.record_bytes.value.Record.TheVariants.{SetDelete}
 use Rattle.server_core.specs.durable_state.Durable.{DurableShown}
 use Rattle.server_core.specs.declared.durable_state.durable.Durable.{Durable}
 use Rattle.server_core.proofs.durable_state.Keys.{ascending_keys, has_key}

@@ -3,7 +3,7 @@ use Rattle.std.proofs.Common.{◌≡◌, ◌≤◌, ℕ, ◌+◌, ◌==◌, ◌|
 use Rattle.std.proofs.Common.{refl, sym, ap, subst, ◌∙◌}
 use Rattle.std.proofs.lemmas.Bool.Decides.{nat_tests}
 use Rattle.journal.specs.disk_journal.Journal.{Allows, JournalState, OnlyRoom}
-use Rattle.journal.specs.record_bodies.Body.{fits_by}
+use Rattle.journal_bytes.specs.record_bodies.Body.{fits_by}
 use Rattle.server_checks.specs.declared.tables.Tables.{Tables}
 use Rattle.server_core.specs.journaled_tables.Rooms.{HasRoomToWrite}
 use Rattle.server_core.specs.declared.journaled_tables.state.ServerState.{ServerState}

@@ -11,7 +11,7 @@ use Rattle.server_checks.specs.event_heard.Heard.{event_of, heard_event}
 use Rattle.server_checks.specs.declared.event_heard.asked.Asked.{Asked}
 use Rattle.server_checks.specs.declared.event_heard.event.ServerEvent.{ServerEvent}
 use Rattle.server_core.specs.declared.behind_expiry.behind.Both.{Both}
-use Rattle.journal.specs.record_bodies.Body.{IsBodyOf}
+use Rattle.journal_bytes.specs.record_bodies.Body.{IsBodyOf}
 use Rattle.server_checks.specs.declared.tables.Config.{Config}
 use Rattle.server_effects.specs.declared.answering.Answer.{Answer}
 use Rattle.server_core.proofs.event_step.Committed.{Committing, event_carried}

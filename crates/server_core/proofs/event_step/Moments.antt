@@ -5,7 +5,7 @@ use Rattle.spec_exchange.specs.Step.{step}
 use Rattle.spec_journal.specs.Forms.{StandsFor}
 use Rattle.spec_wire.specs.journal.Moments.{LeavesOnly}
 use Rattle.journal.specs.disk_journal.Journal.{JournalState, OnlyRoom, JournalSettled}
-use Rattle.journal.specs.record_bodies.Body.{IsBodyOf, bodies_of}
+use Rattle.journal_bytes.specs.record_bodies.Body.{IsBodyOf, bodies_of}
 use Rattle.server_core.specs.journaled_tables.Holds.{EventLeavesBodies}
 use Rattle.server_core.specs.body_writing.Bodies.{LeavesOf}
 use Rattle.spec_world.specs.Lacking.{Expires, alone_records}

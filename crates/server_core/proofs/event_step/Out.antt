@@ -13,7 +13,7 @@ use Rattle.server_checks.specs.event_heard.Heard.{event_of, heard_event}
 use Rattle.server_checks.specs.declared.event_heard.asked.Asked.{Asked}
 use Rattle.server_checks.specs.declared.event_heard.event.ServerEvent.{ServerEvent}
 use Rattle.server_checks.specs.declared.event_heard.event.ServerEvent.TheVariants as events
-use Rattle.journal.specs.record_bodies.Body.{IsBodyOf}
+use Rattle.journal_bytes.specs.record_bodies.Body.{IsBodyOf}
 use Rattle.server_core.specs.event_step.Behind.{HasFront, MayExpire, both_from}
 use Rattle.server_checks.specs.setups.Setups.{in_the_making}
 use Rattle.server_effects.specs.expiry.Expired.{IsExpired}

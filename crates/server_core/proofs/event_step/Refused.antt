@@ -15,7 +15,7 @@ use Rattle.journal.specs.disk_journal.Journal.{JournalState, OnlyRoom, JournalSe
 use Rattle.server_checks.specs.event_heard.Heard.{heard_event}
 use Rattle.server_checks.specs.declared.event_heard.asked.Asked.{Asked}
 use Rattle.server_checks.specs.declared.event_heard.event.ServerEvent.{ServerEvent}
-use Rattle.journal.specs.record_bodies.Body.{fits_by}
+use Rattle.journal_bytes.specs.record_bodies.Body.{fits_by}
 use Rattle.server_checks.specs.Shown.{TablesShown}
 use Rattle.server_checks.specs.declared.tables.Config.{Config}
 use Rattle.server_checks.specs.declared.tables.Tables.{Tables}

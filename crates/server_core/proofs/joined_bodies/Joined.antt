@@ -4,10 +4,10 @@ use Rattle.std.proofs.lemmas.List.{append-nil}
 use Rattle.std.proofs.lemmas.List.Concat.{flat_map-append}
 use Rattle.std.proofs.lemmas.List.Elements.{All-append}
 use Rattle.spec_exchange.specs.State as model
-use Rattle.journal.specs.record_bytes.Grammar.{IsWritableRecord, record_spelling}
-use Rattle.journal.specs.record_bytes.Meaning.{record_of, records_of}
-use Rattle.journal.specs.declared.record_bytes.value.Record.{Record}
-use Rattle.journal.specs.record_bodies.Body.{IsBody, IsBodyOf}
+use Rattle.journal_bytes.specs.record_bytes.Grammar.{IsWritableRecord, record_spelling}
+use Rattle.journal_bytes.specs.record_bytes.Meaning.{record_of, records_of}
+use Rattle.journal_bytes.specs.declared.record_bytes.value.Record.{Record}
+use Rattle.journal_bytes.specs.record_bodies.Body.{IsBody, IsBodyOf}
 
 records_both : (xs ys : List Record) → records_of (xs ++ ys) ≡ records_of xs ++ records_of ys
 records_both [] ys = refl

@@ -6,7 +6,7 @@ use Rattle.spec_exchange.specs.State as model
 use Rattle.spec_exchange.specs.Step.{step, written_down}
 use Rattle.server_checks.specs.event_heard.Heard.{heard_event}
 use Rattle.server_checks.specs.declared.event_heard.event.ServerEvent.{ServerEvent}
-use Rattle.journal.specs.record_bodies.Body.{IsBodyOf, added_by}
+use Rattle.journal_bytes.specs.record_bodies.Body.{IsBodyOf, added_by}
 use Rattle.server_checks.specs.Shown.{TablesShown}
 use Rattle.server_effects.specs.declared.answering.Answer.{Answer}
 use Rattle.server_checks.specs.setups.Setups.{progress_of}

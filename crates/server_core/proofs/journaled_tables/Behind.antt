@@ -2,7 +2,7 @@
 use Rattle.std.proofs.Common.{◌≡◌, ℕ, ◌+◌, List, ◌++◌, None, sym, ap, subst, ◌∙◌}
 use Rattle.spec_exchange.specs.State as model
 use Rattle.journal.specs.disk_journal.Journal.{JournalState, OnlyRoom, JournalSettled}
-use Rattle.journal.specs.record_bodies.Body.{IsBodyOf, added_by, bodies_of}
+use Rattle.journal_bytes.specs.record_bodies.Body.{IsBodyOf, added_by, bodies_of}
 use Rattle.server_core.specs.journaled_tables.Holds.{JournaledHeld, JournaledHolds, JournaledStands}
 use Rattle.server_core.specs.journaled_tables.Shown.{ServerShown}
 use Rattle.server_core.specs.declared.journaled_tables.state.ServerState.{ServerState}

@@ -5,7 +5,7 @@ use Rattle.spec_exchange.specs.Records.{entry_bytes}
 use Rattle.spec_exchange.specs.State as model
 use Rattle.spec_exchange.specs.Step.{expire, expire_records, step}
 use Rattle.law_records.specs.recovery.Recovers.{RecordRecovers}
-use Rattle.journal.specs.record_bodies.Body.{IsBodyOf, added_by, bodies_of}
+use Rattle.journal_bytes.specs.record_bodies.Body.{IsBodyOf, added_by, bodies_of}
 use Rattle.law_server.specs.tables.Fits.{Fits, all_sound}
 use Rattle.server_core.specs.Reading.{BodiesSpell}
 use Rattle.spec_world.specs.Lacking.{Expires, alone_records}

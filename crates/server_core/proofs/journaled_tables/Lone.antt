@@ -5,7 +5,7 @@ use Rattle.spec_exchange.specs.Records.{entry_bytes, fits}
 use Rattle.spec_exchange.specs.State as model
 use Rattle.spec_exchange.specs.Step.{due, expire, max_expired_guids, with_deadlines}
 use Rattle.journal.specs.disk_journal.Journal.{JournalSettled}
-use Rattle.journal.specs.record_bodies.Body.{IsBodyOf, added_by, bodies_of}
+use Rattle.journal_bytes.specs.record_bodies.Body.{IsBodyOf, added_by, bodies_of}
 use Rattle.server_checks.specs.Shown.{TablesShown}
 use Rattle.server_checks.specs.declared.setups.error.EventError.{EventError}
 use Rattle.server_checks.specs.declared.setups.error.EventError.TheVariants.{Memory, DiskFault, Stopped}

@@ -4,10 +4,10 @@ use Rattle.std.proofs.lemmas.List.{append-nil}
 use Rattle.spec_exchange.specs.Fold.{fold}
 use Rattle.spec_exchange.specs.Records.{entry_bytes}
 use Rattle.spec_exchange.specs.State as model
-use Rattle.journal.specs.record_bytes.Grammar.{SpellsRecords}
-use Rattle.journal.specs.record_bytes.Meaning.{record_of, records_of}
-use Rattle.journal.specs.declared.record_bytes.value.Record.{Record}
-use Rattle.journal.specs.record_bodies.Body.{IsBody, IsBodyOf, added_by, bodies_of}
+use Rattle.journal_bytes.specs.record_bytes.Grammar.{SpellsRecords}
+use Rattle.journal_bytes.specs.record_bytes.Meaning.{record_of, records_of}
+use Rattle.journal_bytes.specs.declared.record_bytes.value.Record.{Record}
+use Rattle.journal_bytes.specs.record_bodies.Body.{IsBody, IsBodyOf, added_by, bodies_of}
 use Rattle.server_core.specs.Reading.{BodiesSpell}
 
 -- what `body_law` says of how many bytes a body adds, and of what it reads back

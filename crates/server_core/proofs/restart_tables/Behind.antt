@@ -11,17 +11,17 @@ use Rattle.spec_exchange.specs.State.{Server, VersionRecord, EpochRecord}
 use Rattle.spec_wire.specs.journal.Grammar.{front}
 use Rattle.spec_journal.specs.Forms.{BreaksAt, StandsFor}
 use Rattle.spec_wire.specs.journal.Moments.{LeavesOnly, Quiet}
-use Rattle.journal.specs.record_bytes.Grammar.{SpellsRecords}
-use Rattle.journal.specs.record_bytes.Meaning.{record_of, records_of}
-use Rattle.journal.specs.declared.record_bytes.value.Record.{Record}
-use Rattle.journal.specs.declared.record_bytes.value.Record.TheVariants.{Epoch, Create, Write, SetEnd, SetBasic, SetDelete}
-use Rattle.journal.specs.declared.record_bytes.value.Record.TheVariants.{Rename, Remove, Lock, Shut, Version, Expire}
+use Rattle.journal_bytes.specs.record_bytes.Grammar.{SpellsRecords}
+use Rattle.journal_bytes.specs.record_bytes.Meaning.{record_of, records_of}
+use Rattle.journal_bytes.specs.declared.record_bytes.value.Record.{Record}
+use Rattle.journal_bytes.specs.declared.record_bytes.value.Record.TheVariants.{Epoch, Create, Write, SetEnd, SetBasic, SetDelete}
+use Rattle.journal_bytes.specs.declared.record_bytes.value.Record.TheVariants.{Rename, Remove, Lock, Shut, Version, Expire}
 use Rattle.journal.specs.disk_journal.Journal as journals
 use Rattle.journal.specs.disk_journal.Journal.{JournalState, JournalSettled, Appends, BeforeOrAfter, journal_capped}
 use Rattle.journal.specs.declared.disk_journal.journal.JournalError.{JournalError}
 use Rattle.journal.specs.declared.disk_journal.journal.JournalError.TheVariants.{Memory, DiskFault, NotAJournal, Full, Stopped}
-use Rattle.journal.specs.record_bodies.Body.{IsBody, added_by}
-use Rattle.journal.proofs.record_bodies.Sizes.{added, again}
+use Rattle.journal_bytes.specs.record_bodies.Body.{IsBody, added_by}
+use Rattle.journal_bytes.proofs.record_bodies.Sizes.{added, again}
 use Rattle.server_checks.specs.Shown.{TablesShown}
 use Rattle.server_checks.specs.declared.tables.Config.{Config}
 use Rattle.server_checks.specs.declared.tables.Tables.{Tables}

@@ -4,7 +4,7 @@ use Rattle.spec_exchange.specs.Records.{fits}
 use Rattle.spec_exchange.specs.State as model
 use Rattle.spec_exchange.specs.Step.{carried_out, ruling}
 use Rattle.server_core.specs.declared.behind_expiry.behind.Both.{Both}
-use Rattle.journal.specs.record_bodies.Body.{IsBodyOf}
+use Rattle.journal_bytes.specs.record_bodies.Body.{IsBodyOf}
 use Rattle.server_checks.specs.Shown.{TablesShown}
 use Rattle.server_core.specs.declared.journaled_tables.state.ServerState.{ServerState}
 use Rattle.server_effects.specs.prepared_event.Prepared.{IsPrepared, prepared_ruling}

@@ -4,7 +4,7 @@ use Rattle.spec_journal.specs.Forms.{StandsFor}
 use Rattle.journal.specs.disk_journal.Journal.{Allows, JournalState}
 use Rattle.journal.specs.declared.disk_journal.journal.JournalError.{JournalError}
 use Rattle.journal.specs.declared.disk_journal.journal.JournalError.TheVariants as causes
-use Rattle.journal.specs.record_bodies.Body.{added_by, bodies_of}
+use Rattle.journal_bytes.specs.record_bodies.Body.{added_by, bodies_of}
 use Rattle.server_checks.specs.declared.setups.error.EventError.{EventError}
 use Rattle.server_checks.specs.declared.setups.error.EventError.TheVariants.{Memory, DiskFault, Stopped}
 use Rattle.base_outside.specs.streams.Faults.{Rose}

@@ -3,7 +3,7 @@ use Rattle.std.specs.Prelude.{◌≡◌, ℕ, ◌+◌, List, Result, Ok, Err}
 use Rattle.wire_commands.specs.values.Meaning.{reply_of}
 use Rattle.spec_exchange.specs.State as model
 use Rattle.server_checks.specs.declared.event_heard.event.ServerEvent.{ServerEvent}
-use Rattle.journal.specs.record_bodies.Body.{added_by}
+use Rattle.journal_bytes.specs.record_bodies.Body.{added_by}
 use Rattle.server_checks.specs.Shown.{TablesShown}
 use Rattle.server_effects.specs.declared.answering.Answer.{Answer}
 use Rattle.server_checks.specs.declared.setups.error.EventError.{EventError}

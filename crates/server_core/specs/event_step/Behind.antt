@@ -7,7 +7,7 @@ use Rattle.journal.specs.disk_journal.Journal.{OnlyRoom}
 use Rattle.server_checks.specs.event_heard.Heard.{event_of, heard_event}
 use Rattle.server_checks.specs.declared.event_heard.asked.Asked.{Asked}
 use Rattle.server_checks.specs.declared.event_heard.event.ServerEvent.{ServerEvent}
-use Rattle.journal.specs.record_bodies.Body.{IsBodyOf}
+use Rattle.journal_bytes.specs.record_bodies.Body.{IsBodyOf}
 use Rattle.server_checks.specs.Shown.{TablesShown}
 use Rattle.server_core.specs.declared.event_step.expiring.Behind.{Behind}
 use Rattle.server_core.specs.declared.event_step.expiring.Behind.TheVariants.{Answered, NoneExpires}

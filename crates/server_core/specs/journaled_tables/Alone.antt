@@ -2,7 +2,7 @@
 use Rattle.std.specs.Prelude.{ℕ, ◌+◌, List, Result, Ok, Err}
 use Rattle.spec_exchange.specs.State as model
 use Rattle.spec_exchange.specs.Step.{expire, with_deadlines}
-use Rattle.journal.specs.record_bodies.Body.{added_by}
+use Rattle.journal_bytes.specs.record_bodies.Body.{added_by}
 use Rattle.server_checks.specs.Shown.{TablesShown}
 use Rattle.server_checks.specs.declared.setups.error.EventError.{EventError}
 use Rattle.server_checks.specs.declared.setups.error.EventError.TheVariants.{Memory, DiskFault, Stopped}

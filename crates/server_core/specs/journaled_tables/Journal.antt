@@ -2,7 +2,7 @@
 use Rattle.std.specs.Prelude.{◌≡◌, ◌⊎◌, ℕ, List, ◌++◌}
 use Rattle.spec_exchange.specs.State as model
 use Rattle.spec_journal.specs.Forms.{StandsFor}
-use Rattle.journal.specs.record_bodies.Body.{IsBodyOf, bodies_of}
+use Rattle.journal_bytes.specs.record_bodies.Body.{IsBodyOf, bodies_of}
 
 -- the bodies that an event's records make: none of none
 abbrev pub OneBody : List model.Record → List (List ℕ) → Type 0

@@ -1,6 +1,6 @@
 -- What writing a body comes to.
 use Rattle.std.specs.Prelude.{◌≡◌, ℕ, ◌+◌, List, Some, Result, Ok, Err}
-use Rattle.journal.specs.record_bodies.Body.{added_by}
+use Rattle.journal_bytes.specs.record_bodies.Body.{added_by}
 use Rattle.server_checks.specs.declared.setups.error.EventError.{EventError}
 use Rattle.server_checks.specs.declared.setups.error.EventError.TheVariants.{Memory, DiskFault, Stopped}
 use Rattle.server_core.specs.declared.journaled_tables.state.ServerState.{ServerState}

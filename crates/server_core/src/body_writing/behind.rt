@@ -1,6 +1,6 @@
 //! What is counted behind a body, and where a server stops.
 ghost use Rattle.std.specs.Prelude.{◌≡◌, ◌+◌, ℕ, List, length, true};
-ghost use Rattle.journal.specs.record_bodies.Body.{added_by, fits_by};
+ghost use Rattle.journal_bytes.specs.record_bodies.Body.{added_by, fits_by};
 ghost use Rattle.server_core.specs.body_writing.Bodies.{stopped_by};
 
 use server_checks::EventError;

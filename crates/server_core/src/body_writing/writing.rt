@@ -2,7 +2,7 @@
 ghost use Rattle.std.specs.Prelude.{◌≡◌, ◌≤◌, ◌+◌, ◌++◌, ℕ, IsOk, List, MatchResult, None, OnOk, length, ⊤};
 ghost use Rattle.spec_wire.specs.journal.Moments.{LeavesOnly};
 ghost use Rattle.journal.specs.disk_journal.Journal.{OnlyRoom, JournalSettled};
-ghost use Rattle.journal.specs.record_bodies.Body.{bodies_of};
+ghost use Rattle.journal_bytes.specs.record_bodies.Body.{bodies_of};
 ghost use Rattle.server_core.specs.body_writing.Bodies.{HasBodyRoom, IsLack, LeavesOf, WritesBody, event_error_of};
 
 use base_outside::Disk;

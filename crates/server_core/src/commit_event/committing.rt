@@ -7,7 +7,7 @@ ghost use Rattle.spec_wire.specs.journal.Moments.{LeavesOnly};
 ghost use Rattle.journal.specs.disk_journal.Journal.{JournalSettled};
 ghost use Rattle.server_checks.specs.event_heard.Heard.{event_of, heard_event};
 ghost use Rattle.server_checks.specs.declared.event_heard.event.ServerEvent.{ServerEvent};
-ghost use Rattle.journal.specs.record_bodies.Body.{bodies_of};
+ghost use Rattle.journal_bytes.specs.record_bodies.Body.{bodies_of};
 ghost use Rattle.server_core.specs.commit_event.Commits.{BesideCommitted, Commits};
 ghost use Rattle.server_checks.specs.setups.Setups.{progress_of};
 ghost use Rattle.server_core.specs.journaled_tables.Heard.{IsJournaledHeard};

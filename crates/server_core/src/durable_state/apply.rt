@@ -2,12 +2,12 @@
 ghost use Rattle.std.specs.Prelude.{◌≡◌, true, OnOk};
 ghost use Rattle.spec_exchange.specs.Fold.{fold_from};
 ghost use Rattle.spec_exchange.specs.State.{Server};
-ghost use Rattle.journal.specs.record_bytes.Meaning.{records_of};
+ghost use Rattle.journal_bytes.specs.record_bytes.Meaning.{records_of};
 ghost use Rattle.server_core.specs.durable_state.Durable.{DurableShown};
 ghost use Rattle.law_server.specs.tables.Fits.{Fits, all_sound};
 
 use crate::durable_state::durable::Durable;
-use journal::Record;
+use journal_bytes::Record;
 use std::alloc::AllocError;
 
 impl Durable {

@@ -5,7 +5,7 @@ ghost use Rattle.spec_exchange.specs.Files.{empty_file, make_file};
 ghost use Rattle.spec_exchange.specs.Fold.{is_file, may_have_open, may_make, may_restore, restore, with_record};
 ghost use Rattle.spec_exchange.specs.Opens.{max_ids};
 ghost use Rattle.spec_exchange.specs.State.{Origin, Server};
-ghost use Rattle.journal.specs.record_bytes.Meaning.{new_open, opened};
+ghost use Rattle.journal_bytes.specs.record_bytes.Meaning.{new_open, opened};
 ghost use Rattle.store_files.specs.declared.file_tree.error.StoreError.TheVariants as stores;
 ghost use Rattle.store_opens.specs.open_table.Changes.{restore_refusal};
 ghost use Rattle.store_opens.specs.declared.open_table.error.OpenError.TheVariants as opens;
@@ -14,7 +14,7 @@ ghost use Rattle.law_server.specs.tables.Fits.{Fits};
 ghost use Rattle.spec_wire.specs.messages.Places.{number_of};
 
 use crate::durable_state::durable::Durable;
-use journal::{NewOpen, guid_of};
+use journal_bytes::{NewOpen, guid_of};
 use std::alloc::AllocError;
 use store_files::StoreError;
 use store_opens::{OpenError, OpenParts};

@@ -7,14 +7,14 @@ ghost use Rattle.spec_exchange.specs.Fold.{begin_epoch, nothing_yet, set_version
 ghost use Rattle.spec_exchange.specs.Opens.{file_has_open, without_gone};
 ghost use Rattle.spec_exchange.specs.Records.{origin_at};
 ghost use Rattle.spec_exchange.specs.State.{Server};
-ghost use Rattle.journal.specs.record_bytes.Meaning.{records_of};
+ghost use Rattle.journal_bytes.specs.record_bytes.Meaning.{records_of};
 ghost use Rattle.store_files.specs.file_tree.Shown.{ShowsFiles};
 ghost use Rattle.store_opens.specs.open_table.Shown.{ShowsOpens};
 ghost use Rattle.law_records.specs.fold.Order.{mark_at, marks_of, swept_of};
 ghost use Rattle.server_core.specs.durable_state.Durable.{DurableShown};
 ghost use Rattle.law_server.specs.tables.Fits.{Fits};
 
-use journal::{Origin, Record, Records};
+use journal_bytes::{Origin, Record, Records};
 use std::alloc::{AllocError, Global};
 use std::collections::BTreeSet;
 use store_files::Tree;

@@ -6,7 +6,7 @@ ghost use Rattle.spec_exchange.specs.Effects.{keep_slot};
 ghost use Rattle.spec_exchange.specs.Fold.{lock_granted, lock_recorded, with_record};
 ghost use Rattle.spec_exchange.specs.Ranges.{Denied, RangeAnswer, change_ranges, count_owned, ranges_of};
 ghost use Rattle.spec_exchange.specs.State.{LockRecord, Origin, Server};
-ghost use Rattle.journal.specs.record_bytes.Meaning.{elements_in};
+ghost use Rattle.journal_bytes.specs.record_bytes.Meaning.{elements_in};
 ghost use Rattle.spec_exchange.specs.Table.{is_filled};
 ghost use Rattle.store_opens.specs.open_table.Locks.{DeniedBy};
 ghost use Rattle.store_opens.specs.share_modes.Answers.{AllOf, status_of};
@@ -16,7 +16,7 @@ ghost use Rattle.server_core.specs.durable_state.Durable.{DurableShown, is_grant
 ghost use Rattle.law_server.specs.tables.Fits.{Fits};
 
 use crate::durable_state::durable::Durable;
-use journal::elements_of;
+use journal_bytes::elements_of;
 use server_checks::{all_lock, ranges_of};
 use spec_exchange::values::Element;
 use std::alloc::AllocError;

@@ -2,14 +2,14 @@
 ghost use Rattle.std.specs.Prelude.{◌≡◌, OnOk};
 ghost use Rattle.spec_exchange.specs.Fold.{with_record};
 ghost use Rattle.spec_exchange.specs.State.{EpochRecord, Server, VersionRecord};
-ghost use Rattle.journal.specs.record_bytes.Grammar.{kind};
-ghost use Rattle.journal.specs.record_bytes.Meaning.{record_of};
+ghost use Rattle.journal_bytes.specs.record_bytes.Grammar.{kind};
+ghost use Rattle.journal_bytes.specs.record_bytes.Meaning.{record_of};
 ghost use Rattle.server_core.specs.durable_state.Durable.{DurableShown};
 ghost use Rattle.law_server.specs.tables.Fits.{Fits};
 
 use crate::durable_state::creates::Made;
 use crate::durable_state::durable::Durable;
-use journal::Record;
+use journal_bytes::Record;
 use std::alloc::AllocError;
 
 impl Durable {

@@ -4,7 +4,7 @@ ghost use Rattle.std.specs.Prelude.{IfOk, IsOk, List, MatchResult, OnOk, length}
 ghost use Rattle.spec_exchange.specs.State as model;
 ghost use Rattle.journal.specs.disk_journal.Journal.{OnlyRoom};
 ghost use Rattle.server_checks.specs.event_heard.Heard.{AskedAgrees, event_of};
-ghost use Rattle.journal.specs.record_bodies.Body.{fits_by};
+ghost use Rattle.journal_bytes.specs.record_bodies.Body.{fits_by};
 ghost use Rattle.server_checks.specs.Shown.{TablesShown};
 ghost use Rattle.server_core.specs.journaled_tables.Rooms.{HasRoomToWrite};
 ghost use Rattle.law_server.specs.tables.Fits.{Fits};

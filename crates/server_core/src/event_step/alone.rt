@@ -5,7 +5,7 @@ ghost use Rattle.spec_exchange.specs.Step.{event_answer, ruling, step, with_dead
 ghost use Rattle.spec_wire.specs.journal.Moments.{LeavesOnly};
 ghost use Rattle.server_checks.specs.event_heard.Heard.{event_of, heard_event};
 ghost use Rattle.server_checks.specs.declared.event_heard.event.ServerEvent.{ServerEvent};
-ghost use Rattle.journal.specs.record_bodies.Body.{fits_by};
+ghost use Rattle.journal_bytes.specs.record_bodies.Body.{fits_by};
 ghost use Rattle.server_checks.specs.Shown.{TablesShown};
 ghost use Rattle.server_core.specs.event_step.Behind.{ExpiryAsks};
 ghost use Rattle.server_core.specs.event_step.Early.{HasMemory, is_refused_early};
@@ -22,7 +22,7 @@ use crate::event_memory::make_room;
 use crate::journaled_tables::ServerState;
 use crate::next_body::behind_law;
 use base_outside::Disk;
-use journal::body_law;
+use journal_bytes::body_law;
 use law_records::{carried_law, expiring_law, keeps_law, stands_law};
 use server_checks::{Asked, EventError};
 use server_effects::Answer;

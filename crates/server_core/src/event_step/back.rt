@@ -22,7 +22,7 @@ use crate::expiry_alone::take_back;
 use crate::journaled_tables::ServerState;
 use crate::next_body::behind_law;
 use base_outside::Disk;
-use journal::body_law;
+use journal_bytes::body_law;
 use law_records::{dated_law, expiring_law, keeps_law, stands_law};
 use server_checks::{Asked, EventError};
 use server_effects::Expired;

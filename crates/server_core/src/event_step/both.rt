@@ -17,7 +17,7 @@ use crate::commit_event::commit;
 use crate::journaled_tables::ServerState;
 use crate::next_body::behind_law;
 use base_outside::Disk;
-use journal::body_law;
+use journal_bytes::body_law;
 use law_records::{carried_law, expiring_law, keeps_law, stands_law};
 use server_checks::{Asked, EventError};
 use server_effects::{Answer, Expired, dated_effects_law, give_up};

@@ -16,7 +16,7 @@ use crate::body_writing::reserve_body;
 use crate::event_step::back::{carry_behind, lack_behind, none_behind};
 use crate::journaled_tables::ServerState;
 use base_outside::Disk;
-use journal::body_law;
+use journal_bytes::body_law;
 use law_records::{expiring_law, keeps_law};
 use server_checks::{Asked, EventError};
 use server_effects::{Answer, Expired, take_expired};

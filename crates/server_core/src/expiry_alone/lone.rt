@@ -6,7 +6,7 @@ ghost use Rattle.spec_exchange.specs.Step.{expire};
 ghost use Rattle.spec_wire.specs.journal.Moments.{LeavesOnly};
 ghost use Rattle.store_opens.specs.open_table.Shown.{HasOpensRoom};
 ghost use Rattle.journal.specs.disk_journal.Journal.{JournalSettled};
-ghost use Rattle.journal.specs.record_bodies.Body.{bodies_of};
+ghost use Rattle.journal_bytes.specs.record_bodies.Body.{bodies_of};
 ghost use Rattle.server_checks.specs.Shown.{TablesShown};
 ghost use Rattle.server_checks.specs.declared.setups.error.EventError.TheVariants.{Memory};
 ghost use Rattle.server_effects.specs.expiry.Expired.{IsExpired};

@@ -3,7 +3,7 @@ ghost use Rattle.std.specs.Prelude.{◌≡◌, ◌++◌, ℕ};
 ghost use Rattle.std.specs.Prelude.{IsOk, List, OnOk, length};
 ghost use Rattle.spec_wire.specs.journal.Moments.{LeavesOnly};
 ghost use Rattle.journal.specs.disk_journal.Journal.{JournalSettled};
-ghost use Rattle.journal.specs.record_bodies.Body.{bodies_of};
+ghost use Rattle.journal_bytes.specs.record_bodies.Body.{bodies_of};
 ghost use Rattle.server_core.specs.journaled_tables.Rooms.{HasRoomToWrite};
 ghost use Rattle.server_core.specs.recording.Writes.{WritesBut};
 ghost use Rattle.server_core.specs.body_writing.Bodies.{LeavesOf};

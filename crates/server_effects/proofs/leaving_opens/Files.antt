@@ -13,8 +13,8 @@ use Rattle.spec_exchange.specs.State.{ExpireRecord}
 use Rattle.spec_exchange.specs.Opens.{opens_of, drop_open, goes, is_kept_back, gone_records, left_file_records, pending_behind}
 use Rattle.spec_exchange.specs.Step.{expire_records}
 use Rattle.law_server.specs.tables.Fits.{Fits}
-use Rattle.journal.specs.record_bytes.Meaning.{record_of, records_of}
-use Rattle.journal.specs.declared.record_bytes.value.Record.{Record}
+use Rattle.journal_bytes.specs.record_bytes.Meaning.{record_of, records_of}
+use Rattle.journal_bytes.specs.declared.record_bytes.value.Record.{Record}
 use Rattle.store_files.specs.file_tree.Shown.{FileApart, model_info, path_at}
 use Rattle.store_files.specs.declared.file_tree.row.Info.{Info}
 use Rattle.law_records.specs.leaving_opens.Out.{channel_left}

@@ -5,7 +5,7 @@ ghost use Rattle.spec_exchange.specs.State.{Server};
 ghost use Rattle.spec_exchange.specs.Step.{take_all_out, take_all_records};
 ghost use Rattle.spec_exchange.specs.Table.{has};
 ghost use Rattle.store_files.specs.file_tree.Shown.{ShowsFiles};
-ghost use Rattle.journal.specs.record_bytes.Meaning.{records_of};
+ghost use Rattle.journal_bytes.specs.record_bytes.Meaning.{records_of};
 ghost use Rattle.law_records.specs.leaving_opens.Out.{channel_left, channels_left, ends_left, last_left};
 ghost use Rattle.store_opens.specs.open_table.Shown.{ShowsOpens};
 ghost use Rattle.law_server.specs.tables.Fits.{Fits};
@@ -14,7 +14,7 @@ ghost use Rattle.server_checks.specs.session_table.Shown.{ShowsSessions};
 
 use crate::leaving_opens::leaving::Leaving;
 use crate::leaving_opens::records::end_in;
-use journal::{Origin, Records};
+use journal_bytes::{Origin, Records};
 use server_checks::session_table::Sessions;
 use std::alloc::{AllocError, Global};
 use store_files::Tree;

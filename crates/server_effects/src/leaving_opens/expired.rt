@@ -4,7 +4,7 @@ ghost use Rattle.spec_exchange.specs.Opens.{drop_open, goes, is_kept_back, pendi
 ghost use Rattle.spec_exchange.specs.State.{Server};
 ghost use Rattle.spec_exchange.specs.Step.{expire_records};
 ghost use Rattle.store_files.specs.file_tree.Shown.{ShowsFiles};
-ghost use Rattle.journal.specs.record_bytes.Meaning.{records_of};
+ghost use Rattle.journal_bytes.specs.record_bytes.Meaning.{records_of};
 ghost use Rattle.law_records.specs.leaving_opens.Since.{deletes_at_close, goes_alone, is_kept_alone};
 ghost use Rattle.store_opens.specs.open_table.Rows.{open_of};
 ghost use Rattle.store_opens.specs.open_table.Shown.{ShowsOpens};
@@ -13,7 +13,7 @@ ghost use Rattle.server_effects.specs.Fates.{fate_of};
 
 use crate::fates::Fate;
 use crate::leaving_opens::records::{push_parted, push_record};
-use journal::{Origin, Record, Records};
+use journal_bytes::{Origin, Record, Records};
 use server_checks::deletes_on_close;
 use std::alloc::{AllocError, Global};
 use store_files::Tree;

@@ -3,7 +3,7 @@ ghost use Rattle.spec_exchange.specs.Effects.{leave_all, leave_all_records, plai
 ghost use Rattle.spec_exchange.specs.Opens.{leave_open, leave_records};
 ghost use Rattle.spec_exchange.specs.State.{Server};
 ghost use Rattle.store_files.specs.file_tree.Shown.{ShowsFiles};
-ghost use Rattle.journal.specs.record_bytes.Meaning.{record_of, records_of};
+ghost use Rattle.journal_bytes.specs.record_bytes.Meaning.{record_of, records_of};
 ghost use Rattle.law_records.specs.leaving_opens.Since.{AllStand, left_records, marked_records, parted_records};
 ghost use Rattle.store_opens.specs.open_table.Rows.{open_of};
 ghost use Rattle.store_opens.specs.open_table.Shown.{ShowsOpens};
@@ -14,7 +14,7 @@ ghost use Rattle.server_effects.specs.leaving_opens.Left.{HasLeft};
 use crate::fates::Fate;
 use crate::leaving_opens::leaving::Leaving;
 use crate::leaving_opens::step::step_of;
-use journal::{Origin, Record, Records};
+use journal_bytes::{Origin, Record, Records};
 use std::alloc::AllocError;
 use store_files::Tree;
 use store_opens::{Opens, Row};

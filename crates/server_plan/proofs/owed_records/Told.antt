@@ -34,9 +34,9 @@ use Rattle.wire_commands.specs.declared.values.command.CreateRequest.{CreateRequ
 use Rattle.wire_commands.specs.declared.values.command.Setting.{Setting}
 use Rattle.wire_commands.specs.declared.values.command.Setting.TheVariants as settings
 use Rattle.wire_commands.specs.declared.values.reply.Body.{Body}
-use Rattle.journal.specs.record_bytes.Meaning.{elements_in as elements_kept}
-use Rattle.journal.specs.record_bytes.Meaning.{record_of, records_of}
-use Rattle.journal.specs.declared.record_bytes.value.Record.{Record}
+use Rattle.journal_bytes.specs.record_bytes.Meaning.{elements_in as elements_kept}
+use Rattle.journal_bytes.specs.record_bytes.Meaning.{record_of, records_of}
+use Rattle.journal_bytes.specs.declared.record_bytes.value.Record.{Record}
 use Rattle.server_checks.specs.verdicts.Views.{bytes_in, elements_in, path_in, path_in_setting, verdict_of}
 use Rattle.server_checks.specs.declared.verdicts.verdict.Change.{Change}
 use Rattle.server_checks.specs.declared.verdicts.verdict.Verdict.{Verdict}

@@ -7,8 +7,8 @@ use Rattle.spec_exchange.specs.State as model
 use Rattle.spec_exchange.specs.State.{Origin, Server}
 use Rattle.spec_exchange.specs.Step.{ends_with, take_all_records, take_out}
 use Rattle.spec_exchange.specs.Table.{has}
-use Rattle.journal.specs.record_bytes.Meaning.{records_of}
-use Rattle.journal.specs.declared.record_bytes.value.Record.{Record}
+use Rattle.journal_bytes.specs.record_bytes.Meaning.{records_of}
+use Rattle.journal_bytes.specs.declared.record_bytes.value.Record.{Record}
 use Rattle.law_records.proofs.leaving_opens.Ended.{has_plain}
 use Rattle.law_records.specs.leaving_opens.Since.{AllStand}
 use Rattle.law_server.proofs.tables.Logic.{front_of}

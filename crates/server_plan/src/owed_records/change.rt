@@ -4,11 +4,11 @@ ghost use Rattle.spec_exchange.specs.Effects.{change_records};
 ghost use Rattle.spec_exchange.specs.Records.{origin_of};
 ghost use Rattle.spec_exchange.specs.State.{BasicRecord, DeleteRecord, EndRecord, RenameRecord, WriteRecord};
 ghost use Rattle.spec_exchange.specs.Table.{number_or_zero};
-ghost use Rattle.journal.specs.record_bytes.Meaning.{records_of};
+ghost use Rattle.journal_bytes.specs.record_bytes.Meaning.{records_of};
 ghost use Rattle.server_checks.specs.verdicts.Views.{bytes_in, change_of, path_in, path_in_setting};
 
 use crate::owed_records::records::{no_record, one_record, origin_of};
-use journal::{Basic, Record, Records};
+use journal_bytes::{Basic, Record, Records};
 use server_checks::Change;
 use std::alloc::{AllocError, Global};
 use wire_bytes::{Bytes, Text};

@@ -6,7 +6,7 @@ ghost use Rattle.spec_exchange.specs.Opens.{max_ids};
 ghost use Rattle.spec_exchange.specs.Records.{origin_of};
 ghost use Rattle.spec_exchange.specs.State.{CreateRecord, Server};
 ghost use Rattle.store_files.specs.file_tree.Shown.{ShowsFiles};
-ghost use Rattle.journal.specs.record_bytes.Meaning.{opened, record_of, records_of};
+ghost use Rattle.journal_bytes.specs.record_bytes.Meaning.{opened, record_of, records_of};
 ghost use Rattle.store_opens.specs.open_table.Shown.{ShowsOpens};
 ghost use Rattle.server_plan.specs.owed_records.Owing.{IsOwedCreate, IsThere};
 ghost use Rattle.server_checks.specs.verdicts.Views.{create_in};
@@ -14,7 +14,7 @@ ghost use Rattle.server_checks.specs.session_table.Shown.{ShowsSessions};
 ghost use Rattle.spec_wire.specs.messages.Places.{number_of};
 
 use crate::owed_records::records::{no_record, one_record, origin_of};
-use journal::{NewOpen, Record, Records};
+use journal_bytes::{NewOpen, Record, Records};
 use server_checks::session_table::Sessions;
 use server_checks::{granted, has_bit, kept_attributes, made_attributes};
 use std::alloc::{AllocError, Global};

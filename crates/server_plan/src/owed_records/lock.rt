@@ -5,14 +5,14 @@ ghost use Rattle.spec_exchange.specs.Effects.{lock_records, recorded_index};
 ghost use Rattle.spec_exchange.specs.Records.{origin_of};
 ghost use Rattle.spec_exchange.specs.State.{LockRecord, Server};
 ghost use Rattle.spec_exchange.specs.Status.{success};
-ghost use Rattle.journal.specs.record_bytes.Meaning as journal;
-ghost use Rattle.journal.specs.record_bytes.Meaning.{record_of, records_of};
+ghost use Rattle.journal_bytes.specs.record_bytes.Meaning as journal;
+ghost use Rattle.journal_bytes.specs.record_bytes.Meaning.{record_of, records_of};
 ghost use Rattle.store_opens.specs.open_table.Rows.{open_of};
 ghost use Rattle.store_opens.specs.open_table.Shown.{ShowsOpens};
 ghost use Rattle.server_checks.specs.verdicts.Views.{elements_in};
 
 use crate::owed_records::records::{no_record, one_record, origin_of};
-use journal::{Record, Records};
+use journal_bytes::{Record, Records};
 use server_checks::is_slot;
 use std::alloc::{AllocError, Global};
 use store_opens::{Opens, Row};

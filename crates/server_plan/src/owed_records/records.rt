@@ -1,9 +1,9 @@
 ghost use Rattle.std.specs.Prelude.{◌≡◌, ◌∷◌, [], IfOk};
 ghost use Rattle.wire_commands.specs.values.Meaning.{message_of};
 ghost use Rattle.spec_exchange.specs.Records.{origin_of};
-ghost use Rattle.journal.specs.record_bytes.Meaning.{record_of, records_of};
+ghost use Rattle.journal_bytes.specs.record_bytes.Meaning.{record_of, records_of};
 
-use journal::{Origin, Record, Records};
+use journal_bytes::{Origin, Record, Records};
 use std::alloc::{AllocError, Global};
 use wire_commands::Message;
 

@@ -4,12 +4,12 @@ ghost use Rattle.spec_exchange.specs.Effects.{end_records, records_if_named};
 ghost use Rattle.spec_exchange.specs.Records.{origin_at};
 ghost use Rattle.spec_exchange.specs.State.{Server};
 ghost use Rattle.spec_exchange.specs.Step.{ends_with, take_all_records};
-ghost use Rattle.journal.specs.record_bytes.Meaning.{records_of};
+ghost use Rattle.journal_bytes.specs.record_bytes.Meaning.{records_of};
 ghost use Rattle.server_checks.specs.Shown.{TablesShown};
 ghost use Rattle.law_server.specs.tables.Fits.{Fits};
 
 use crate::rulings::ruling::at_connection;
-use journal::{Origin, Records};
+use journal_bytes::{Origin, Records};
 use server_checks::Tables;
 use server_effects::{Leaving, all_end_records, end_in};
 use std::alloc::AllocError;

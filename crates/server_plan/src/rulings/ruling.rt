@@ -11,7 +11,7 @@ ghost use Rattle.server_plan.specs.rulings.Rulings.{AbleToRule, is_said, ruling_
 ghost use Rattle.server_plan.specs.declared.rulings.ruling.Ruling.TheVariants.{Says};
 ghost use Rattle.law_server.specs.tables.Fits.{Fits};
 
-use journal::Origin;
+use journal_bytes::Origin;
 use server_checks::{Asked, Tables, Verdict, without_room};
 use server_effects::able_law;
 use std::alloc::AllocError;

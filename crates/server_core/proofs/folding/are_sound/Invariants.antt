@@ -1,5 +1,5 @@
 use Rattle.std.proofs.Common.{◌≡◌, drop}
-use Rattle.journal.specs.record_bytes.Meaning.{records_of}
+use Rattle.journal_bytes.specs.record_bytes.Meaning.{records_of}
 use Rattle.law_server.specs.tables.Fits.{all_sound}
 use Rattle.server_core.proofs.folding.are_sound.Given as goal
 

@@ -1,6 +1,6 @@
 use Rattle.std.proofs.Common.{List, ap}
-use Rattle.journal.specs.record_bytes.Meaning.{records_of}
-use Rattle.journal.specs.declared.record_bytes.value.Record.{Record}
+use Rattle.journal_bytes.specs.record_bytes.Meaning.{records_of}
+use Rattle.journal_bytes.specs.declared.record_bytes.value.Record.{Record}
 use Rattle.server_plan.proofs.Lesser.{is_quiet}
 use Rattle.server_plan.proofs.owing.owed_by.Goals as goal
 

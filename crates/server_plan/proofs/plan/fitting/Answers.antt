@@ -2,7 +2,7 @@ use Rattle.std.proofs.Common.{ℕ, List, ap, length, subst, sym, ◌∙◌}
 use Rattle.spec_exchange.specs.Step as steps
 use Rattle.spec_exchange.specs.Step.{carried_out}
 use Rattle.server_checks.specs.event_heard.Heard.{event_of}
-use Rattle.journal.specs.record_bodies.Body.{IsBodyOf, fits_by}
+use Rattle.journal_bytes.specs.record_bodies.Body.{IsBodyOf, fits_by}
 use Rattle.server_plan.proofs.Planned.{fitting, lesser}
 use Rattle.server_plan.specs.rulings.Rulings.{ruling_of}
 use Rattle.server_plan.proofs.plan.fitting.Goals as goal

@@ -3,7 +3,7 @@ use Rattle.spec_exchange.specs.Step.{carried_out}
 use Rattle.server_checks.specs.event_heard.Heard.{event_of}
 use Rattle.server_core.proofs.behind_expiry.Stays.{if_ok_by}
 use Rattle.server_core.proofs.behind_expiry.behind.body_behind.Goals as goal
-use Rattle.journal.specs.record_bodies.Body.{IsBodyOf}
+use Rattle.journal_bytes.specs.record_bodies.Body.{IsBodyOf}
 use Rattle.server_plan.specs.rulings.Rulings.{ruling_of}
 
 pub returns-in-Ok : goal.returns-in-Ok

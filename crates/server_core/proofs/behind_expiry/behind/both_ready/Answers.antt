@@ -2,7 +2,7 @@ use Rattle.std.proofs.Common.{◌≡◌, ℕ, List, true, ap, length, subst, sym
 use Rattle.spec_exchange.specs.Step as steps
 use Rattle.server_checks.specs.event_heard.Heard.{event_of}
 use Rattle.server_core.proofs.behind_expiry.behind.both_ready.Goals as goal
-use Rattle.journal.specs.record_bodies.Body.{fits_by}
+use Rattle.journal_bytes.specs.record_bodies.Body.{fits_by}
 use Rattle.server_core.specs.journaled_tables.Rooms.{HasRoomToWrite}
 use Rattle.server_plan.specs.Plans.{OwingOf}
 use Rattle.server_plan.specs.rulings.Rulings.{AbleToRule}

@@ -1,7 +1,7 @@
 use Rattle.std.proofs.Common.{ℕ, ap, length, refl, sym, ◌∙◌}
 use Rattle.server_core.proofs.behind_expiry.Stays.{journal_stays, tables_stay}
 use Rattle.server_core.proofs.behind_expiry.behind.room_behind.Goals as goal
-use Rattle.journal.specs.record_bodies.Body.{fits_by}
+use Rattle.journal_bytes.specs.record_bodies.Body.{fits_by}
 
 pub both_ready-requires : goal.both_ready-requires
 both_ready-requires g c = ap (λ (n : ℕ). fits_by c.args.server.now.tables.journal n) (sym c.len.ensures)

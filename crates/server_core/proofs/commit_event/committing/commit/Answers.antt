@@ -3,7 +3,7 @@ use Rattle.std.specs.Prelude.{OnOk, Result}
 use Rattle.spec_exchange.specs.Step.{carried_out, with_deadlines}
 use Rattle.journal.specs.disk_journal.Journal.{JournalSettled}
 use Rattle.server_checks.specs.event_heard.Heard.{event_of}
-use Rattle.journal.specs.record_bodies.Body.{added_by, bodies_of}
+use Rattle.journal_bytes.specs.record_bodies.Body.{added_by, bodies_of}
 use Rattle.server_checks.specs.declared.tables.Tables.{Tables}
 use Rattle.server_core.proofs.commit_event.Shown.{counted_shown, prepared_count, uncounted_shown}
 use Rattle.server_core.proofs.commit_event.Written.{failed}

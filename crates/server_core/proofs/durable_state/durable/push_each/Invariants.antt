@@ -1,6 +1,6 @@
 use Rattle.std.proofs.Common.{◌≡◌, ◌++◌}
 use Rattle.spec_exchange.specs.State.{Server}
-use Rattle.journal.specs.record_bytes.Meaning.{records_of}
+use Rattle.journal_bytes.specs.record_bytes.Meaning.{records_of}
 use Rattle.store_files.specs.file_tree.Shown.{ShowsFiles}
 use Rattle.store_opens.specs.open_table.Shown.{ShowsOpens}
 use Rattle.law_records.specs.fold.Order.{marks_of}

@@ -3,7 +3,7 @@ use Rattle.spec_exchange.specs.State as model
 use Rattle.spec_exchange.specs.Step.{Ruling, carried_out, event_answer, step, with_deadlines}
 use Rattle.server_core.proofs.journaled_tables.Behind.{held, held_still, settled_still}
 use Rattle.server_checks.specs.event_heard.Heard.{event_of, heard_event}
-use Rattle.journal.specs.record_bodies.Body.{IsBodyOf, fits_by}
+use Rattle.journal_bytes.specs.record_bodies.Body.{IsBodyOf, fits_by}
 use Rattle.server_checks.specs.declared.tables.Config.{Config}
 use Rattle.server_core.proofs.event_step.Committed.{alone_comes, event_carried, may_plan}
 use Rattle.server_core.proofs.event_step.Early.{not_on, written_memory}

@@ -2,7 +2,7 @@ use Rattle.std.proofs.Common.{List, refl, sym, subst, ◌∙◌}
 use Rattle.spec_exchange.specs.State as model
 use Rattle.server_core.proofs.journaled_tables.Lone.{expires, lone}
 use Rattle.server_checks.specs.event_heard.Heard.{event_of, heard_event}
-use Rattle.journal.specs.record_bodies.Body.{IsBodyOf}
+use Rattle.journal_bytes.specs.record_bodies.Body.{IsBodyOf}
 use Rattle.server_checks.specs.Shown.{TablesShown}
 use Rattle.server_core.proofs.event_step.Carried.{back_holds}
 use Rattle.server_core.proofs.event_step.Moments.{by_expiry, leaves_more, room_back}

@@ -2,7 +2,7 @@ use Rattle.std.proofs.Common.{ℕ, ap, length, refl, sym, ◌∙◌}
 use Rattle.spec_exchange.specs.Step.{step}
 use Rattle.server_core.proofs.journaled_tables.Behind.{held, held_still, holds_shown, stands_still}
 use Rattle.server_checks.specs.event_heard.Heard.{event_of, heard_event}
-use Rattle.journal.specs.record_bodies.Body.{fits_by}
+use Rattle.journal_bytes.specs.record_bodies.Body.{fits_by}
 use Rattle.server_core.proofs.event_step.Moments.{since_same}
 use Rattle.server_core.proofs.event_step.Refused.{asks_room, below_limit, ends_from, lacked, none_from, none_leaves, same_disk, same_room}
 use Rattle.server_core.proofs.event_step.expiring.behind_front.Goals as goal

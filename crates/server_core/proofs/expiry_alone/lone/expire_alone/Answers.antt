@@ -2,7 +2,7 @@ use Rattle.std.proofs.Common.{◌+◌, ◌++◌, ℕ, ap, refl, subst, sym, ◌�
 use Rattle.std.specs.Prelude.{OnOk, Result}
 use Rattle.spec_exchange.specs.Step.{expire}
 use Rattle.journal.specs.disk_journal.Journal.{JournalSettled}
-use Rattle.journal.specs.record_bodies.Body.{added_by, bodies_of}
+use Rattle.journal_bytes.specs.record_bodies.Body.{added_by, bodies_of}
 use Rattle.server_checks.specs.Shown.{TablesShown}
 use Rattle.server_checks.specs.declared.tables.Tables.{Tables}
 use Rattle.server_checks.specs.declared.setups.error.EventError.{EventError}

@@ -1,5 +1,5 @@
 use Rattle.std.proofs.Common.{◌≡◌, ◌≤◌, List, length, drop, subst}
-use Rattle.journal.specs.declared.record_bytes.value.Record.{Record}
+use Rattle.journal_bytes.specs.declared.record_bytes.value.Record.{Record}
 use Rattle.server_core.proofs.restart_tables.Behind.{opened_by, opened_with}
 use Rattle.server_core.proofs.restart_tables.starting.opened.Goals as goal
 

@@ -1,8 +1,8 @@
 use Rattle.std.proofs.Common.{◌≡◌, ◌≤◌, ◌<◌, ◌+◌, ℕ, List, length, take, drop, get_or, ap, subst, ◌∙◌, arith, false}
 use Rattle.std.proofs.lemmas.List.{take_all}
 use Rattle.spec_exchange.specs.Step.{take_all_out, take_all_records}
-use Rattle.journal.specs.record_bytes.Meaning.{records_of}
-use Rattle.journal.specs.declared.record_bytes.value.Record.{Record}
+use Rattle.journal_bytes.specs.record_bytes.Meaning.{records_of}
+use Rattle.journal_bytes.specs.declared.record_bytes.value.Record.{Record}
 use Rattle.law_records.specs.leaving_opens.Out.{ends_left}
 use Rattle.server_effects.proofs.leaving_opens.connections.all_end_records.Goals as goal
 

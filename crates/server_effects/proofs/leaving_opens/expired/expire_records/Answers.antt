@@ -1,7 +1,7 @@
 use Rattle.server_effects.proofs.leaving_opens.Files.{expired_told}
 use Rattle.std.proofs.Common.{List, ap}
-use Rattle.journal.specs.record_bytes.Meaning.{records_of}
-use Rattle.journal.specs.declared.record_bytes.value.Record.{Record}
+use Rattle.journal_bytes.specs.record_bytes.Meaning.{records_of}
+use Rattle.journal_bytes.specs.declared.record_bytes.value.Record.{Record}
 use Rattle.server_effects.proofs.leaving_opens.expired.expire_records.Goals as goal
 
 pub returns : goal.returns

@@ -1,6 +1,6 @@
 use Rattle.std.proofs.Common.{◌≡◌, true, List, ℕ, sym, subst, ◌∙◌}
 use Rattle.std.specs.Prelude.{OnOk}
-use Rattle.journal.specs.record_bytes.Meaning.{records_of}
+use Rattle.journal_bytes.specs.record_bytes.Meaning.{records_of}
 use Rattle.law_server.specs.tables.Fits.{is_ascending}
 use Rattle.law_records.specs.leaving_opens.Since.{AllStand}
 use Rattle.law_records.proofs.leaving_opens.All.{plain_in_order}

@@ -1,7 +1,7 @@
 use Rattle.std.proofs.Common.{◌≤◌, List, ℕ, length, subst, take, arith}
 use Rattle.std.proofs.lemmas.List.{take_all}
 use Rattle.spec_exchange.specs.Effects.{leave_all}
-use Rattle.journal.specs.record_bytes.Meaning.{records_of}
+use Rattle.journal_bytes.specs.record_bytes.Meaning.{records_of}
 use Rattle.server_effects.proofs.leaving_opens.Each.{each_stands, each_next, none_left, HaveLeft}
 use Rattle.server_effects.proofs.leaving_opens.records.leave_each.Goals as goal
 

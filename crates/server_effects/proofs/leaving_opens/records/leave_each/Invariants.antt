@@ -1,6 +1,6 @@
 use Rattle.std.proofs.Common.{◌≡◌, true, take}
 use Rattle.spec_exchange.specs.State.{Server}
-use Rattle.journal.specs.record_bytes.Meaning.{records_of}
+use Rattle.journal_bytes.specs.record_bytes.Meaning.{records_of}
 use Rattle.law_server.specs.tables.Fits.{Fits, is_ascending}
 use Rattle.store_files.specs.file_tree.Shown.{ShowsFiles}
 use Rattle.store_opens.specs.open_table.Shown.{ShowsOpens}

@@ -1,5 +1,5 @@
 use Rattle.wire_commands.specs.values.Meaning.{message_of}
-use Rattle.journal.specs.record_bytes.Meaning.{opened}
+use Rattle.journal_bytes.specs.record_bytes.Meaning.{opened}
 use Rattle.server_plan.proofs.owed_records.Told.{told_create}
 use Rattle.server_plan.proofs.owed_records.create.create_record.Goals as goal
 

@@ -2,7 +2,7 @@ use Rattle.std.proofs.Common.{◌≡◌, Option, None, IfOk, option_map, subst, 
 use Rattle.spec_exchange.specs.Effects.{new_open}
 use Rattle.wire_commands.specs.values.Meaning.{create_of, durable_of, message_of}
 use Rattle.wire_commands.specs.declared.values.command.Durable.{Durable}
-use Rattle.journal.specs.record_bytes.Meaning.{opened}
+use Rattle.journal_bytes.specs.record_bytes.Meaning.{opened}
 use Rattle.server_plan.proofs.owed_records.Told.{no_open}
 use Rattle.server_plan.proofs.owed_records.create.new_open.Goals as goal
 

@@ -4,7 +4,7 @@ use Rattle.spec_exchange.specs.State as model
 use Rattle.spec_exchange.specs.Records.{origin_of}
 use Rattle.spec_exchange.specs.Effects.{recorded_index}
 use Rattle.wire_commands.specs.values.Meaning.{message_of}
-use Rattle.journal.specs.record_bytes.Meaning.{elements_in}
+use Rattle.journal_bytes.specs.record_bytes.Meaning.{elements_in}
 use Rattle.server_plan.proofs.owed_records.lock.lock_record.Goals as goal
 
 pub returns : goal.returns

@@ -1,8 +1,8 @@
 use Rattle.std.proofs.Common.{List, ap, ◌∙◌}
 use Rattle.spec_exchange.specs.State as model
 use Rattle.spec_exchange.specs.Effects.{end_records, leave_all_records, plain_of}
-use Rattle.journal.specs.record_bytes.Meaning.{records_of}
-use Rattle.journal.specs.declared.record_bytes.value.Record.{Record}
+use Rattle.journal_bytes.specs.record_bytes.Meaning.{records_of}
+use Rattle.journal_bytes.specs.declared.record_bytes.value.Record.{Record}
 use Rattle.server_plan.proofs.owed_records.Told.{behind_none, ended_records, not_quiet, plain_stand}
 use Rattle.server_plan.proofs.owed_records.verdict.end_records.Goals as goal
 

@@ -1,8 +1,8 @@
 use Rattle.std.proofs.Common.{◌≡◌, true, List, ℕ, sym, ap, subst, ◌∙◌}
 use Rattle.spec_exchange.specs.Effects.{leave_all_records, opens_of_tree}
 use Rattle.spec_exchange.specs.State as model
-use Rattle.journal.specs.record_bytes.Meaning.{records_of}
-use Rattle.journal.specs.declared.record_bytes.value.Record.{Record}
+use Rattle.journal_bytes.specs.record_bytes.Meaning.{records_of}
+use Rattle.journal_bytes.specs.declared.record_bytes.value.Record.{Record}
 use Rattle.law_server.specs.tables.Fits.{is_ascending}
 use Rattle.law_records.specs.leaving_opens.Since.{AllStand}
 use Rattle.server_plan.proofs.owed_records.Told.{behind_none, tree_in_order, tree_stand}

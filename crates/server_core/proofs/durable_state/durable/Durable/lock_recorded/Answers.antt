@@ -1,5 +1,5 @@
 use Rattle.std.proofs.Common.{nat_le, ◌&&◌, ◌/◌, length, sym, ◌∙◌}
-use Rattle.journal.specs.record_bytes.Meaning.{elements_in}
+use Rattle.journal_bytes.specs.record_bytes.Meaning.{elements_in}
 use Rattle.spec_exchange.specs.State.{Server}
 use Rattle.server_core.specs.durable_state.Durable.{DurableShown}
 use Rattle.spec_exchange.specs.Fold.{lock_recorded}

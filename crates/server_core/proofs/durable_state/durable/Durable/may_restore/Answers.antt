@@ -1,5 +1,5 @@
 use Rattle.std.proofs.Common.{sym, ◌∙◌}
-use Rattle.journal.specs.record_bytes.Meaning.{new_open}
+use Rattle.journal_bytes.specs.record_bytes.Meaning.{new_open}
 use Rattle.server_core.proofs.durable_state.Making.{not_epoch, not_counter, not_left, not_free, not_own, may_be}
 use Rattle.server_core.proofs.durable_state.durable.Durable.may_restore.Goals as goal
 

@@ -1,6 +1,6 @@
 use Rattle.std.proofs.Common.{◌≡◌, drop, true}
 use Rattle.spec_exchange.specs.State.{Server}
-use Rattle.journal.specs.record_bytes.Meaning.{records_of}
+use Rattle.journal_bytes.specs.record_bytes.Meaning.{records_of}
 use Rattle.law_server.specs.tables.Fits.{Fits, all_sound}
 use Rattle.server_core.specs.durable_state.Durable.{DurableShown}
 use Rattle.server_core.proofs.durable_state.Following.{Follows}

@@ -1,6 +1,0 @@
-use Rattle.std.proofs.Common.{take, All}
-use Rattle.journal.specs.record_bytes.Grammar.{WrittenRecordFits}
-use Rattle.journal.proofs.record_bytes.fitting.can_write.Given as goal
-
-abbrev pub invariant-loop-r : goal.invariant-loop-r
-invariant-loop-r l = All WrittenRecordFits (take l.r-index l.records)

@@ -1,0 +1,5 @@
+pub mod Grammar
+pub mod Meaning
+pub mod Reading
+pub mod Largest
+pub mod Examples
