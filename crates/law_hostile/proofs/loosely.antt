@@ -7,3 +7,16 @@ pub mod Hearing
 pub mod Runs
 pub mod Rows
 pub mod Dialogs
+pub mod Masks
+pub mod Following
+pub mod Serving
+pub mod Giving
+pub mod Ending
+pub mod Fronts
+pub mod Windows
+pub mod Taking
+pub mod Telling
+pub mod Dialoguing
+pub mod Accepting
+pub mod Declining
+pub mod Over

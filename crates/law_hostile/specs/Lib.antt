@@ -7,9 +7,12 @@ pub mod puts
 pub mod placed
 pub mod acts
 pub mod empties
+pub mod ended
 pub mod ids
 pub mod meant
 pub mod replied
+pub mod setups
 pub mod dialogs
+pub mod greeted
 pub mod finals
 pub mod premises

@@ -1,2 +1,3 @@
 pub mod LooseRuns
 pub mod LooseRows
+pub mod LooseSessions

@@ -7,7 +7,9 @@
 mod acts;
 mod dialogs;
 mod empties;
+mod ended;
 mod finals;
+mod greeted;
 mod ids;
 mod loosely;
 mod meant;
@@ -16,6 +18,7 @@ mod placed;
 mod premises;
 mod puts;
 mod replied;
+mod setups;
 mod sifting;
 mod taken_ids;
 mod unforged;
@@ -23,9 +26,11 @@ mod unforged;
 pub use acts::{acts_are_guarded_law, faulty_acts_not_law};
 pub use dialogs::{channels_are_counted_law, dialogs_come_first_law};
 pub use empties::lists_are_empty_law;
+pub use ended::{dialogs_name_sessions_law, servers_stand_law};
 pub use finals::{accepted_was_made_law, made_was_signed_law, signed_was_made_law};
+pub use greeted::ends_greet_client_law;
 pub use ids::{own_frames_law, own_ids_rise_law};
-pub use loosely::{loose_newer_law, loose_once_law, loose_steps_example};
+pub use loosely::{loose_newer_law, loose_once_law, loose_sessions_law, loose_steps_example};
 pub use meant::{heard_is_meant_law, own_requests_law, requests_are_heard_law};
 pub use negotiating::repeat_negotiation_law;
 pub use placed::{heard_is_own_law, signed_for_opening_law};
@@ -34,6 +39,7 @@ pub use puts::{put_stays_law, signed_reply_was_put_law, signed_was_put_law};
 pub use replied::{
     signed_replies_law, signed_replies_tell_law, taken_replies_are_awaited_law, taken_replies_law,
 };
+pub use setups::setups_are_own_law;
 pub use sifting::lists_may_sift_law;
 pub use taken_ids::{frames_take_once_law, opening_takes_once_law, signed_takes_once_law};
 pub use unforged::forged_or_signed_law;

@@ -8,6 +8,7 @@ ghost use Rattle.spec_exchange.specs.Network.{World};
 ghost use Rattle.law_hostile.specs.loosely.LooseRows.{ups_behind, acts_there, asks_badly_for, asks_for, asks_session, places_behind};
 ghost use Rattle.law_hostile.specs.loosely.LooseRows.{downs_behind, other_logon};
 ghost use Rattle.law_hostile.specs.loosely.LooseRuns.{Hears, LooselyNewer, LooselyOnce, Loses, Overtakes};
+ghost use Rattle.law_hostile.specs.loosely.LooseSessions.{SessionsStayOver};
 
 /// On every run, where between its events any message or reply that waits may be lost, or be overtaken by the one behind it, or the server
 /// hears from nowhere one that isn't signed or sealed as owed, or a NEGOTIATE, an ECHO or a SESSION_SETUP for the client's user: a create,
@@ -19,6 +20,12 @@ pub fn loose_once_law()
 /// On every such run no WRITE or SET_INFO acts after a newer pair of session and channel sequence reached its open.
 pub fn loose_newer_law()
     ensures newer { LooselyNewer }
+{}
+
+/// On every such run: a session whose id was given and that no connection makes isn't made again, and where it isn't there either it is
+/// never there again, over restarts too.
+pub fn loose_sessions_law()
+    ensures over { SessionsStayOver }
 {}
 
 /// Three requests wait on a connection, and three replies. The second one may be lost, the second overtake the first, each way. A message

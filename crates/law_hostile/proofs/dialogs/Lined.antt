@@ -351,10 +351,10 @@ down_lined z r k d on empties h =
 
 -- ---- Give up: a server's end changes no client's
 
-abbrev SameEnds : (ℕ → Wires) → (ℕ → Wires) → Type 0
+abbrev pub SameEnds : (ℕ → Wires) → (ℕ → Wires) → Type 0
 SameEnds f g = (j : ℕ) → (g j).client_end ≡ (f j).client_end
 
-ends_put : (f : ℕ → Wires) (k : ℕ) (u : Wires) → u.client_end ≡ (f k).client_end → SameEnds f (put f k u)
+pub ends_put : (f : ℕ → Wires) (k : ℕ) (u : Wires) → u.client_end ≡ (f k).client_end → SameEnds f (put f k u)
 ends_put f k u e = by_key (λ j (v : Wires). v.client_end ≡ (f j).client_end) f k u e (λ j off. refl)
 
 by_end : (w : World) (k : ℕ) (bs : List (List ℕ)) (xs : List Sent) (x : Sent) (S : ConnectionStep) (o : Option ConnEnd)
@@ -369,7 +369,7 @@ serve_ends z w k [] xs = λ j. refl
 serve_ends z w k (b ∷ bs) [] = λ j. refl
 serve_ends z w k (b ∷ bs) (x ∷ xs) = let S = step_at z w k b in by_end w k bs xs x S S.ends
 
-served_ends : (z : WorldSettings) (w : World) (k : ℕ) → SameEnds w.wires (bytes_happen z w (Plain (Serve k))).wires
+pub served_ends : (z : WorldSettings) (w : World) (k : ℕ) → SameEnds w.wires (bytes_happen z w (Plain (Serve k))).wires
 served_ends z w k =
     either (λ (v : World). SameEnds w.wires v.wires) (is_possible w.values (Serve k)) (bytes_later (bytes_changed z w (Serve k)) 1) w
     (λ _. serve_ends z w k (w.wires k).up (w.values.conns k).up) (λ _. λ j. refl)

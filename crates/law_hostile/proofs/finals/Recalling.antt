@@ -250,12 +250,12 @@ heard_takes z w k frame place AskedTree =
 
 -- ---- Give down
 
-wires_loaded : (r : RepeatWorld) (k : ℕ) (d : DownFrame)
+pub wires_loaded : (r : RepeatWorld) (k : ℕ) (d : DownFrame)
     → (loaded_down r k d).wires k ≡ record (r.world.wires k) { up = []; down = d.frame ∷ [] }
 unfolding down_frames up_frames
 wires_loaded r k d = put_here r.world.wires k (record (r.world.wires k) { up = up_frames []; down = down_frames (d ∷ []) })
 
-conn_loaded : (r : RepeatWorld) (k : ℕ) (d : DownFrame) → ((loaded_down r k d).values.conns k).down ≡ d.received ∷ []
+pub conn_loaded : (r : RepeatWorld) (k : ℕ) (d : DownFrame) → ((loaded_down r k d).values.conns k).down ≡ d.received ∷ []
 unfolding receiveds
 conn_loaded r k d =
     ap (λ (c : Conn). c.down) (put_here r.world.values.conns k (record (r.world.values.conns k) {

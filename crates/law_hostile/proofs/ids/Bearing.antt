@@ -25,7 +25,7 @@ use Rattle.spec_world.specs.Hearing.{begins_sealed}
 use Rattle.spec_world.specs.Negotiate.{negotiate_request_body}
 use Rattle.spec_world.specs.Sending.{request_header, request_text, line_frame, greeting_text, setup_text, setup_frame}
 use Rattle.law_hostile.specs.ids.OwnIds.{BearsOne}
-use Rattle.law_hostile.specs.meant.Meant.{IsMeant, AsksNegotiate, AsksSetup, AsksLine, bytes_moved}
+use Rattle.law_hostile.specs.meant.Meant.{IsMeant, IsOwnToken, AsksNegotiate, AsksSetup, AsksLine, bytes_moved}
 use Rattle.law_ties.specs.wire_facts.Fitting.{IsMessage, Bare, Signed}
 use Rattle.law_ties.proofs.wire_facts.Signed.{signature_length}
 use Rattle.law_ties.proofs.wire_facts.Ciphers.{begins}
@@ -93,9 +93,10 @@ line_bears z k n m cost own small =
     }))
 
 pub setup_bears : (z : WorldSettings) (k : ℕ) (n : ClientEnd) (r : SetupRequest) (token : List ℕ) (m : Message) → m.connection ≡ k
-    → m.fault ≡ None → m.command ≡ Setup r → m.message_id < 2 ^ 64 → Bears z k (setup_frame n r.binding r.previous token m) m
-setup_bears z k n r token m connection fault command small =
-    inr (record { connection = connection; fault = fault; small = small; meant = AsksSetup n r token command refl })
+    → m.fault ≡ None → m.command ≡ Setup r → m.channel_sequence ≡ 0 → IsOwnToken z token → m.message_id < 2 ^ 64
+    → Bears z k (setup_frame n r.binding r.previous token m) m
+setup_bears z k n r token m connection fault command sequence own small =
+    inr (record { connection = connection; fault = fault; small = small; meant = AsksSetup n r token command sequence own refl })
 
 pub greeting_bears : (z : WorldSettings) (k draws : ℕ) (m : Message) → m.connection ≡ k → m.fault ≡ None → m.command ≡ Aside success
     → m.message_id < 2 ^ 64 → Bears z k (greeting_text z.client (take 32 (draw z.seed draws)) m) m
@@ -145,19 +146,19 @@ bare_size : (m : Message) (charge command : ℕ) (flagged : Bool) (body : List �
 unfolding message_spelling le
 bare_size m charge command flagged body = omega arith
 
-front_size : (m : Message) (charge command : ℕ) (flagged : Bool) (body : List ℕ)
+pub front_size : (m : Message) (charge command : ℕ) (flagged : Bool) (body : List ℕ)
     → length (take 48 (text m charge command flagged body)) ≡ 48
 unfolding message_spelling le
 front_size m charge command flagged body = refl
 
-back_is : (m : Message) (charge command : ℕ) (flagged : Bool) (body : List ℕ) → drop 64 (text m charge command flagged body) ≡ body
+pub back_is : (m : Message) (charge command : ℕ) (flagged : Bool) (body : List ℕ) → drop 64 (text m charge command flagged body) ≡ body
 unfolding message_spelling le
 back_is m charge command flagged body = refl
 
 summed : (a b c n : ℕ) → a ≡ 48 → b ≡ 16 → c ≡ n → a + (b + c) ≡ 64 + n
 summed a b c n e f g = omega (arith, e, f, g)
 
-signed_size : (s : Signer) (m : Message) (charge command : ℕ) (flagged : Bool) (body : List ℕ)
+pub signed_size : (s : Signer) (m : Message) (charge command : ℕ) (flagged : Bool) (body : List ℕ)
     → length (signed s (text m charge command flagged body)) ≡ 64 + length body
 unfolding signed
 signed_size s m charge command flagged body =
@@ -228,7 +229,7 @@ line_by s m cost frame small e = one_by m cost (number_of_command m.command) tru
 
 meant_by : (z : WorldSettings) (frame : List ℕ) (m : Message) → m.message_id < 2 ^ 64 → IsMeant z frame m → BearsOne frame m.message_id
 meant_by z frame m small (AsksNegotiate draws command e) = greeting_by z draws m frame small e
-meant_by z frame m small (AsksSetup n r token command e) = setup_by n r.binding r.previous token m frame small e
+meant_by z frame m small (AsksSetup n r token command sequence own e) = setup_by n r.binding r.previous token m frame small e
 meant_by z frame m small (AsksLine s e) = line_by s m (charge_of (bytes_moved m.command)) frame small e
 
 -- where it isn't sealed

@@ -19,11 +19,12 @@ use Rattle.spec_world.specs.Settings.{WorldSettings}
 use Rattle.spec_world.specs.Messages.{HeardMessage}
 use Rattle.spec_world.specs.Ends.{ClientEnd}
 use Rattle.spec_world.specs.Sending.{setup_frame, spent}
-use Rattle.spec_world.specs.Dialog.{line_response, dialog_response, status_due, dialog_fault, first_refusal, unless, pays_next, paid_in}
+use Rattle.spec_world.specs.Dialog.{line_response, dialog_response, status_due, dialog_fault, first_refusal, unless, pays_next, paid_in, setup_token}
 use Rattle.spec_world.specs.Dialog.{has_form, choices_of, has_token, is_signed, flags_fit, noted_heard, accepted_end, bound_end}
 use Rattle.spec_world.specs.World.{World, Wires, with_values, with_client_end, closed_wires, dialog_reply, dialog_passed, dialog_hears, hears}
 use Rattle.spec_world.specs.World.{take_frame, behind_frame, dialog_wires, dialog_off, setup_sent, previous_of, session_accepted, channel_bound}
 use Rattle.spec_world.specs.World.{next_token, noted_sent}
+use Rattle.law_hostile.specs.meant.Meant.{IsOwnToken, BeginsLogon, AnswersChallenge}
 use Rattle.law_hostile.proofs.ids.Bearing.{Bears, setup_bears}
 use Rattle.law_hostile.proofs.ids.Sending.{same_self, same_put, closed_same}
 use Rattle.law_hostile.proofs.ids.Paying.{AllReady, AllBehind, SameEnds, Ready, Behind, small_id, all_behind, behind_of, ends_put, ends_then}
@@ -73,10 +74,10 @@ request_in c bound shows = record {
 }
 
 setup_behind : (z : WorldSettings) (a : World) (conns : ℕ → Conn) (k : ℕ) (stage : Stage) (bound : Bool) (shows : Shows) (token : List ℕ)
-    → stage_command a.values.client stage ≡ setup_of a.values.client bound shows → AllReady a.wires conns → 1 ≤ (a.wires k).client_end.purse.held
+    → stage_command a.values.client stage ≡ setup_of a.values.client bound shows → IsOwnToken z token → AllReady a.wires conns → 1 ≤ (a.wires k).client_end.purse.held
     → AllBehind z (setup_sent a k stage bound token).wires
     (put conns k (send_up (conns k) ForDialog (dialog_message a.values.client k (conns k).next_id stage) 1))
-setup_behind z a conns k stage bound shows token command all had =
+setup_behind z a conns k stage bound shows token command own all had =
     let n = (a.wires k).client_end in
     let c = a.values.client in
     let i = (all k).purse in
@@ -85,7 +86,7 @@ setup_behind z a conns k stage bound shows token command all had =
     sent_behind z a.wires conns k (noted_sent (spent n 1 ForDialog) stage frame) frame ForDialog (dialog_message c k (conns k).next_id stage) 1
     all refl (omega arith) (omega (arith, had))
     (subst (λ id. Bears z k frame (dialog_message c k id stage)) i.next_is
-    (setup_bears z k n (request_in c bound shows) token (dialog_message c k n.purse.next stage) refl refl command
+    (setup_bears z k n (request_in c bound shows) token (dialog_message c k n.purse.next stage) refl refl command refl own
     (small_id n.purse (conns k).next_id i)))
 
 -- behind a response that was noted at the client's end, which has its credits
@@ -113,7 +114,7 @@ first_behind z w k stage x bound on all =
     let c = went_on w.values.client k (SaidFirst bound) (dialog_reply w stage x) in
     let a = with_client_end (with_values w (with_client w.values c)) k (noted_heard n stage x) in
     let h = noted w k x.header (noted_heard n stage x) refl all in
-    setup_behind z a w.values.conns k (SaidFirst bound) bound Begins (next_token z n (SaidFirst bound) x.bytes) refl h.ready
+    setup_behind z a w.values.conns k (SaidFirst bound) bound Begins (next_token z n (SaidFirst bound) x.bytes) refl (BeginsLogon refl) h.ready
     (enough _ _ h.held (some_held (after_add x.header.credits n.purse).held on))
 
 second_behind : (z : WorldSettings) (w : World) (k : ℕ) (stage : Stage) (x : HeardMessage) (bound : Bool)
@@ -125,7 +126,8 @@ second_behind z w k stage x bound on all =
     let c = went_on w.values.client k (SaidSecond bound) (dialog_reply w stage x) in
     let a = with_client_end (with_values w (with_client w.values c)) k (noted_heard n stage x) in
     let h = noted w k x.header (noted_heard n stage x) refl all in
-    setup_behind z a w.values.conns k (SaidSecond bound) bound c.who.logon (next_token z n (SaidSecond bound) x.bytes) refl h.ready
+    setup_behind z a w.values.conns k (SaidSecond bound) bound c.who.logon (next_token z n (SaidSecond bound) x.bytes) refl
+    (AnswersChallenge n (setup_token x.bytes) refl) h.ready
     (enough _ _ h.held (some_held (after_add x.header.credits n.purse).held on))
 
 tree_behind : (z : WorldSettings) (w : World) (k : ℕ) (stage : Stage) (x : HeardMessage)

@@ -1,12 +1,12 @@
 -- A list that lost a member, or in which one overtook another, has no other members and no more copies.
 use Rattle.std.proofs.Common.{◌≡◌, ℕ, zero, suc, ◌+◌, ◌≤◌, Bool, true, false, List, [], ◌∷◌, refl, arith}
-use Rattle.std.proofs.Common.{Some, slice_get, add-one}
+use Rattle.std.proofs.Common.{None, Some, slice_get, add-one, sym, ap, ◌∙◌, subst}
 use Rattle.spec_exchange.specs.Network.{Conn, Sent, Received}
 use Rattle.law_sessions.specs.messages.Connections.{count_up, count_down}
 use Rattle.law_hostile.specs.sifting.Sifting.{Sifted}
 use Rattle.law_hostile.specs.loosely.LooseRuns.{without_at, overtaken_at, loses, overtakes}
 
-abbrev Member : {X : Type 0} → List X → X → Type 0
+abbrev pub Member : {X : Type 0} → List X → X → Type 0
 Member xs x = (m : ℕ) × (slice_get xs m ≡ Some x)
 
 later : {X : Type 0} (y : X) (xs : List X) (x : X) → Member xs x → Member (y ∷ xs) x
@@ -68,6 +68,46 @@ down_overtaken g (suc n) (x ∷ []) = omega arith
 down_overtaken g zero (x ∷ y ∷ xs) = omega arith
 down_overtaken g (suc n) (x ∷ y ∷ xs) = let rest = down_overtaken g n (y ∷ xs) in omega (arith, rest)
 
+-- ---- one that stands before all others
+
+within_front : {X : Type 0} (n : ℕ) (x : X) (xs : List X) → slice_get xs n ≡ Some x → (i : ℕ) (y : X)
+    → slice_get (x ∷ without_at n xs) i ≡ Some y → Member xs y
+within_front n x xs at zero y h = let q : Some x ≡ Some y = h in (n, at ∙ q)
+within_front n x xs at (suc i) y h = within_without n xs i y h
+
+up_at : (g n : ℕ) (x : Sent) (xs : List Sent) → slice_get xs n ≡ Some x → count_up g (x ∷ without_at n xs) ≤ count_up g xs
+unfolding without_at
+up_at g n x [] at = absurd (let h : None ≡ Some x = at in cc)
+up_at g zero x (y ∷ xs) at =
+    let q : Some y ≡ Some x = at in
+    let e : y ≡ x = cc in
+    subst (λ v. count_up g (v ∷ xs) ≤ count_up g (y ∷ xs)) e (omega arith)
+up_at g (suc n) x (y ∷ xs) at = let rest = up_at g n x xs at in omega (arith, rest)
+
+down_at : (g n : ℕ) (x : Received) (xs : List Received) → slice_get xs n ≡ Some x → count_down g (x ∷ without_at n xs) ≤ count_down g xs
+unfolding without_at
+down_at g n x [] at = absurd (let h : None ≡ Some x = at in cc)
+down_at g zero x (y ∷ xs) at =
+    let q : Some y ≡ Some x = at in
+    let e : y ≡ x = cc in
+    subst (λ v. count_down g (v ∷ xs) ≤ count_down g (y ∷ xs)) e (omega arith)
+down_at g (suc n) x (y ∷ xs) at = let rest = down_at g n x xs at in omega (arith, rest)
+
+not_none : {X : Type 0} (n : ℕ) (x : X) (xs ys : List X) → slice_get xs n ≡ Some x → xs ≡ [] → ys ≡ []
+not_none n x xs ys at e = absurd (let h : None ≡ Some x = sym (ap (λ l. slice_get l n) e) ∙ at in cc)
+
+-- what a test tells from the one that left stays
+pub stays_without : {X : Type 0} (test : X → Bool) (n i : ℕ) (x y : X) (xs : List X) → slice_get xs n ≡ Some x → test x ≡ true
+    → slice_get xs i ≡ Some y → test y ≡ false → Member (without_at n xs) y
+unfolding without_at
+stays_without test n i x y [] at is h other = (i, h)
+stays_without test zero zero x y (v ∷ xs) at is h other =
+    absurd (let p : Some v ≡ Some x = at in let q : Some v ≡ Some y = h in let r : x ≡ y = cc in
+    let s : true ≡ false = sym is ∙ (ap test r ∙ other) in cc)
+stays_without test zero (suc i) x y (v ∷ xs) at is h other = (i, h)
+stays_without test (suc n) zero x y (v ∷ xs) at is h other = (0, h)
+stays_without test (suc n) (suc i) x y (v ∷ xs) at is h other = later v (without_at n xs) y (stays_without test n i x y xs at is h other)
+
 -- ---- a connection
 
 -- with other lists up
@@ -108,3 +148,12 @@ overtakes_sifts c true n = sifts_up c (overtaken_at n c.up) (λ i x h. within_ov
 overtakes_sifts c false n =
     sifts_down c (overtaken_at n c.down) (λ i y h. within_overtaken n c.down i y h) (λ e. none_overtaken n c.down e)
     (λ g. down_overtaken g n c.down)
+
+pub front_up_sifts : (c : Conn) (n : ℕ) (x : Sent) → slice_get c.up n ≡ Some x → Sifted c (record c { up = x ∷ without_at n c.up })
+front_up_sifts c n x at =
+    sifts_up c (x ∷ without_at n c.up) (λ i y h. within_front n x c.up at i y h) (λ g. up_at g n x c.up at)
+
+pub front_down_sifts : (c : Conn) (n : ℕ) (y : Received) → slice_get c.down n ≡ Some y → Sifted c (record c { down = y ∷ without_at n c.down })
+front_down_sifts c n y at =
+    sifts_down c (y ∷ without_at n c.down) (λ i x h. within_front n y c.down at i x h)
+    (λ e. not_none n y c.down (y ∷ without_at n c.down) at e) (λ g. down_at g n y c.down at)

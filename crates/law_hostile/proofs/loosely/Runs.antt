@@ -51,7 +51,7 @@ no_acts : (w : World) → acts [] w ≡ (λ g. 0)
 unfolding acts
 no_acts w = refl
 
-begins : (z : Settings) → Held z.who.share (start z) (λ g. 0)
+pub begins : (z : Settings) → Held z.who.share (start z) (λ g. 0)
 begins z =
     record {
       core = record {
@@ -69,7 +69,7 @@ begins z =
 -- ---- every loose run
 
 -- the counts behind an event
-abbrev loose_after : World → LooseEvent → (ℕ → ℕ) → ℕ → ℕ
+abbrev pub loose_after : World → LooseEvent → (ℕ → ℕ) → ℕ → ℕ
 loose_after w e a g = if loose_acts_now w e g then a g + 1 else a g
 
 hears_keeps : (share : List ℕ) (w : World) (a : ℕ → ℕ) (x : Sent) (b : Bool) → may_hear w.client x ≡ b → Held share w a
@@ -80,7 +80,7 @@ hears_keeps share w a x true e i =
     (λ g. if b && (is_send_of g x.token && (answer w x).acted) then a g + 1 else a g)) e (held_hears share w a x e i)
 hears_keeps share w a x false e i = i
 
-event_keeps : (share : List ℕ) (w : World) (a : ℕ → ℕ) (e : LooseEvent) → Held share w a
+pub event_keeps : (share : List ℕ) (w : World) (a : ℕ → ℕ) (e : LooseEvent) → Held share w a
     → Held share (loose_happens w e) (loose_after w e a)
 event_keeps share w a (Meets e) i = held_keeps share w a e i
 event_keeps share w a (Loses k up place) i =
@@ -109,7 +109,7 @@ counts_acts (e ∷ es) w a g =
 same_counts : (es : List LooseEvent) (w : World) → counts es w (λ g. 0) ≡ loose_acts es w
 same_counts es w = λ t g. from_zero (loose_acts es w g) (counts es w (λ x. 0) g) (counts_acts es w (λ x. 0) g) t
 
-held : (z : Settings) (es : List LooseEvent) → Held z.who.share (loose_run es (start z)) (loose_acts es (start z))
+pub held : (z : Settings) (es : List LooseEvent) → Held z.who.share (loose_run es (start z)) (loose_acts es (start z))
 held z es =
     subst (λ a. Held z.who.share (loose_run es (start z)) a) (same_counts es (start z))
     (always z.who.share es (start z) (λ g. 0) (begins z))

@@ -30,7 +30,7 @@ heard_by : (z : WorldSettings) → AreHeadersLawful → AreCommandsLawful → Ar
     → IsHeardAs z L k frame x m
 heard_by z heads law trees frame m L k f x fits id ok (AsksNegotiate draws command e) =
     absurd (fits_no_dialog z m.command fits.command (ap number_of_command command))
-heard_by z heads law trees frame m L k f x fits id ok (AsksSetup n r token command e) =
+heard_by z heads law trees frame m L k f x fits id ok (AsksSetup n r token command sequence own e) =
     absurd (fits_no_dialog z m.command fits.command (ap number_of_command command))
 heard_by z heads law trees frame m L k f x fits id ok (AsksLine s e) = heard_line z heads law trees s m frame L k f x fits id e ok
 

@@ -146,7 +146,7 @@ pub meant_header : AreHeadersLawful → (z : WorldSettings) (m : Message) (frame
     → IsMeant z frame m → messages_in frame ≡ Some (heard_in frame ∷ []) → IsLineHeader (header_in frame)
 meant_header heads z m frame i id (AsksNegotiate draws command e) one =
     absurd (fits_no_dialog z m.command i.command (ap number_of_command command))
-meant_header heads z m frame i id (AsksSetup n r token command e) one =
+meant_header heads z m frame i id (AsksSetup n r token command sequence own e) one =
     absurd (fits_no_dialog z m.command i.command (ap number_of_command command))
 meant_header heads z m frame i id (AsksLine s e) one = line_header heads z s m frame i id e one
 

@@ -28,11 +28,11 @@ use Rattle.law_hostile.proofs.finals.Signing.{Holds, event_holds, start_holds, f
 
 -- ---- what is said to the one message of a frame
 
-record SaidBy (z : ServerSettings) (k now : ℕ) (fresh : List ℕ) (f : ServerEnd) (s : Server) (L : Logons) (c : Checked) (rs : List SaidReply)
+pub record SaidBy (z : ServerSettings) (k now : ℕ) (fresh : List ℕ) (f : ServerEnd) (s : Server) (L : Logons) (c : Checked) (rs : List SaidReply)
     : Type 0 where
-  message : Message
-  heard : heard_message z L k f c ≡ Some message
-  is : rs ≡ said_to z k now fresh f L f.window c message.command (answer_to s now message message.command) ∷ []
+  pub message : Message
+  pub heard : heard_message z L k f c ≡ Some message
+  pub is : rs ≡ said_to z k now fresh f L f.window c message.command (answer_to s now message message.command) ∷ []
 
 said_heard : (z : ServerSettings) (k now : ℕ) (fresh : List ℕ) (f : ServerEnd) (s : Server) (L : Logons) (c : Checked) (o : Option Message)
     → heard_message z L k f c ≡ o
@@ -41,7 +41,7 @@ said_heard : (z : ServerSettings) (k now : ℕ) (fresh : List ℕ) (f : ServerEn
 said_heard z k now fresh f s L c None e = inl refl
 said_heard z k now fresh f s L c (Some m) e = inr (record { message = m; heard = e; is = refl })
 
-said_all : (z : ServerSettings) (k now : ℕ) (fresh : List ℕ) (f : ServerEnd) (s : Server) (L : Logons) (cs : List Checked) (c : Checked)
+pub said_all : (z : ServerSettings) (k now : ℕ) (fresh : List ℕ) (f : ServerEnd) (s : Server) (L : Logons) (cs : List Checked) (c : Checked)
     → cs ≡ c ∷ []
     → ((went_all z k now fresh f (beginning s L f) cs).replies ≡ [])
     ⊎ SaidBy z k now fresh f s L c (went_all z k now fresh f (beginning s L f) cs).replies

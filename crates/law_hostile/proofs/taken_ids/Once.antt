@@ -1,6 +1,6 @@
 -- Between two openings a request is taken once: its id leaves the window when it is taken, and never comes back.
 use Rattle.std.proofs.Common.{◌≡◌, ℕ, zero, suc, ◌+◌, ◌≤◌, ◌<◌, ◌==◌, ◌&&◌, Bool, true, false, if◌then◌else◌, List, [], ◌∷◌, ◌++◌, refl, sym, ◌∙◌}
-use Rattle.std.proofs.Common.{ap, subst, Option, Some, None, slice_get, Ok, ⊎_elim, arith, eqb-true, eq-eqb}
+use Rattle.std.proofs.Common.{ap, subst, Option, Some, None, slice_get, Ok, ⊎_elim, arith, eqb-true, eq-eqb, take}
 use Rattle.std.proofs.lemmas.Bool.{cases_lt}
 use Rattle.spec_exchange.specs.Table.{put}
 use Rattle.spec_exchange.specs.Network.{Event, Submit, Open, Push, Serve, Take, Cut, Drop, Restart, Crash, Wait, Finish, is_possible}
@@ -8,9 +8,9 @@ use Rattle.spec_wire.specs.declared.messages.header.Header.{Header}
 use Rattle.spec_wire.specs.credits.Ids.{times}
 use Rattle.spec_wire.specs.credits.Window.{HeldIds, first_window}
 use Rattle.law_server.proofs.tables.Logic.{either, front_of, back_of, both}
-use Rattle.spec_world.specs.Settings.{WorldSettings}
+use Rattle.spec_world.specs.Settings.{WorldSettings, draw}
 use Rattle.spec_world.specs.Messages.{header_in}
-use Rattle.spec_world.specs.Ends.{ServerEnd}
+use Rattle.spec_world.specs.Ends.{ServerEnd, first_server_end}
 use Rattle.spec_world.specs.Hearing.{Checked, Frame, check_frame, is_cancel, is_setup}
 use Rattle.spec_world.specs.World.{Wires, opened_wires}
 use Rattle.spec_world.specs.Events.{Plain, bytes_happen, bytes_later}
@@ -29,12 +29,12 @@ use Rattle.law_hostile.proofs.taken_ids.Runs.{event_window}
 use Rattle.law_hostile.proofs.taken_ids.Headers.{header_is}
 use Rattle.law_hostile.proofs.puts.Growing.{watches_run}
 
-abbrev window_at : RepeatWorld → ℕ → HeldIds
+abbrev pub window_at : RepeatWorld → ℕ → HeldIds
 window_at r k = (r.world.wires k).server_end.window
 
 -- ---- a window holds each id at most once
 
-record HeldOnce (w : HeldIds) : Type 0 where
+pub record HeldOnce (w : HeldIds) : Type 0 where
   pub added : AllAdded w
   pub once : (id : ℕ) → times id w.held ≤ 1
 
@@ -42,7 +42,7 @@ one_id : (n : ℕ) → times n (0 ∷ []) ≤ 1
 one_id zero = let e = times-here 0 [] in omega (arith, e)
 one_id (suc n) = let e = first_added (suc n) (omega arith) in omega (arith, e)
 
-first_once : HeldOnce first_window
+pub first_once : HeldOnce first_window
 first_once = record { added = first_added; once = one_id }
 
 -- what was taken and what is held of one id
@@ -63,17 +63,21 @@ held_behind w v ids h s =
 put_at : (f : ℕ → Wires) (j k : ℕ) (u : Wires) → (k == j) ≡ true → (put f j u k).server_end ≡ u.server_end
 put_at f j k u e = ap (λ b. (if b then u else f k).server_end) e
 
+-- as an Accept leaves it
+abbrev pub IsFirst : RepeatWorld → ℕ → Type 0
+IsFirst r k = (salt : List ℕ) × ((r.world.wires k).server_end ≡ first_server_end salt)
+
 opened_end : (z : WorldSettings) (r : RepeatWorld) (k j : ℕ) → (k == j) ≡ true → is_possible r.world.values (Open j) ≡ true
-    → window_at (same_done z r (Open j)) k ≡ first_window
-opened_end z r k j same may =
-    let w = bytes_happen z r.world (Plain (Open j)) in
-    ap (λ (f : ServerEnd). f.window)
-    (put_ends w.wires j _ refl k
-    ∙ (ap (λ b. ((if b then bytes_later (opened_wires z r.world j) 1 else r.world).wires k).server_end) may
-    ∙ put_at r.world.wires j k _ same))
+    → IsFirst (same_done z r (Open j)) k
+opened_end z r k j same may = let w = bytes_happen z r.world (Plain (Open j)) in (
+  take 32 (draw z.seed (r.world.draws + 3)),
+  put_ends w.wires j _ refl k
+      ∙ (ap (λ b. ((if b then bytes_later (opened_wires z r.world j) 1 else r.world).wires k).server_end) may
+      ∙ put_at r.world.wires j k _ same),
+)
 
 opened_window : (z : WorldSettings) (r : RepeatWorld) (k : ℕ) (e : Event) → (is_open_of k e && is_possible r.world.values e) ≡ true
-    → window_at (repeat_happens z r (Same e)) k ≡ first_window
+    → IsFirst (repeat_happens z r (Same e)) k
 opened_window z r k (Open j) t =
     opened_end z r k j (front_of (k == j) (is_possible r.world.values (Open j)) t) (back_of (k == j) (is_possible r.world.values (Open j)) t)
 opened_window z r k (Submit g op) t = absurd (let q : false ≡ true = t in cc)
@@ -87,21 +91,23 @@ opened_window z r k (Crash j kept) t = absurd (let q : false ≡ true = t in cc)
 opened_window z r k (Wait n) t = absurd (let q : false ≡ true = t in cc)
 opened_window z r k (Finish refusal) t = absurd (let q : false ≡ true = t in cc)
 
-event_opened : (z : WorldSettings) (r : RepeatWorld) (k : ℕ) (e : RepeatEvent) → is_opened_by r k e ≡ true
-    → window_at (repeat_happens z r e) k ≡ first_window
+pub event_opened : (z : WorldSettings) (r : RepeatWorld) (k : ℕ) (e : RepeatEvent) → is_opened_by r k e ≡ true
+    → IsFirst (repeat_happens z r e) k
 event_opened z r k (Same e) t = opened_window z r k e t
 event_opened z r k (Give j up place) t = absurd (let q : false ≡ true = t in cc)
 
-event_once : (z : WorldSettings) (r : RepeatWorld) (k : ℕ) (e : RepeatEvent) → HeldOnce (window_at r k)
+pub event_once : (z : WorldSettings) (r : RepeatWorld) (k : ℕ) (e : RepeatEvent) → HeldOnce (window_at r k)
     → HeldOnce (window_at (repeat_happens z r e) k)
 event_once z r k e h = by_opening (is_opened_by r k e) refl
   where
     by_opening : (b : Bool) → is_opened_by r k e ≡ b → HeldOnce (window_at (repeat_happens z r e) k)
-    by_opening true t = subst HeldOnce (sym (event_opened z r k e t)) first_once
+    by_opening true t = (
+        let f = event_opened z r k e t in
+        subst HeldOnce (sym (ap (λ (g : ServerEnd). g.window) f.1)) first_once)
     by_opening false t =
         held_behind (window_at r k) (window_at (repeat_happens z r e) k) (ids_now r k e) h (event_window z r k e t)
 
-run_once : (z : WorldSettings) (es : List RepeatEvent) (r : RepeatWorld) (k : ℕ) → HeldOnce (window_at r k)
+pub run_once : (z : WorldSettings) (es : List RepeatEvent) (r : RepeatWorld) (k : ℕ) → HeldOnce (window_at r k)
     → HeldOnce (window_at (repeat_run z es r) k)
 unfolding repeat_run
 run_once z [] r k h = h
@@ -176,7 +182,7 @@ down_counts z r j None = refl
 down_counts z r j (Some d) =
     either (λ (v : RepeatWorld). v.openings ≡ r.openings) (is_heard r.world j) (given_down z r j d) r (λ _. refl) (λ _. refl)
 
-event_counts : (z : WorldSettings) (r : RepeatWorld) (k : ℕ) (e : RepeatEvent)
+pub event_counts : (z : WorldSettings) (r : RepeatWorld) (k : ℕ) (e : RepeatEvent)
     → (repeat_happens z r e).openings k ≡ r.openings k + (if is_opened_by r k e then 1 else 0)
 event_counts z r k (Same e) = same_counts z r k e (uses_no_list e) refl
 event_counts z r k (Give j true place) = ap (λ (f : ℕ → ℕ). f k) (up_counts z r j (slice_get r.ups place)) ∙ none_more (r.openings k)

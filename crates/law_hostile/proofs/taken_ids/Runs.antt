@@ -1,6 +1,6 @@
 -- Each event of a repeat run spends of a server's window what it takes.
 use Rattle.std.proofs.Common.{◌≡◌, ℕ, ◌==◌, ◌≤◌, ◌&&◌, Bool, true, false, if◌then◌else◌, List, [], ◌∷◌, refl, sym, ◌∙◌, ap, subst}
-use Rattle.std.proofs.Common.{Option, Some, None, slice_get, eqb-true, arith}
+use Rattle.std.proofs.Common.{Option, Some, None, slice_get, eqb-true, arith, ◌⊎◌, inl, inr}
 use Rattle.spec_exchange.specs.Table.{is_filled}
 use Rattle.spec_exchange.specs.Network.{Event, Submit, Open, Push, Serve, Take, Cut, Drop, Restart, Crash, Wait, Finish, Sent, is_possible}
 use Rattle.spec_exchange.specs.ClientStep.{Pushes, client_after, act}
@@ -226,3 +226,70 @@ pub event_window : (z : WorldSettings) (r : RepeatWorld) (k : ℕ) (e : RepeatEv
     → Spends (r.world.wires k).server_end.window ((repeat_happens z r e).world.wires k).server_end.window (ids_now r k e)
 unfolding End
 event_window z r k e off = event_spends z r k e off
+
+-- ---- what becomes of a server's end
+
+-- it is the one that is given a frame, which is put on connection k alone
+pub record GivenEnd (z : WorldSettings) (r : RepeatWorld) (k : ℕ) (e : RepeatEvent) : Type 0 where
+  pub place : ℕ
+  pub put : UpFrame
+  pub event : e ≡ Give k true place
+  pub at : slice_get r.ups place ≡ Some put
+  pub served : (r.world.values.conns k).server_open ≡ true
+  pub before : ((loaded_up r k put).wires k).server_end ≡ (r.world.wires k).server_end
+  pub behind : ((repeat_happens z r e).world.wires k).server_end ≡ (step_at z (loaded_up r k put) k put.frame).server_end
+
+abbrev pub EndStays : WorldSettings → RepeatWorld → ℕ → RepeatEvent → Type 0
+EndStays z r k e = ((repeat_happens z r e).world.wires k).server_end ≡ (r.world.wires k).server_end
+
+if_true : {X : Type 0} (b : Bool) (x y : X) → b ≡ true → (if b then x else y) ≡ x
+if_true true x y e = refl
+if_true false x y e = absurd (let h : false ≡ true = e in cc)
+
+given_here : (z : WorldSettings) (r : RepeatWorld) (k place : ℕ) (u : UpFrame) → slice_get r.ups place ≡ Some u
+    → (r.world.values.conns k).server_open ≡ true → GivenEnd z r k (Give k true place)
+unfolding Keeps End
+given_here z r k place u at on =
+    record {
+      place = place;
+      put = u;
+      event = refl;
+      at = at;
+      served = on;
+      before = lists_end r.world k k (u ∷ []) [] true;
+      behind = ap (λ o. ((give_up z r k o).world.wires k).server_end) at
+          ∙ (ap (λ (v : RepeatWorld). (v.world.wires k).server_end) (if_true (r.world.values.conns k).server_open (given_up z r k u) r on)
+          ∙ up_own z r k u on);
+    }
+
+given_end : (z : WorldSettings) (r : RepeatWorld) (k j place : ℕ) (o : Option UpFrame) → slice_get r.ups place ≡ o
+    → EndStays z r k (Give j true place) ⊎ GivenEnd z r k (Give j true place)
+unfolding End
+given_end z r k j place None at = inl (ap (λ o. ((give_up z r j o).world.wires k).server_end) at)
+given_end z r k j place (Some u) at = by_open (r.world.values.conns j).server_open refl
+  where
+    by_key : (r.world.values.conns j).server_open ≡ true → (b : Bool) → (j == k) ≡ b
+        → EndStays z r k (Give j true place) ⊎ GivenEnd z r k (Give j true place)
+    by_key on true same =
+        let e : j ≡ k = eqb-true j k same in
+        inr (subst (λ i. GivenEnd z r k (Give i true place)) (sym e)
+        (given_here z r k place u at (subst (λ i. (r.world.values.conns i).server_open ≡ true) e on)))
+    by_key on false off =
+        inl (ap (λ o. ((give_up z r j o).world.wires k).server_end) at
+        ∙ (ap (λ (v : RepeatWorld). (v.world.wires k).server_end) (if_true (r.world.values.conns j).server_open (given_up z r j u) r on)
+        ∙ up_other z r k j u (other_way j k off)))
+
+    by_open : (b : Bool) → (r.world.values.conns j).server_open ≡ b
+        → EndStays z r k (Give j true place) ⊎ GivenEnd z r k (Give j true place)
+    by_open true on = by_key on (j == k) refl
+    by_open false off =
+        inl (ap (λ o. ((give_up z r j o).world.wires k).server_end) at
+        ∙ ap (λ b. ((if b then given_up z r j u else r).world.wires k).server_end) off)
+
+-- where an event doesn't open the connection anew
+pub event_end : (z : WorldSettings) (r : RepeatWorld) (k : ℕ) (e : RepeatEvent) → is_opened_by r k e ≡ false
+    → EndStays z r k e ⊎ GivenEnd z r k e
+unfolding End
+event_end z r k (Same e) off = inl (same_end z r k e off (uses_no_list e) refl)
+event_end z r k (Give j true place) off = given_end z r k j place (slice_get r.ups place) refl
+event_end z r k (Give j false place) off = inl (give_down_end z r k j (slice_get r.downs place))

@@ -9,7 +9,8 @@ use Rattle.spec_crypto.specs.sessions.Signing.{signed}
 use Rattle.spec_world.specs.Settings.{WorldSettings, draw}
 use Rattle.spec_world.specs.Ends.{ClientEnd}
 use Rattle.spec_world.specs.Hearing.{begins_sealed}
-use Rattle.spec_world.specs.Sending.{greeting_text, setup_frame, request_text}
+use Rattle.spec_crypto.specs.tokens.Tokens.{first_token}
+use Rattle.spec_world.specs.Sending.{greeting_text, setup_frame, request_text, answer_of, or_no_token}
 use Rattle.spec_hostile.specs.RepeatRuns.{RepeatEvent, UpFrame}
 use Rattle.spec_hostile.specs.HostileNetwork.{repeated}
 
@@ -21,11 +22,17 @@ bytes_moved (QueryFile file class room) = room
 bytes_moved (ListDirectory file class restart single pattern room) = room
 bytes_moved _ = 0
 
+-- the first token of a logon, or the client's answer to a challenge, or no byte where that has no answer
+pub data IsOwnToken (z : WorldSettings) (token : List ℕ) : Type 0 where
+  BeginsLogon : token ≡ first_token → IsOwnToken z token
+  AnswersChallenge : (n : ClientEnd) (challenge : List ℕ) → token ≡ or_no_token (answer_of z.client n challenge) → IsOwnToken z token
+
 -- These bytes are this value's request: its header has the value's sequence, id, session and tree, its body what the command asks.
--- NEGOTIATE has the salt that was drawn, and SESSION_SETUP is signed in a binding. Any other request is signed.
+-- NEGOTIATE has the salt that was drawn, and SESSION_SETUP is of the sequence 0, has a token of the client's own logon and is signed in a
+-- binding. Any other request is signed.
 pub data IsMeant (z : WorldSettings) (frame : List ℕ) (m : Message) : Type 0 where
   AsksNegotiate : (n : ℕ) → m.command ≡ Aside success → frame ≡ greeting_text z.client (take 32 (draw z.seed n)) m → IsMeant z frame m
-  AsksSetup : (n : ClientEnd) (r : SetupRequest) (token : List ℕ) → m.command ≡ Setup r
+  AsksSetup : (n : ClientEnd) (r : SetupRequest) (token : List ℕ) → m.command ≡ Setup r → m.channel_sequence ≡ 0 → IsOwnToken z token
       → frame ≡ setup_frame n r.binding r.previous token m → IsMeant z frame m
   AsksLine : (s : Signer) → frame ≡ signed s (request_text m (charge (bytes_moved m.command)) true) → IsMeant z frame m
 

@@ -1,0 +1,4 @@
+pub mod Users
+pub mod Tokens
+pub mod Texts
+pub mod Own

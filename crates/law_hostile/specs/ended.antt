@@ -1,0 +1,2 @@
+pub mod EndedSessions
+pub mod Requests
