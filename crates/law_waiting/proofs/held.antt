@@ -1,3 +1,4 @@
 pub mod Conflicting
 pub mod Finding
 mod Equally
+mod Staying

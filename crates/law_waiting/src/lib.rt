@@ -7,6 +7,6 @@ pub mod held;
 mod out_steps;
 pub mod wait_runs;
 
-pub use held::held_law;
+pub use held::{held_law, untouched_law};
 pub use out_steps::order_law;
 pub use wait_runs::{each_turn_law, waiting_law};

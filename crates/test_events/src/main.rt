@@ -4,7 +4,7 @@
 //! Events of a server, row by row, and what is answered to them. A row is what the server stands on, ` | `, events with `; ` between
 //! them, ` = ` and what is answered. Events in front of a ` > ` prepare the others: all of them succeed. The server stands on
 //! `new`, or by options and flags on `disk=BYTES`, on a disk whose calls fail as `plan=BYTES` says, with `room=BYTES` for all files,
-//! with `sealed` messages, with `any` tokens of a logon, or on a `counting` disk, which keeps nothing. What each word asks stands in `src`; one that is no number,
+//! with `sealed` messages, with `any` tokens of a logon, on a `counting` disk, which keeps nothing, or behind LOCKs that it lets wait, `waits`. What each word asks stands in `src`; one that is no number,
 //! where one is asked for, is read as 0. Behind ` > cuts ` stands one frame, which is taken cut to each length, each time by a new server.
 //! Answers were worked by hand from the public documents and from this project's own rules (`docs/DEFINITIONS.md`); rows of frames were
 //! written by tools/frame-rows.py. A row that is answered otherwise is written out.

@@ -1,6 +1,6 @@
 // A row: what the server stands on, and its events.
 use crate::event_calls::{CountingDisk, Fault, disk_of, kept};
-use crate::event_server::{Running, Runs};
+use crate::event_server::{Running, Runs, Waiting};
 use crate::stage::Stage;
 use crate::words::{has, number_or, option, payload};
 use base_outside::MemDisk;
@@ -130,6 +130,9 @@ fn said_by(said: &mut String, alloc: Global, words: &[&str], events: &str) -> Re
         return said_on::<Running<CountingDisk>>(said, alloc, CountingDisk::new(), words, events);
     }
     let disk = disk_in(alloc, words)?;
+    if has(words, "waits") {
+        return said_on::<Waiting<MemDisk>>(said, alloc, disk, words, events);
+    }
     said_on::<Running<MemDisk>>(said, alloc, disk, words, events)
 }
 

@@ -7,15 +7,15 @@ use crate::event_calls::{
 };
 use crate::event_server::Runs;
 use crate::requests::{raw, request, write};
-use crate::told::{push_answer, push_digits};
-use crate::words::{has, number_of, option, payload, small, word};
+use crate::told::{push_answer, push_digits, push_later};
+use crate::words::{has, number_of, number_or, option, payload, small, word};
 use base_outside::Disk;
 use conn_core::Conn;
 use server_checks::ServerEvent;
-use server_effects::Answer;
 use std::alloc::{AllocError, Global};
 use std::fmt::Write;
 use store_files::StoredFile;
+use wait_locks::{CancelTarget, LaterList, OwnAnswer, WaitEvent};
 use wire_bytes::Bytes;
 
 // The first session of the first epoch.
@@ -62,6 +62,7 @@ pub struct Stage<S: Runs> {
     now: u64,
     token: Bytes,
     session: u64,
+    at_once: bool,
     said: String,
 }
 
@@ -77,6 +78,7 @@ impl<S: Runs> Stage<S> {
             now: 5,
             token: Bytes::new(alloc),
             session: 0,
+            at_once: false,
             said: String::new(alloc),
         }
     }
@@ -90,10 +92,10 @@ impl<S: Runs> Stage<S> {
         self.server.is_some()
     }
 
-    // Whether the last event succeeded, or asks for the next token of a logon.
+    // Whether the last event succeeded, asks for the next token of a logon, or waits.
     fn is_done(&self) -> bool {
         let said = self.said.as_str();
-        said.starts_with("ok") || said.starts_with("c0000016")
+        said.starts_with("ok") || said.starts_with("c0000016") || said.starts_with("00000103")
     }
 
     /// Begins on what a disk holds: `ok`, or why there is no server.
@@ -132,24 +134,59 @@ impl<S: Runs> Stage<S> {
     }
 
     fn event(&mut self, around: &Envelope, event: ServerEvent<'_>) -> Result<(), Fault> {
+        self.heard(around, WaitEvent::Serves { event })
+    }
+
+    fn heard(&mut self, around: &Envelope, event: WaitEvent<'_>) -> Result<(), Fault> {
         let Some(server) = &mut self.server else {
             return Err(Fault::Other);
         };
-        match server.event(self.now, event) {
-            Ok(answer) => self.told(around, answer),
+        match server.event(self.now, self.at_once, event) {
+            Ok(list) => {
+                let starved = server.starved();
+                self.listed(around, list, starved)
+            }
             Err(error) => kept(write!(self.said, "{error:?}")),
         }
     }
 
+    // The event's own answer, or `nothing`; then what waiters are told, and `, starved`.
+    fn listed(&mut self, around: &Envelope, list: LaterList, starved: bool) -> Result<(), Fault> {
+        let LaterList { own, finals } = list;
+        match own {
+            Some(own) => self.told(around, own)?,
+            None => kept(self.said.push_str("nothing"))?,
+        }
+        for later in finals.iter() {
+            kept(push_later(&mut self.said, later))?;
+        }
+        kept(self.said.push_str(if starved { ", starved" } else { "" }))
+    }
+
     // Keeps the token of an answer, and the session that it names.
-    fn told(&mut self, around: &Envelope, answer: Answer) -> Result<(), Fault> {
-        push_answer(&mut self.said, self.alloc, around, &answer)?;
-        let Answer { reply, token, .. } = answer;
-        if !token.is_empty() {
-            self.session = reply.session_id;
-            self.token = token;
+    fn told(&mut self, around: &Envelope, own: OwnAnswer) -> Result<(), Fault> {
+        push_answer(&mut self.said, self.alloc, around, &own.answer)?;
+        if own.async_id != 0 {
+            write!(self.said, " async {}", own.async_id)?;
+        }
+        let OwnAnswer { answer, .. } = own;
+        if !answer.token.is_empty() {
+            self.session = answer.reply.session_id;
+            self.token = answer.token;
         }
         Ok(())
+    }
+
+    // `cancel async=ID` or `cancel message=ID`.
+    fn cancel(&mut self, words: &[&str]) -> Result<(), Fault> {
+        let around = envelope_of(words, FIRST);
+        let target = if option(words, "async").is_some() {
+            CancelTarget::AsyncId(number_or(words, "async", 0))
+        } else {
+            CancelTarget::MessageId(around.message)
+        };
+        let connection = around.connection;
+        self.heard(&around, WaitEvent::Cancels { connection, target })
     }
 
     // An event of a connection, which has no ids.
@@ -229,6 +266,7 @@ impl<S: Runs> Stage<S> {
                 self.said.clear();
                 self.second(words)
             }
+            "cancel" => self.cancel(words),
             "write" => self.write(words),
             "raw" => self.raw(words),
             "frame" | "answer" | "sealed" => {
@@ -243,6 +281,7 @@ impl<S: Runs> Stage<S> {
     fn single(&mut self, event: &str) -> Result<(), Fault> {
         let words: Vec<&str> = event.split(" ").collect(self.alloc)?;
         self.said.clear();
+        self.at_once = has(&words, "at-once");
         self.of_words(&words)
     }
 

@@ -3,6 +3,7 @@ use crate::event_calls::{Envelope, Fault, check_last, kept, keys_behind};
 use server_effects::Answer;
 use std::alloc::{AllocError, Global};
 use std::fmt::Write;
+use wait_locks::Later;
 use wire_commands::{Body, CreateReply, Info, Named, Reply};
 
 /// Hexadecimal digits, `-` for no bytes.
@@ -113,6 +114,24 @@ fn push_body(said: &mut String, body: &Body) -> Result<(), AllocError> {
     }
 }
 
+fn push_status(said: &mut String, status: u32) -> Result<(), AllocError> {
+    if status == 0 {
+        return said.push_str("ok");
+    }
+    write!(said, "{status:08x}")
+}
+
+/// Puts `, on CONNECTION message ID async ID` and the status of a final response.
+pub fn push_later(said: &mut String, later: &Later) -> Result<(), AllocError> {
+    let message = later.message;
+    write!(
+        said,
+        ", on {} message {message} async {} ",
+        later.connection, later.async_id
+    )?;
+    push_status(said, later.reply.status)
+}
+
 // The status, whether it acted, the ids that aren't the request's, and what is told.
 fn push_reply(
     said: &mut String,
@@ -120,11 +139,7 @@ fn push_reply(
     reply: &Reply,
     acted: bool,
 ) -> Result<(), AllocError> {
-    if reply.status == 0 {
-        said.push_str("ok")?;
-    } else {
-        write!(said, "{:08x}", reply.status)?;
-    }
+    push_status(said, reply.status)?;
     said.push_str(if acted { " acts" } else { "" })?;
     if reply.session_id != around.session {
         said.push_str(" session ")?;

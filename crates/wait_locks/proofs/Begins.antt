@@ -8,6 +8,7 @@ use Rattle.spec_exchange.specs.Step.{step}
 use Rattle.spec_crypto.specs.tokens.Tokens.{Users}
 use Rattle.spec_world.specs.Ends.{Logons}
 use Rattle.spec_world.specs.Lacking.{alone_records}
+use Rattle.spec_wire.specs.journal.Moments.{LeavesOnly}
 use Rattle.law_waiting.specs.held.Held.{would_wait}
 use Rattle.law_waiting.specs.wait_steps.WaitStep.{Begun, Fails, Lacks, MadeStep, StepMishap, WaitState, begun, cancelling, own_reply, served, staying_waiters, waiter_named}
 use Rattle.law_waiting.specs.wait_steps.WaitStep as waits
@@ -19,18 +20,19 @@ use Rattle.server_checks.specs.declared.event_heard.event.ServerEvent.{ServerEve
 use Rattle.server_checks.specs.declared.event_heard.event.ServerEvent.TheVariants as events
 use Rattle.server_checks.specs.declared.setups.error.EventError.{EventError}
 use Rattle.server_checks.specs.declared.setups.error.EventError.TheVariants as errors
-use Rattle.server_core.specs.Shown.{config_of, state_of, stopped_of}
+use Rattle.server_core.specs.Shown.{config_of, disk_of, state_of, stopped_of}
 use Rattle.server_core.specs.declared.server.Server.{Server}
-use Rattle.server_core.specs.journaled_tables.Beside.{logons_behind}
-use Rattle.server_core.specs.journaled_tables.Holds.{EventRefused, JournaledHolds, StepAnswers, uncounted}
+use Rattle.server_core.specs.journaled_tables.Beside.{BesideReply, logons_behind}
+use Rattle.server_core.specs.journaled_tables.Holds.{EventAnswers, EventLeavesBodies, EventRefused, JournaledGoesOn, JournaledHolds, StepAnswers, uncounted}
 use Rattle.server_effects.specs.declared.answering.Answer.{Answer}
 use Rattle.wait_locks.specs.Begun.{BegunBy, CancelIs, LetInIs, ServedBy, ShowsBegun, came_of, turn_of}
 use Rattle.wait_locks.specs.Kept.{kept_message, waiter_of}
 use Rattle.wait_locks.specs.declared.waiter.Waiter.{Waiter}
-use Rattle.wait_locks.specs.Shown.{HoldsWaiting, target_of}
-use Rattle.wait_locks.specs.Stepping.{HoldsTill, StepGoes, Steps}
+use Rattle.wait_locks.specs.Shown.{FaultIs, HoldsWaiting, own_acted, target_of}
+use Rattle.wait_locks.specs.Stepping.{Befell, HoldsTill, StepGoes, Steps}
 use Rattle.wait_locks.specs.Told.{response_of}
 use Rattle.wait_locks.specs.declared.later.Later.{Later}
+use Rattle.wait_locks.specs.declared.later.OwnAnswer.{OwnAnswer}
 use Rattle.wait_locks.specs.declared.wait_server.CancelTarget.{CancelTarget}
 use Rattle.wait_locks.specs.declared.wait_server.WaitServer.{WaitServer}
 use Rattle.server_checks.specs.setups.Setups.{setup_message}
@@ -48,7 +50,7 @@ cancelling_rest : (w : WaitState) (k : ℕ) (target : waits.Target) (rest : List
 cancelling_rest w k target rest None = refl
 cancelling_rest w k target rest (Some old) = refl
 
-module _ {D : Type 0} (told : Type 0) (seen : D → List ℕ) (may_leave : D → List ℕ → Type 0) (faults : D → ℕ) (old new : WaitServer D)
+module _ {D : Type 0} (told : Type 0) (seen : D → List ℕ) (may_leave : D → List ℕ → Type 0) (moment : D → ℕ) (left_since : D → ℕ → List ℕ → Type 0) (faults : D → ℕ) (old new : WaitServer D)
     (after : List Later) (w : WaitState) (L : Logons) (records : List model.Record) (now : ℕ) (at_once : Bool) (k : ℕ) (target : CancelTarget)
     (h : HoldsWaiting told seen may_leave old w L records) (none : stopped_of old.server ≡ None)
     (rest : new ≡ record old { waiters = new.waiters }) where
@@ -62,7 +64,7 @@ module _ {D : Type 0} (told : Type 0) (seen : D → List ℕ) (may_leave : D →
       subst P (sym (ap (λ (z : WaitServer D). z.server) rest)) (subst Q (sym (append-nil records)) h.server)
 
   cancelled_so : (o : Option waits.Waiter) → waiter_named k (target_of target) w.waiters ≡ o → CancelIs k (target_of target) o old new [] after
-      → BegunBy told seen may_leave faults old.server new after w L records now at_once events.Stop (waits.Cancels k (target_of target)) (Ok None)
+      → BegunBy told seen may_leave moment left_since faults old.server new after w L records now at_once events.Stop (waits.Cancels k (target_of target)) (Ok None)
   cancelled_so None e c =
       record {
         front = [];
@@ -79,6 +81,8 @@ module _ {D : Type 0} (told : Type 0) (seen : D → List ℕ) (may_leave : D →
           stopped = ap (λ (z : WaitServer D). stopped_of z.server) rest ∙ h.stopped;
         };
         shows = (refl, sym h.stopped ∙ none, refl, ap (map response_of) c.1);
+        goes = tt;
+        fault = tt;
       }
   cancelled_so (Some x) e c =
       record {
@@ -96,11 +100,13 @@ module _ {D : Type 0} (told : Type 0) (seen : D → List ℕ) (may_leave : D →
           stopped = ap (λ (z : WaitServer D). stopped_of z.server) rest ∙ h.stopped;
         };
         shows = (refl, sym h.stopped ∙ none, refl, c.1);
+        goes = tt;
+        fault = tt;
       }
 
   pub cancelled : (before : List Later) → before ≡ []
       → CancelIs k (target_of target) (waiter_named k (target_of target) (map waiter_of old.waiters.items)) old new before after
-      → BegunBy told seen may_leave faults old.server new after w L records now at_once events.Stop (waits.Cancels k (target_of target)) (Ok None)
+      → BegunBy told seen may_leave moment left_since faults old.server new after w L records now at_once events.Stop (waits.Cancels k (target_of target)) (Ok None)
   cancelled before b c =
       let P : List Later → Type 0 = λ z. CancelIs k (target_of target) (waiter_named k (target_of target) (map waiter_of old.waiters.items)) old new z
       after in
@@ -194,7 +200,7 @@ pub not_heard : (b : Bool) (s : model.Server) (m : Message) → would_wait s (me
 not_heard true s m h = refl
 not_heard false s m h = ap is_some (heard_by s m m.command h)
 
-module _ {D : Type 0} (told : Type 0) (seen : D → List ℕ) (may_leave : D → List ℕ → Type 0) (faults : D → ℕ) where
+module _ {D : Type 0} (told : Type 0) (seen : D → List ℕ) (may_leave : D → List ℕ → Type 0) (moment : D → ℕ) (left_since : D → ℕ → List ℕ → Type 0) (faults : D → ℕ) where
   module _ (from : Server D) (new : WaitServer D) (finals : List Later) (w : WaitState) (L : Logons) (records : List model.Record) (now : ℕ)
       (at_once : Bool) where
     goes_there : (e : ServerEvent) (x : Option StepMishap) (rest : List (Option StepMishap)) → ((m : Message) → e ≡ events.Message m → ⊥)
@@ -212,9 +218,9 @@ module _ {D : Type 0} (told : Type 0) (seen : D → List ℕ) (may_leave : D →
     goes_there (events.End k) x rest apart = refl
     goes_there events.Stop x rest apart = refl
 
-    pub served_begun : (e : ServerEvent) (result : Result (Option Later) EventError) → finals ≡ [] → ((m : Message) → e ≡ events.Message m → ⊥)
-        → ServedBy told seen may_leave faults from new w L records now e result
-        → BegunBy told seen may_leave faults from new finals w L records now at_once e (waits.Serves (heard_event (config_of from).users L w.server e))
+    pub served_begun : (e : ServerEvent) (result : Result (Option OwnAnswer) EventError) → finals ≡ [] → ((m : Message) → e ≡ events.Message m → ⊥)
+        → ServedBy told seen may_leave moment left_since faults from new w L records now e result
+        → BegunBy told seen may_leave moment left_since faults from new finals w L records now at_once e (waits.Serves (heard_event (config_of from).users L w.server e))
         result
     served_begun e result f apart s =
         let P : List Later → Type 0 = λ z. ShowsBegun result z (came_of (config_of from).users w L now e s.mishap) in
@@ -230,13 +236,15 @@ module _ {D : Type 0} (told : Type 0) (seen : D → List ℕ) (may_leave : D →
           steps = s.steps;
           holds = s.holds;
           shows = subst P (sym f) s.shows;
+          goes = s.goes;
+          fault = s.fault;
         }
 
     -- a request that isn't to wait
-    pub message_begun : (m : Message) (result : Result (Option Later) EventError) → finals ≡ []
+    pub message_begun : (m : Message) (result : Result (Option OwnAnswer) EventError) → finals ≡ []
         → (not at_once && is_some (would_wait w.server (as_heard m))) ≡ false
-        → ServedBy told seen may_leave faults from new w L records now (events.Message m) result
-        → BegunBy told seen may_leave faults from new finals w L records now at_once (events.Message m)
+        → ServedBy told seen may_leave moment left_since faults from new w L records now (events.Message m) result
+        → BegunBy told seen may_leave moment left_since faults from new finals w L records now at_once (events.Message m)
         (waits.Serves (heard_event (config_of from).users L w.server (events.Message m))) result
     message_begun m result f test s =
         let P : List Later → Type 0 = λ z. ShowsBegun result z (came_of (config_of from).users w L now (events.Message m) s.mishap) in
@@ -253,26 +261,28 @@ module _ {D : Type 0} (told : Type 0) (seen : D → List ℕ) (may_leave : D →
           steps = s.steps;
           holds = s.holds;
           shows = subst P (sym f) s.shows;
+          goes = s.goes;
+          fault = s.fault;
         }
 
     -- one that begins to wait
-    pub waits_begun : (old : WaitServer D) (m : Message) (k : Waiter) (before : List Later) (l : Later) → from ≡ old.server → at_once ≡ false
+    pub waits_begun : (old : WaitServer D) (m : Message) (k : Waiter) (before : List Later) (l : OwnAnswer) → from ≡ old.server → at_once ≡ false
         → message_of m ≡ kept_message k → is_some (would_wait w.server (kept_message k)) ≡ true
         → HoldsWaiting told seen may_leave old w L records → stopped_of old.server ≡ None → before ≡ []
         → new ≡ record old { waiters = new.waiters; ids_given = new.ids_given }
         → LetInIs (waits.let_in w (kept_message k) []) new before finals l
-        → BegunBy told seen may_leave faults from new finals w L records now at_once (events.Message m)
+        → BegunBy told seen may_leave moment left_since faults from new finals w L records now at_once (events.Message m)
         (waits.Serves (heard_event (config_of from).users L w.server (events.Message m))) (Ok (Some l))
     waits_begun old m k before l same once is test h none b rest lists =
         let K : model.Message = kept_message k in let c : Begun = waits.let_in w K [] in
         let keeps : KeepsAll w c = lets_keep w K in
-        let E : model.ServerEvent → Type 0 = λ z. BegunBy told seen may_leave faults from new finals w L records now at_once (events.Message m)
+        let E : model.ServerEvent → Type 0 = λ z. BegunBy told seen may_leave moment left_since faults from new finals w L records now at_once (events.Message m)
         (waits.Serves z) (Ok (Some l)) in
         let es : new.server ≡ old.server = ap (λ (z : WaitServer D). z.server) rest in
         let P : Server D → Type 0 = λ z. HoldsTill told seen may_leave (state_of z) w.server L (records ++ []) in
         let Q : List model.Record → Type 0 = λ z. HoldsTill told seen may_leave (state_of old.server) w.server L z in
         let R : model.Server → Type 0 = λ z. HoldsTill told seen may_leave (state_of new.server) z L (records ++ []) in
-        let S : List MadeStep → Type 0 = λ z. Steps told seen may_leave faults (config_of from).users now (events.Message m) (state_of from)
+        let S : List MadeStep → Type 0 = λ z. Steps told seen may_leave moment left_since faults (config_of from).users now (events.Message m) (state_of from)
         (state_of new.server) L records z L [] in
         let F : List Later → Type 0 = λ z. map response_of finals ≡ map response_of z ++ c.replies.finals in
         subst E (sym (heard_so (config_of from).users L w.server m k is))
@@ -294,6 +304,11 @@ module _ {D : Type 0} (told : Type 0) (seen : D → List ℕ) (may_leave : D →
             stopped = ap stopped_of es ∙ h.stopped ∙ sym keeps.stopped;
           };
           shows = (keeps.refusal, keeps.stopped ∙ (sym h.stopped ∙ none), lists.own, subst F b lists.finals);
+          goes = record {
+            acted = lists.alone.acted ∙ sym (ap own_acted keeps.made);
+            beside = (lists.alone.token, lists.alone.keys, lists.alone.channel);
+          };
+          fault = tt;
         })
 
   module _ (old new : WaitServer D) (w : WaitState) (L : Logons) (records : List model.Record) (now : ℕ) (own : ServerEvent)
@@ -311,15 +326,30 @@ module _ {D : Type 0} (told : Type 0) (seen : D → List ℕ) (may_leave : D →
     goes_on = sym h.stopped ∙ none
 
     module _ (lists : map waiter_of new.waiters.items ≡ staying_waiters (map waiter_of old.waiters.items) (waits.Serves e))
-        (ids : new.ids_given ≡ old.ids_given) where
+        (ids : new.ids_given ≡ old.ids_given)
+        (leaves : told → (bodies : List (List ℕ)) → JournaledGoesOn seen may_leave (state_of old.server) w.server records bodies
+        → LeavesOnly moment left_since (disk_of old.server) (disk_of new.server) (EventLeavesBodies w.server now e bodies)) where
+      asked : (r : Result Answer EventError) (y : Option StepMishap) (N : Logons) (front : List model.Record)
+          → EventAnswers told seen may_leave faults (state_of old.server) (state_of new.server) (config_of old.server).users w.server L records now own r
+          → Befell now r (waits.own_step w.server now e y) e L M N front
+          → StepGoes told seen may_leave moment left_since faults (config_of old.server).users now own (state_of old.server) (state_of new.server) L records
+          (waits.own_step w.server now e y) N front
+      asked r y N front a b = (
+        h.server.holds none,
+        none,
+        inl (record { event = own; heard = refl; result = r; answers = a; answer = refl; befell = b; any_moment = leaves }),
+      )
+
       stay : map waiter_of new.waiters.items ≡ staying_waiters w.waiters (waits.Serves e)
       stay = lists ∙ ap (λ us. staying_waiters us (waits.Serves e)) h.waiters
 
-      pub served_well : (r : Answer) (l : Later) → reply_of l.reply ≡ reply_of r.reply
+      pub served_well : (r : Answer) (l : OwnAnswer) → l.answer ≡ r
           → ((q : model.Reply) → own_reply e q ≡ record { connection = l.connection; message = l.message; async_id = l.async_id; reply = q })
           → new.starved ≡ old.starved → config_of new.server ≡ config_of old.server → StepAnswers told seen may_leave (state_of new.server) w.server L records now own r A
-          → ServedBy told seen may_leave faults old.server new w L records now own (Ok (Some l))
-      served_well r l reply asker starved config a =
+          → ServedBy told seen may_leave moment left_since faults old.server new w L records now own (Ok (Some l))
+      served_well r l same asker starved config a =
+          let R : Config → Type 0 = λ z. BesideReply z.users L own now (progress_of (heard_event z.users L w.server own) A.reply) r.token r.keys r.channel in
+          let S : Answer → Type 0 = λ z. BesideReply (config_of old.server).users L own now (progress_of e A.reply) z.token z.keys z.channel in
           let P : List model.Record → Type 0 = λ z. JournaledHolds told seen may_leave (state_of new.server) A.server M (records ++ z) in
           let Q : Config → Type 0 = λ z. JournaledHolds told seen may_leave (state_of new.server) A.server
           (logons_behind z.users L own now (progress_of (heard_event z.users L w.server own) A.reply)) (records ++ A.records) in
@@ -332,7 +362,7 @@ module _ {D : Type 0} (told : Type 0) (seen : D → List ℕ) (may_leave : D →
               M,
               A.records,
               [],
-              inl (record { event = own; heard = refl; result = Ok r; answers = a; answer = refl; befell = (refl, refl, refl) }),
+              asked (Ok r) None M A.records a (refl, refl, refl),
               (refl, refl, refl),
               refl,
             );
@@ -348,10 +378,13 @@ module _ {D : Type 0} (told : Type 0) (seen : D → List ℕ) (may_leave : D →
               refl,
               goes_on,
               ap Some
-                  (ap (λ z. record { connection = l.connection; message = l.message; async_id = l.async_id; reply = z }) (reply ∙ a.1)
+                  (ap (λ z. record { connection = l.connection; message = l.message; async_id = l.async_id; reply = z })
+                  (ap (λ (z : Answer). reply_of z.reply) same ∙ a.1)
                   ∙ sym (asker A.reply)),
               refl,
             );
+            goes = record { acted = ap (λ (z : Answer). z.acted) same ∙ a.2; beside = subst S (sym same) (subst R config a.3) };
+            fault = tt;
           }
 
       ill : (x : EventError) (y : StepMishap) (t : model.Server) (N : Logons) (front : List model.Record) (stopped : Option ℕ)
@@ -365,13 +398,13 @@ module _ {D : Type 0} (told : Type 0) (seen : D → List ℕ) (may_leave : D →
             refusal = (came_of (config_of old.server).users w L now own (Some y)).refusal;
           }
           → new.starved ≡ true → stopped_of new.server ≡ stopped
-          → StepGoes told seen may_leave faults (config_of old.server).users now own (state_of old.server) (state_of new.server) L records
+          → StepGoes told seen may_leave moment left_since faults (config_of old.server).users now own (state_of old.server) (state_of new.server) L records
           (waits.own_step w.server now e (Some y)) N front
           → HoldsTill told seen may_leave (state_of new.server) t N (records ++ (front ++ []))
-          → ShowsBegun (Err x) [] (came_of (config_of old.server).users w L now own (Some y))
-          → ServedBy told seen may_leave faults old.server new w L records now own (Err x)
-      ill x y t N front stopped same starved stops goes holds shows =
-          let P : Begun → Type 0 = λ z. Steps told seen may_leave faults (config_of old.server).users now own (state_of old.server) (state_of new.server) L
+          → ShowsBegun (Err x) [] (came_of (config_of old.server).users w L now own (Some y)) → FaultIs {T = Option OwnAnswer} faults new.server (Err x)
+          → ServedBy told seen may_leave moment left_since faults old.server new w L records now own (Err x)
+      ill x y t N front stopped same starved stops goes holds shows fault =
+          let P : Begun → Type 0 = λ z. Steps told seen may_leave moment left_since faults (config_of old.server).users now own (state_of old.server) (state_of new.server) L
           records z.made N (front ++ []) in
           let Q : Begun → Type 0 = λ z. HoldsWaiting told seen may_leave new z.waiting N (records ++ (front ++ [])) in
           record {
@@ -382,6 +415,8 @@ module _ {D : Type 0} (told : Type 0) (seen : D → List ℕ) (may_leave : D →
             holds = subst Q (sym same)
                 (record { server = holds; waiters = stay; ids_given = ids ∙ h.ids_given; starved = starved; stopped = stops });
             shows = shows;
+            goes = tt;
+            fault = fault;
           }
 
       none_left : (s : model.Server) (N : Logons) (front : List model.Record) → HoldsTill told seen may_leave (state_of new.server) s N (records ++ front)
@@ -392,60 +427,35 @@ module _ {D : Type 0} (told : Type 0) (seen : D → List ℕ) (may_leave : D →
 
       pub served_ill : new.starved ≡ true → (x : EventError)
           → EventRefused told seen may_leave faults x (state_of old.server) (state_of new.server) w.server L records now e M
-          → ServedBy told seen may_leave faults old.server new w L records now own (Err x)
+          → ServedBy told seen may_leave moment left_since faults old.server new w L records now own (Err x)
       served_ill starved errors.Memory a =
           let P : List model.Record → Type 0 = λ z. HoldsTill told seen may_leave (state_of new.server) w.server L z in
           elim (a.1) [
             | inl i ↦
                 ill errors.Memory (Lacks w.server) w.server L [] w.stopped refl starved (a.0 ∙ sym goes_on)
-                (inl (record {
-                  event = own;
-                  heard = refl;
-                  result = Err errors.Memory;
-                  answers = (a.0, inl i);
-                  answer = refl;
-                  befell = (refl, inl (refl, refl));
-                }))
+                (asked (Err errors.Memory) (Some (Lacks w.server)) L [] (a.0, inl i) (refl, inl (refl, refl)))
                 (none_left w.server L []
-                (subst P (sym (append-nil records)) (till told seen may_leave (state_of new.server) w.server L records i))) refl
+                (subst P (sym (append-nil records)) (till told seen may_leave (state_of new.server) w.server L records i))) refl tt
             | inr i ↦
                 ill errors.Memory (Lacks i.1) i.1 L (alone_records w.server now e i.0) w.stopped refl starved (a.0 ∙ sym goes_on)
-                (inl (record {
-                  event = own;
-                  heard = refl;
-                  result = Err errors.Memory;
-                  answers = (a.0, inr i);
-                  answer = refl;
-                  befell = (refl, inr (i.0, i.1, i.2, refl, refl));
-                }))
+                (asked (Err errors.Memory) (Some (Lacks i.1)) L (alone_records w.server now e i.0) (a.0, inr i)
+                (refl, inr (i.0, i.1, i.2, refl, refl)))
                 (none_left i.1 L (alone_records w.server now e i.0)
-                (till told seen may_leave (state_of new.server) i.1 L (records ++ alone_records w.server now e i.0) i.3)) refl
+                (till told seen may_leave (state_of new.server) i.1 L (records ++ alone_records w.server now e i.0) i.3)) refl tt
           ]
       served_ill starved (errors.DiskFault count) a =
           elim (a.4) [
             | inl i ↦
                 ill (errors.DiskFault count) (Fails (uncounted w.server A.server) count) (uncounted w.server A.server) M [] (Some count) refl starved a.1
-                (inl (record {
-                  event = own;
-                  heard = refl;
-                  result = Err (errors.DiskFault count);
-                  answers = (a.0, a.1, a.2, a.3, inl i);
-                  answer = refl;
-                  befell = (refl, inl (refl, refl));
-                }))
+                (asked (Err (errors.DiskFault count)) (Some (Fails (uncounted w.server A.server) count)) M [] (a.0, a.1, a.2, a.3, inl i)
+                (refl, inl (refl, refl)))
                 (none_left (uncounted w.server A.server) M []
-                (record { shown = i; holds = λ z. absurd (let q : Some count ≡ None = sym a.1 ∙ z in cc) })) refl
+                (record { shown = i; holds = λ z. absurd (let q : Some count ≡ None = sym a.1 ∙ z in cc) })) refl (a.1, a.3)
             | inr i ↦
                 ill (errors.DiskFault count) (Fails (uncounted w.server i.1) count) (uncounted w.server i.1) L [] (Some count) refl starved a.1
-                (inl (record {
-                  event = own;
-                  heard = refl;
-                  result = Err (errors.DiskFault count);
-                  answers = (a.0, a.1, a.2, a.3, inr i);
-                  answer = refl;
-                  befell = (refl, inr (i.0, i.1, i.2, refl, refl));
-                }))
+                (asked (Err (errors.DiskFault count)) (Some (Fails (uncounted w.server i.1) count)) L [] (a.0, a.1, a.2, a.3, inr i)
+                (refl, inr (i.0, i.1, i.2, refl, refl)))
                 (none_left (uncounted w.server i.1) L []
-                (record { shown = i.3; holds = λ z. absurd (let q : Some count ≡ None = sym a.1 ∙ z in cc) })) refl
+                (record { shown = i.3; holds = λ z. absurd (let q : Some count ≡ None = sym a.1 ∙ z in cc) })) refl (a.1, a.3)
           ]
       served_ill starved (errors.Stopped count) a = absurd (let q : Some count ≡ None = sym a.0 ∙ none in cc)

@@ -9,13 +9,13 @@ use Rattle.server_checks.specs.declared.event_heard.event.ServerEvent.{ServerEve
 use Rattle.wait_locks.specs.Stepping.{StepGoes, Steps}
 use Rattle.server_core.specs.declared.journaled_tables.state.ServerState.{ServerState}
 
-module _ {D : Type 0} (told : Type 0) (seen : D → List ℕ) (may_leave : D → List ℕ → Type 0) (faults : D → ℕ) (users : Users) (now : ℕ)
+module _ {D : Type 0} (told : Type 0) (seen : D → List ℕ) (may_leave : D → List ℕ → Type 0) (moment : D → ℕ) (left_since : D → ℕ → List ℕ → Type 0) (faults : D → ℕ) (users : Users) (now : ℕ)
     (own : ServerEvent) where
   abbrev Goes : ServerState D → ServerState D → Logons → List model.Record → MadeStep → Logons → List model.Record → Type 0
-  Goes = StepGoes told seen may_leave faults users now own
+  Goes = StepGoes told seen may_leave moment left_since faults users now own
 
   abbrev All : ServerState D → ServerState D → Logons → List model.Record → List MadeStep → Logons → List model.Record → Type 0
-  All = Steps told seen may_leave faults users now own
+  All = Steps told seen may_leave moment left_since faults users now own
 
   -- one more behind them
   pub one_more : (xs : List MadeStep) (x : MadeStep) (c b d : ServerState D) (L N M : Logons) (records written front : List model.Record)

@@ -38,18 +38,18 @@ one_less s ws es w ls e = let P : FirstFree → Type 0 = λ f. Parted ws f in su
 
 -- ---- one round
 
-abbrev one_by : ℕ → Server → List Waiter → List (Option StepMishap) → ℕ → List Waiter → Waiter → List Waiter → Option StepMishap → Tried
+abbrev pub one_by : ℕ → Server → List Waiter → List (Option StepMishap) → ℕ → List Waiter → Waiter → List Waiter → Option StepMishap → Tried
 one_by now s ws ms rounds es w ls o =
     elim o [
       | None ↦ leaves_answered w (trial s now es w None) (tried now (step s now (Heard w.message)).server (es ++ ls) (later_mishaps ms) rounds)
       | Some x ↦ kept_waiting ws (trial s now es w (Some x)) x
     ]
 
-abbrev round_by : ℕ → Server → List Waiter → List (Option StepMishap) → ℕ → FirstFree → Tried
+abbrev pub round_by : ℕ → Server → List Waiter → List (Option StepMishap) → ℕ → FirstFree → Tried
 round_by now s ws ms rounds f =
     elim f [ AllHeld ↦ at_rest s ws false | Free es w ls ↦ one_by now s ws ms rounds es w ls (next_mishap ms) ]
 
-opened : (now : ℕ) (s : Server) (ws : List Waiter) (ms : List (Option StepMishap)) (rounds : ℕ)
+pub opened : (now : ℕ) (s : Server) (ws : List Waiter) (ms : List (Option StepMishap)) (rounds : ℕ)
     → tried now s ws ms (suc rounds) ≡ round_by now s ws ms rounds (first_free s ws)
 unfolding tried
 opened now s ws ms rounds = refl

@@ -8,3 +8,5 @@ mod Tries
 mod Turns
 mod Named
 mod Begins
+mod Lasting
+mod Leaving

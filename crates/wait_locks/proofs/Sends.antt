@@ -1,7 +1,7 @@
 -- A waiter goes to the server.
-use Rattle.server_core.specs.Shown.{state_of, stopped_of}
+use Rattle.server_core.specs.Shown.{disk_of, state_of, stopped_of}
 use Rattle.std.proofs.Common.{◌≡◌, ℕ, zero, suc, ◌+◌, ◌<◌, List, [], ◌∷◌, ◌++◌, map, length, take, drop, slice_index_or, Option, Some, None}
-use Rattle.std.proofs.Common.{Ok, Err, refl, ap, sym, subst, ◌∙◌, inl, inr, arith}
+use Rattle.std.proofs.Common.{Result, Ok, Err, refl, ap, sym, subst, ◌∙◌, inl, inr, arith}
 use Rattle.std.proofs.lemmas.List.{append-nil}
 use Rattle.std.specs.Prelude.{is_some, option_map, false}
 use Rattle.law_waiting.specs.held.Held.{would_wait}
@@ -12,20 +12,21 @@ use Rattle.spec_exchange.specs.Step.{step}
 use Rattle.spec_crypto.specs.tokens.Tokens.{Users}
 use Rattle.spec_world.specs.Ends.{Logons}
 use Rattle.spec_world.specs.Lacking.{alone_records}
-use Rattle.law_waiting.specs.wait_steps.WaitStep.{Fails, Lacks, later_to}
+use Rattle.spec_wire.specs.journal.Moments.{LeavesOnly}
+use Rattle.law_waiting.specs.wait_steps.WaitStep.{Fails, Lacks, StepMishap, later_to, trial}
 use Rattle.law_waiting.specs.wait_steps.WaitStep as waits
 use Rattle.server_checks.specs.event_heard.Heard.{heard_event, without_token}
 use Rattle.server_checks.specs.declared.event_heard.event.ServerEvent.{ServerEvent}
 use Rattle.server_checks.specs.declared.event_heard.event.ServerEvent.TheVariants as events
 use Rattle.server_checks.specs.declared.setups.error.EventError.{EventError}
 use Rattle.server_checks.specs.declared.setups.error.EventError.TheVariants.{Memory, DiskFault, Stopped}
-use Rattle.server_core.specs.journaled_tables.Holds.{EventRefused, JournaledHolds, StepAnswers, uncounted}
+use Rattle.server_core.specs.journaled_tables.Holds.{EventAnswers, EventLeavesBodies, EventRefused, JournaledGoesOn, JournaledHolds, StepAnswers, uncounted}
 use Rattle.server_core.specs.journaled_tables.Shown.{ServerShown}
 use Rattle.server_effects.specs.declared.answering.Answer.{Answer}
 use Rattle.server_core.specs.declared.journaled_tables.state.ServerState.{ServerState}
 use Rattle.wait_locks.specs.Kept.{kept_message, waiter_of}
 use Rattle.wait_locks.specs.Rounds.{FreeIs, NextIs, RoundIs, SameLists, users_of}
-use Rattle.wait_locks.specs.Stepping.{HoldsTill}
+use Rattle.wait_locks.specs.Stepping.{Befell, HoldsTill, StepGoes}
 use Rattle.wait_locks.specs.Told.{FirstIs, response_of}
 use Rattle.wait_locks.specs.declared.later.Later.{Later}
 use Rattle.wait_locks.specs.declared.trying.Round.{Round}
@@ -77,13 +78,13 @@ module _ {D : Type 0} (told : Type 0) (seen : D → List ℕ) (may_leave : D →
       let P : List model.Record → Type 0 = λ z. HoldsTill told seen may_leave c s L z in
       subst P (sym (append-nil records)) (till c s L records h)
 
-module _ {D : Type 0} (told : Type 0) (seen : D → List ℕ) (may_leave : D → List ℕ → Type 0) (faults : D → ℕ) (now : ℕ) (own : ServerEvent)
+module _ {D : Type 0} (told : Type 0) (seen : D → List ℕ) (may_leave : D → List ℕ → Type 0) (moment : D → ℕ) (left_since : D → ℕ → List ℕ → Type 0) (faults : D → ℕ) (now : ℕ) (own : ServerEvent)
     (old new : WaitServer D) (before after : List Later) (s : model.Server) (L : Logons) (records : List model.Record) (es ls : List waits.Waiter)
     (k : Waiter) where
   -- there was no memory for its copy or its response
   pub not_asked : (stopped_of old.server) ≡ None → JournaledHolds told seen may_leave (state_of old.server) s L records → new.server ≡ old.server
       → SameLists old new before after
-      → RoundIs told seen may_leave faults now own old new before after rounds.Lacks s L records es (waiter_of k) ls
+      → RoundIs told seen may_leave moment left_since faults now own old new before after rounds.Lacks s L records es (waiter_of k) ls
   not_asked none h same lists =
       let P : ServerState D → Type 0 = λ z. HoldsTill told seen may_leave z s L (records ++ []) in (
         ap stopped_of same ∙ none,
@@ -91,7 +92,7 @@ module _ {D : Type 0} (told : Type 0) (seen : D → List ℕ) (may_leave : D →
           s,
           record {
             front = [];
-            goes = inr (record { same = ap state_of same; mishap = refl; logons = refl; none = refl });
+            goes = (h, none, inr (record { same = ap state_of same; mishap = refl; logons = refl; none = refl }));
             holds = subst P (sym (ap state_of same)) (till_none told seen may_leave (state_of old.server) s L records h);
             lists = lists;
           },
@@ -100,32 +101,47 @@ module _ {D : Type 0} (told : Type 0) (seen : D → List ℕ) (may_leave : D →
 
   -- one that the server stopped at an earlier fault never comes
   pub never_stopped : (count : ℕ) → (stopped_of old.server) ≡ Some count → (stopped_of old.server) ≡ None
-      → RoundIs told seen may_leave faults now own old new before after (rounds.Fails count) s L records es (waiter_of k) ls
+      → RoundIs told seen may_leave moment left_since faults now own old new before after (rounds.Fails count) s L records es (waiter_of k) ls
   never_stopped count e none = never_both (stopped_of old.server) count e none
 
-  module _ (m : Message) (is : message_of m ≡ kept_message k) where
+  module _ (m : Message) (is : message_of m ≡ kept_message k) (h : JournaledHolds told seen may_leave (state_of old.server) s L records)
+      (none : stopped_of old.server ≡ None)
+      (leaves : told → (bodies : List (List ℕ)) → JournaledGoesOn seen may_leave (state_of old.server) s records bodies
+      → LeavesOnly moment left_since (disk_of old.server) (disk_of new.server) (EventLeavesBodies s now (heard_event (users_of old) L s (events.Message m)) bodies)) where
     so : heard_event (users_of old) L s (events.Message m) ≡ model.Heard (kept_message k)
     so = heard_so (users_of old) L s m k is
+
+    asked : (o : Option StepMishap) (N : Logons) (front : List model.Record) (r : Result Answer EventError)
+        → EventAnswers told seen may_leave faults (state_of old.server) (state_of new.server) (users_of old) s L records now (events.Message m) r
+        → Befell now r (trial s now es (waiter_of k) o) (heard_event (users_of old) L s (events.Message m)) L L N front
+        → StepGoes told seen may_leave moment left_since faults (users_of old) now own (state_of old.server) (state_of new.server) L records
+        (trial s now es (waiter_of k) o) N front
+    asked o N front r a b = (
+      h,
+      none,
+      inl (record {
+        event = events.Message m;
+        heard = (m, refl, is);
+        result = r;
+        answers = a;
+        answer = ap (step s now) (sym so);
+        befell = b;
+        any_moment = leaves;
+      }),
+    )
 
     pub went : (r : Answer) (l : Later)
         → StepAnswers told seen may_leave (state_of new.server) s L records now (events.Message m) r
         (step s now (heard_event (users_of old) L s (events.Message m)))
         → map waiter_of new.waiters.items ≡ es ++ ls → response_of l ≡ later_to (waiter_of k) (reply_of r.reply) → after ≡ before ++ l ∷ []
-        → RoundIs told seen may_leave faults now own old new before after rounds.Went s L records es (waiter_of k) ls
+        → RoundIs told seen may_leave moment left_since faults now own old new before after rounds.Went s L records es (waiter_of k) ls
     went r l a waiters response added =
         let P : model.ServerEvent → Type 0 = λ z. JournaledHolds told seen may_leave (state_of new.server) (step s now z).server L
         (records ++ (step s now z).records) in (
           a.0,
           record {
             front = (step s now (model.Heard (kept_message k))).records;
-            goes = inl (record {
-              event = events.Message m;
-              heard = (m, refl, is);
-              result = Ok r;
-              answers = a;
-              answer = ap (step s now) (sym so);
-              befell = (refl, refl, refl);
-            });
+            goes = asked None L (step s now (model.Heard (kept_message k))).records (Ok r) a (refl, refl, refl);
             holds = subst P so a.4;
             waiters = waiters;
             finals = told_behind before after l (later_to (waiter_of k) (step s now (model.Heard (kept_message k))).reply) added
@@ -136,40 +152,27 @@ module _ {D : Type 0} (told : Type 0) (seen : D → List ℕ) (may_leave : D →
     pub lacks : EventRefused told seen may_leave faults Memory (state_of old.server) (state_of new.server) s L records now
         (heard_event (users_of old) L s (events.Message m)) L
         → SameLists old new before after
-        → RoundIs told seen may_leave faults now own old new before after rounds.Lacks s L records es (waiter_of k) ls
+        → RoundIs told seen may_leave moment left_since faults now own old new before after rounds.Lacks s L records es (waiter_of k) ls
     lacks a lists = (
       a.0,
       elim (a.1) [
-        | inl h ↦ (
+        | inl i ↦ (
           s,
           record {
             front = [];
-            goes = inl (record {
-              event = events.Message m;
-              heard = (m, refl, is);
-              result = Err Memory;
-              answers = (a.0, inl h);
-              answer = ap (step s now) (sym so);
-              befell = (refl, inl (refl, refl));
-            });
-            holds = till_none told seen may_leave (state_of new.server) s L records h;
+            goes = asked (Some (Lacks s)) L [] (Err Memory) (a.0, inl i) (refl, inl (refl, refl));
+            holds = till_none told seen may_leave (state_of new.server) s L records i;
             lists = lists;
           },
         )
-        | inr h ↦ (
-          h.1,
+        | inr i ↦ (
+          i.1,
           record {
-            front = alone_records s now (heard_event (users_of old) L s (events.Message m)) h.0;
-            goes = inl (record {
-              event = events.Message m;
-              heard = (m, refl, is);
-              result = Err Memory;
-              answers = (a.0, inr h);
-              answer = ap (step s now) (sym so);
-              befell = (refl, inr (h.0, h.1, h.2, refl, refl));
-            });
-            holds = till told seen may_leave (state_of new.server) h.1 L
-                (records ++ alone_records s now (heard_event (users_of old) L s (events.Message m)) h.0) h.3;
+            front = alone_records s now (heard_event (users_of old) L s (events.Message m)) i.0;
+            goes = asked (Some (Lacks i.1)) L (alone_records s now (heard_event (users_of old) L s (events.Message m)) i.0) (Err Memory)
+                (a.0, inr i) (refl, inr (i.0, i.1, i.2, refl, refl));
+            holds = till told seen may_leave (state_of new.server) i.1 L
+                (records ++ alone_records s now (heard_event (users_of old) L s (events.Message m)) i.0) i.3;
             lists = lists;
           },
         )
@@ -179,51 +182,40 @@ module _ {D : Type 0} (told : Type 0) (seen : D → List ℕ) (may_leave : D →
     pub fails : (count : ℕ) → EventRefused told seen may_leave faults (DiskFault count) (state_of old.server) (state_of new.server) s L records now
         (heard_event (users_of old) L s (events.Message m)) L
         → SameLists old new before after
-        → RoundIs told seen may_leave faults now own old new before after (rounds.Fails count) s L records es (waiter_of k) ls
+        → RoundIs told seen may_leave moment left_since faults now own old new before after (rounds.Fails count) s L records es (waiter_of k) ls
     fails count a lists = (
       a.1,
       elim (a.4) [
-        | inl h ↦
+        | inl i ↦
             (let P : model.ServerEvent → Type 0 = λ z. ServerShown (state_of new.server).tables (uncounted s (step s now z).server) L in (
               uncounted s (step s now (model.Heard (kept_message k))).server,
               record {
                 front = [];
-                goes = inl (record {
-                  event = events.Message m;
-                  heard = (m, refl, is);
-                  result = Err (DiskFault count);
-                  answers = (a.0, a.1, a.2, a.3, inl h);
-                  answer = ap (step s now) (sym so);
-                  befell = (refl, inl (refl, refl));
-                });
-                holds = record { shown = subst P so h; holds = λ e. never_both (stopped_of new.server) count a.1 e };
+                goes = asked (Some (Fails (uncounted s (step s now (model.Heard (kept_message k))).server) count)) L [] (Err (DiskFault count))
+                    (a.0, a.1, a.2, a.3, inl i) (refl, inl (refl, refl));
+                holds = record { shown = subst P so i; holds = λ e. never_both (stopped_of new.server) count a.1 e };
                 lists = lists;
               },
             ))
-        | inr h ↦ (
-          uncounted s h.1,
+        | inr i ↦ (
+          uncounted s i.1,
           record {
             front = [];
-            goes = inl (record {
-              event = events.Message m;
-              heard = (m, refl, is);
-              result = Err (DiskFault count);
-              answers = (a.0, a.1, a.2, a.3, inr h);
-              answer = ap (step s now) (sym so);
-              befell = (refl, inr (h.0, h.1, h.2, refl, refl));
-            });
-            holds = record { shown = h.3; holds = λ e. never_both (stopped_of new.server) count a.1 e };
+            goes = asked (Some (Fails (uncounted s i.1) count)) L [] (Err (DiskFault count)) (a.0, a.1, a.2, a.3, inr i)
+                (refl, inr (i.0, i.1, i.2, refl, refl));
+            holds = record { shown = i.3; holds = λ e. never_both (stopped_of new.server) count a.1 e };
             lists = lists;
           },
         )
       ],
+      a.3,
     )
 
     pub lacks_as : (x : EventError) → x ≡ Memory
         → EventRefused told seen may_leave faults x (state_of old.server) (state_of new.server) s L records now
         (heard_event (users_of old) L s (events.Message m)) L
         → SameLists old new before after
-        → RoundIs told seen may_leave faults now own old new before after rounds.Lacks s L records es (waiter_of k) ls
+        → RoundIs told seen may_leave moment left_since faults now own old new before after rounds.Lacks s L records es (waiter_of k) ls
     lacks_as x e a lists =
         let P : EventError → Type 0 = λ z. EventRefused told seen may_leave faults z (state_of old.server) (state_of new.server) s L records now
         (heard_event (users_of old) L s (events.Message m)) L in lacks (subst P e a) lists
@@ -232,7 +224,7 @@ module _ {D : Type 0} (told : Type 0) (seen : D → List ℕ) (may_leave : D →
         → EventRefused told seen may_leave faults x (state_of old.server) (state_of new.server) s L records now
         (heard_event (users_of old) L s (events.Message m)) L
         → SameLists old new before after
-        → RoundIs told seen may_leave faults now own old new before after (rounds.Fails count) s L records es (waiter_of k) ls
+        → RoundIs told seen may_leave moment left_since faults now own old new before after (rounds.Fails count) s L records es (waiter_of k) ls
     fails_as x count e a lists =
         let P : EventError → Type 0 = λ z. EventRefused told seen may_leave faults z (state_of old.server) (state_of new.server) s L records now
         (heard_event (users_of old) L s (events.Message m)) L in fails count (subst P e a) lists
@@ -241,7 +233,7 @@ module _ {D : Type 0} (told : Type 0) (seen : D → List ℕ) (may_leave : D →
         → EventRefused told seen may_leave faults x (state_of old.server) (state_of new.server) s L records now
         (heard_event (users_of old) L s (events.Message m)) L
         → (stopped_of old.server) ≡ None
-        → RoundIs told seen may_leave faults now own old new before after (rounds.Fails count) s L records es (waiter_of k) ls
+        → RoundIs told seen may_leave moment left_since faults now own old new before after (rounds.Fails count) s L records es (waiter_of k) ls
     never_as x count e a none =
         let P : EventError → Type 0 = λ z. EventRefused told seen may_leave faults z (state_of old.server) (state_of new.server) s L records now
         (heard_event (users_of old) L s (events.Message m)) L in never_stopped count (subst P e a).0 none
@@ -264,19 +256,19 @@ there [] i l = absurd (omega arith)
 there (x ∷ xs) zero l = x
 there (x ∷ xs) (suc i) l = there xs i (omega arith)
 
-module _ {D : Type 0} (told : Type 0) (seen : D → List ℕ) (may_leave : D → List ℕ → Type 0) (faults : D → ℕ) (now : ℕ) (own : ServerEvent)
+module _ {D : Type 0} (told : Type 0) (seen : D → List ℕ) (may_leave : D → List ℕ → Type 0) (moment : D → ℕ) (left_since : D → ℕ → List ℕ → Type 0) (faults : D → ℕ) (now : ℕ) (own : ServerEvent)
     (old new : WaitServer D) (before after : List Later) (s : model.Server) (L : Logons) (records : List model.Record) where
-  free_next : (r : Round) → FreeIs told seen may_leave faults now own old new before after r s L records
-      → NextIs told seen may_leave faults now own old new before after r s L records
+  free_next : (r : Round) → FreeIs told seen may_leave moment left_since faults now own old new before after r s L records
+      → NextIs told seen may_leave moment left_since faults now own old new before after r s L records
   free_next rounds.AllHeld h = absurd h.4
   free_next rounds.Went h = h
   free_next rounds.Lacks h = h
   free_next (rounds.Fails count) h = h
 
   pub next_is : (r : Round) (ws : List Waiter) (place : ℕ) → ws ≡ old.waiters.items → FirstIs s ws (Some place)
-      → ((d : Waiter) → RoundIs told seen may_leave faults now own old new before after r s L records (map waiter_of (take place old.waiters.items))
+      → ((d : Waiter) → RoundIs told seen may_leave moment left_since faults now own old new before after r s L records (map waiter_of (take place old.waiters.items))
       (waiter_of (slice_index_or old.waiters.items place d)) (map waiter_of (drop (place + 1) old.waiters.items)))
-      → NextIs told seen may_leave faults now own old new before after r s L records
+      → NextIs told seen may_leave moment left_since faults now own old new before after r s L records
   next_is r ws place e f h =
       let P : List Waiter → Type 0 = λ l. FirstIs s l (Some place) in let g : FirstIs s old.waiters.items (Some place) = subst P e f in
       let d : Waiter = there old.waiters.items place g.0 in
@@ -289,5 +281,5 @@ module _ {D : Type 0} (told : Type 0) (seen : D → List ℕ) (may_leave : D →
       )
 
   pub all_rest : (ws : List Waiter) → ws ≡ old.waiters.items → FirstIs s ws None → new ≡ old → after ≡ before
-      → NextIs told seen may_leave faults now own old new before after rounds.AllHeld s L records
+      → NextIs told seen may_leave moment left_since faults now own old new before after rounds.AllHeld s L records
   all_rest ws e f n a = let P : List Waiter → Type 0 = λ l. FirstIs s l None in (subst P e f, n, a)

@@ -25,7 +25,7 @@ use Rattle.wait_locks.proofs.Chains.{one_more}
 use Rattle.wait_locks.proofs.Going as going
 use Rattle.wait_locks.proofs.Sends.{till}
 
-module _ {D : Type 0} (told : Type 0) (seen : D → List ℕ) (may_leave : D → List ℕ → Type 0) (faults : D → ℕ) (now : ℕ) (own : ServerEvent)
+module _ {D : Type 0} (told : Type 0) (seen : D → List ℕ) (may_leave : D → List ℕ → Type 0) (moment : D → ℕ) (left_since : D → ℕ → List ℕ → Type 0) (faults : D → ℕ) (now : ℕ) (own : ServerEvent)
     (first : WaitServer D) (before : List Later) (s : model.Server) (L : Logons) (records : List model.Record) where
   -- so far each that was tried went
   pub record TriedSo (c : WaitServer D) (after : List Later) : Type 0 where
@@ -35,7 +35,7 @@ module _ {D : Type 0} (told : Type 0) (seen : D → List ℕ) (may_leave : D →
     pub written : List model.Record
     pub going : (stopped_of c.server) ≡ None
     pub so_far : SoFar now s (map waiter_of first.waiters.items) state (map waiter_of c.waiters.items) finals made
-    pub steps : Steps told seen may_leave faults (users_of first) now own (state_of first.server) (state_of c.server) L records made L written
+    pub steps : Steps told seen may_leave moment left_since faults (users_of first) now own (state_of first.server) (state_of c.server) L records made L written
     pub holds : JournaledHolds told seen may_leave (state_of c.server) state L (records ++ written)
     pub told_are : map response_of after ≡ map response_of before ++ finals
 
@@ -62,15 +62,15 @@ module _ {D : Type 0} (told : Type 0) (seen : D → List ℕ) (may_leave : D →
     ws = map waiter_of c.waiters.items
 
     step_on : (x : MadeStep) (front : List model.Record)
-        → StepGoes told seen may_leave faults (users_of c) now own (state_of c.server) (state_of d.server) L (records ++ so.written) x L front
-        → Steps told seen may_leave faults (users_of first) now own (state_of first.server) (state_of d.server) L records (so.made ++ x ∷ []) L
+        → StepGoes told seen may_leave moment left_since faults (users_of c) now own (state_of c.server) (state_of d.server) L (records ++ so.written) x L front
+        → Steps told seen may_leave moment left_since faults (users_of first) now own (state_of first.server) (state_of d.server) L records (so.made ++ x ∷ []) L
         (so.written ++ front)
     step_on x front g =
-        let P : Users → Type 0 = λ u. StepGoes told seen may_leave faults u now own (state_of c.server) (state_of d.server) L (records ++ so.written) x L front in
-        one_more told seen may_leave faults (users_of first) now own so.made x (state_of first.server) (state_of c.server) (state_of d.server) L L L records so.written
+        let P : Users → Type 0 = λ u. StepGoes told seen may_leave moment left_since faults u now own (state_of c.server) (state_of d.server) L (records ++ so.written) x L front in
+        one_more told seen may_leave moment left_since faults (users_of first) now own so.made x (state_of first.server) (state_of c.server) (state_of d.server) L L L records so.written
         front so.steps (subst P config g)
 
-    pub goes_on : NextIs told seen may_leave faults now own c d after behind rounds.Went so.state L (records ++ so.written) → TriedSo d behind
+    pub goes_on : NextIs told seen may_leave moment left_since faults now own c d after behind rounds.Went so.state L (records ++ so.written) → TriedSo d behind
     goes_on h =
         let w = h.1 in let r = h.4.1 in
         let t : model.Server = (step so.state now (model.Heard w.message)).server in
@@ -93,13 +93,13 @@ module _ {D : Type 0} (told : Type 0) (seen : D → List ℕ) (may_leave : D →
 
     -- nobody else goes
     rests_here : {T : Type 0} (u : T) → first_free so.state ws ≡ AllHeld
-        → AllTried told seen may_leave faults now own first (record c { starved = false }) before after (Ok u) s L records
+        → AllTried told seen may_leave moment left_since faults now own first (record c { starved = false }) before after (Ok u) s L records
     rests_here u free =
         let ms : List (Option StepMishap) = nones (length so.made) ++ [] in
         let T : Tried = in_front so.finals so.made (at_rest so.state ws false) in
         let e : whole ms ≡ T = going.ends now s (map waiter_of first.waiters.items) so.state ws so.finals so.made so.so_far free in
-        let P : Tried → Type 0 = λ z. TriedBy told seen may_leave faults now own first (record c { starved = false }) before after L records z in
-        let Q : List MadeStep → Type 0 = λ z. Steps told seen may_leave faults (users_of first) now own (state_of first.server) (state_of c.server) L records z L
+        let P : Tried → Type 0 = λ z. TriedBy told seen may_leave moment left_since faults now own first (record c { starved = false }) before after L records z in
+        let Q : List MadeStep → Type 0 = λ z. Steps told seen may_leave moment left_since faults (users_of first) now own (state_of first.server) (state_of c.server) L records z L
         so.written in
         let t : P T = record {
           written = so.written;
@@ -109,15 +109,15 @@ module _ {D : Type 0} (told : Type 0) (seen : D → List ℕ) (may_leave : D →
           starved = refl;
           stopped = so.going;
           finals = λ n. so.told_are ∙ ap (λ z. map response_of before ++ z) (sym (append-nil so.finals));
-        } in (ms, subst P (sym e) t, ap (λ (z : Tried). z.failed) e)
+        } in (ms, subst P (sym e) t, tt, ap (λ (z : Tried). z.failed) e)
 
     pub rests : {T : Type 0} (u : T)
-        → NextIs told seen may_leave faults now own c d after behind rounds.AllHeld so.state L (records ++ so.written)
-        → AllTried told seen may_leave faults now own first (record d { starved = false }) before behind (Ok u) s L records
+        → NextIs told seen may_leave moment left_since faults now own c d after behind rounds.AllHeld so.state L (records ++ so.written)
+        → AllTried told seen may_leave moment left_since faults now own first (record d { starved = false }) before behind (Ok u) s L records
     rests {T} u h =
-        let P : WaitServer D → Type 0 = λ z. AllTried {T = T} told seen may_leave faults now own first (record z { starved = false }) before after (Ok u) s L
+        let P : WaitServer D → Type 0 = λ z. AllTried {T = T} told seen may_leave moment left_since faults now own first (record z { starved = false }) before after (Ok u) s L
         records in
-        let Q : List Later → Type 0 = λ z. AllTried {T = T} told seen may_leave faults now own first (record d { starved = false }) before z (Ok u) s L
+        let Q : List Later → Type 0 = λ z. AllTried {T = T} told seen may_leave moment left_since faults now own first (record d { starved = false }) before z (Ok u) s L
         records in
         subst Q (sym h.2) (subst P (sym h.1) (rests_here u h.0))
 
@@ -126,9 +126,9 @@ module _ {D : Type 0} (told : Type 0) (seen : D → List ℕ) (may_leave : D →
       met : (x : StepMishap) (t : model.Server) (failed : Option ℕ)
           → kept_waiting ws (trial so.state now es w (Some x)) x
           ≡ record { server = t; waiters = ws; starved = true; failed = failed; finals = []; made = trial so.state now es w (Some x) ∷ [] }
-          → (stopped_of d.server) ≡ failed → RoundMet told seen may_leave faults now own c d after behind so.state L (records ++ so.written) es w x t
+          → (stopped_of d.server) ≡ failed → RoundMet told seen may_leave moment left_since faults now own c d after behind so.state L (records ++ so.written) es w x t
           → (mishaps : List (Option StepMishap))
-          × TriedBy told seen may_leave faults now own first (record d { starved = true }) before behind L records (whole mishaps)
+          × TriedBy told seen may_leave moment left_since faults now own first (record d { starved = true }) before behind L records (whole mishaps)
           × ((whole mishaps).failed ≡ failed)
       met x t failed kept stopped r =
           let ms : List (Option StepMishap) = nones (length so.made) ++ Some x ∷ [] in
@@ -137,7 +137,7 @@ module _ {D : Type 0} (told : Type 0) (seen : D → List ℕ) (may_leave : D →
           let T : Tried = in_front so.finals so.made K in
           let e : whole ms ≡ T = going.breaks now s (map waiter_of first.waiters.items) so.state ws so.finals so.made so.so_far es w ls x free
           ∙ ap (in_front so.finals so.made) kept in
-          let P : Tried → Type 0 = λ z. TriedBy told seen may_leave faults now own first (record d { starved = true }) before behind L records z in
+          let P : Tried → Type 0 = λ z. TriedBy told seen may_leave moment left_since faults now own first (record d { starved = true }) before behind L records z in
           let Q : List model.Record → Type 0 = λ z. HoldsTill told seen may_leave (state_of d.server) t L z in
           let b : P T = record {
             written = so.written ++ r.front;
@@ -151,11 +151,11 @@ module _ {D : Type 0} (told : Type 0) (seen : D → List ℕ) (may_leave : D →
           } in (ms, subst P (sym e) b, ap (λ (z : Tried). z.failed) e)
 
     pub lacks : {T : Type 0} (u : T)
-        → NextIs told seen may_leave faults now own c d after behind rounds.Lacks so.state L (records ++ so.written)
-        → AllTried told seen may_leave faults now own first (record d { starved = true }) before behind (Ok u) s L records
-    lacks u h = met h.0 h.1 h.2 h.3 (Lacks h.4.1.0) h.4.1.0 None refl h.4.0 h.4.1.1
+        → NextIs told seen may_leave moment left_since faults now own c d after behind rounds.Lacks so.state L (records ++ so.written)
+        → AllTried told seen may_leave moment left_since faults now own first (record d { starved = true }) before behind (Ok u) s L records
+    lacks u h = let m = met h.0 h.1 h.2 h.3 (Lacks h.4.1.0) h.4.1.0 None refl h.4.0 h.4.1.1 in (m.0, m.1, tt, m.2)
 
     pub fails : (T : Type 0) (count : ℕ)
-        → NextIs told seen may_leave faults now own c d after behind (rounds.Fails count) so.state L (records ++ so.written)
-        → AllTried {T = T} told seen may_leave faults now own first (record d { starved = true }) before behind (Err (DiskFault count)) s L records
-    fails T count h = met h.0 h.1 h.2 h.3 (Fails h.4.1.0 count) h.4.1.0 (Some count) refl h.4.0 h.4.1.1
+        → NextIs told seen may_leave moment left_since faults now own c d after behind (rounds.Fails count) so.state L (records ++ so.written)
+        → AllTried {T = T} told seen may_leave moment left_since faults now own first (record d { starved = true }) before behind (Err (DiskFault count)) s L records
+    fails T count h = let m = met h.0 h.1 h.2 h.3 (Fails h.4.1.0 count) h.4.1.0 (Some count) refl h.4.0 h.4.1.1 in (m.0, m.1, (h.4.0, h.4.2), m.2)

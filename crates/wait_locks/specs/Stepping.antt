@@ -2,6 +2,8 @@
 use Rattle.std.specs.Prelude.{◌≡◌, ◌⊎◌, ℕ, List, [], ◌∷◌, ◌++◌, Option, Some, None, Result, Ok, Err}
 use Rattle.spec_exchange.specs.State as model
 use Rattle.spec_exchange.specs.Step.{step}
+use Rattle.spec_journal.specs.Forms.{StandsFor}
+use Rattle.spec_wire.specs.journal.Moments.{LeavesOnly}
 use Rattle.spec_crypto.specs.tokens.Tokens.{Users}
 use Rattle.spec_world.specs.Ends.{Logons}
 use Rattle.spec_world.specs.Lacking.{alone_records, Expires}
@@ -14,7 +16,9 @@ use Rattle.server_checks.specs.declared.setups.error.EventError.TheVariants.{Mem
 use Rattle.server_checks.specs.declared.event_heard.event.ServerEvent.{ServerEvent}
 use Rattle.server_checks.specs.declared.event_heard.event.ServerEvent.TheVariants as events
 use Rattle.server_core.specs.journaled_tables.Beside.{logons_behind}
-use Rattle.server_core.specs.journaled_tables.Holds.{EventAnswers, JournaledHolds, uncounted}
+use Rattle.server_core.specs.Reading.{BodiesSpell}
+use Rattle.server_core.specs.crash.Left.{IsRecorded}
+use Rattle.server_core.specs.journaled_tables.Holds.{EventAnswers, EventLeavesBodies, JournaledGoesOn, JournaledHolds, uncounted}
 use Rattle.server_core.specs.journaled_tables.Shown.{ServerShown}
 use Rattle.server_effects.specs.declared.answering.Answer.{Answer}
 use Rattle.server_core.specs.declared.journaled_tables.state.ServerState.{ServerState}
@@ -44,9 +48,9 @@ Befell now (Err Memory) x e L M N front = (N ≡ L) × LacksBy now x e front
 Befell now (Err (DiskFault count)) x e L M N front = (front ≡ []) × FailsBy now x e count L M N
 Befell now (Err (Stopped count)) x e L M N front = ⊥
 
-module _ {D : Type 0} (told : Type 0) (seen : D → List ℕ) (may_leave : D → List ℕ → Type 0) (faults : D → ℕ) (users : Users) (now : ℕ)
+module _ {D : Type 0} (told : Type 0) (seen : D → List ℕ) (may_leave : D → List ℕ → Type 0) (moment : D → ℕ) (left_since : D → ℕ → List ℕ → Type 0) (faults : D → ℕ) (users : Users) (now : ℕ)
     (own : ServerEvent) where
-  -- the server was asked
+  -- the server was asked; where its disk tells its bytes, so is what a crash left of it
   pub record StepAsked (c d : ServerState D) (L : Logons) (records : List model.Record) (x : MadeStep) (N : Logons) (front : List model.Record)
       : Type 0 where
     pub event : ServerEvent
@@ -56,6 +60,9 @@ module _ {D : Type 0} (told : Type 0) (seen : D → List ℕ) (may_leave : D →
     pub answer : x.answer ≡ step x.server now (heard_event users L x.server event)
     pub befell : Befell now result x (heard_event users L x.server event) L
         (logons_behind users L event now (progress_of (heard_event users L x.server event) x.answer.reply)) N front
+    pub any_moment : told → (bodies : List (List ℕ)) → JournaledGoesOn seen may_leave c x.server records bodies
+        → LeavesOnly moment left_since c.journal.disk d.journal.disk
+        (EventLeavesBodies x.server now (heard_event users L x.server event) bodies)
 
   -- or there was no memory to ask it
   pub record NotAsked (c d : ServerState D) (L : Logons) (x : MadeStep) (N : Logons) (front : List model.Record) : Type 0 where
@@ -64,8 +71,10 @@ module _ {D : Type 0} (told : Type 0) (seen : D → List ℕ) (may_leave : D →
     pub logons : N ≡ L
     pub none : front ≡ []
 
+  -- of a server that held the step's state, and went on
   abbrev pub StepGoes : ServerState D → ServerState D → Logons → List model.Record → MadeStep → Logons → List model.Record → Type 0
-  StepGoes c d L records x N front = StepAsked c d L records x N front ⊎ NotAsked c d L x N front
+  StepGoes c d L records x N front = JournaledHolds told seen may_leave c x.server L records × (c.stopped ≡ None)
+      × (StepAsked c d L records x N front ⊎ NotAsked c d L x N front)
 
   -- one step after the other, with the records of all
   abbrev pub Steps : ServerState D → ServerState D → Logons → List model.Record → List MadeStep → Logons → List model.Record → Type 0
@@ -73,6 +82,21 @@ module _ {D : Type 0} (told : Type 0) (seen : D → List ℕ) (may_leave : D →
   Steps c d L records (x ∷ xs) M written =
       (b : ServerState D) × (N : Logons) × (front : List model.Record) × (rest : List model.Record)
       × StepGoes c b L records x N front × Steps b d N (records ++ front) xs M rest × (written ≡ front ++ rest)
+
+-- ---- a crash at any moment of such steps
+
+module _ (users : Users) (now : ℕ) (own : ServerEvent) where
+  -- Bodies that spell the records so far stand for the step's state, and the bytes for them, or for what a crash within its event leaves.
+  pub record StepLeaves (L : Logons) (records : List model.Record) (x : MadeStep) (bytes : List ℕ) : Type 0 where
+    pub bodies : List (List ℕ)
+    pub recorded : IsRecorded x.server records bodies
+    pub stands : StandsFor bytes bodies
+        ⊎ ((event : ServerEvent) × IsHeardAs own x.waiter event × EventLeavesBodies x.server now (heard_event users L x.server event) bodies bytes)
+
+  -- So it is at one of the steps, behind those before it, or the bytes stand for the records of all. No waiter's step moves logons.
+  abbrev pub StepsLeave : Logons → List model.Record → List MadeStep → List ℕ → Type 0
+  StepsLeave L records [] bytes = (bodies : List (List ℕ)) × BodiesSpell bodies records × StandsFor bytes bodies
+  StepsLeave L records (x ∷ xs) bytes = StepLeaves L records x bytes ⊎ ((N : Logons) × StepsLeave N (records ++ x.answer.records) xs bytes)
 
 -- it shows a state, and holds it with its records as long as no call of its disk failed
 pub record HoldsTill {D : Type 0} (told : Type 0) (seen : D → List ℕ) (may_leave : D → List ℕ → Type 0) (c : ServerState D) (s : model.Server)

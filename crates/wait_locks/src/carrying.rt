@@ -7,7 +7,7 @@ ghost use Rattle.spec_exchange.specs.State as model;
 ghost use Rattle.spec_world.specs.Ends.{Logons};
 
 use crate::held::would_begin;
-use crate::later::{Later, cancelled_to, pending_to, turned_away};
+use crate::later::{Later, OwnAnswer, cancelled_to, pending_to, turned_away};
 use crate::wait_server::{CancelTarget, WaitEvent, WaitServer};
 use crate::waiter::Waiter;
 use crate::waiters::{drop_by, named, sent_before};
@@ -70,13 +70,13 @@ impl<D: Disk> WaitServer<D> {
         at_once: bool,
         event: WaitEvent<'_>,
         finals: &mut Vec<Later>,
-    ) -> Result<Option<Later>, EventError>
+    ) -> Result<Option<OwnAnswer>, EventError>
         requires { (finals.old.items ≡ []) × (vec_len finals.old < vec_capacity finals.old)
             × (vec_len self.old.waiters < vec_capacity self.old.waiters) }
         ensures step { (w : WaitState) (L : Logons) (records : List model.Record)
             → HoldsWaiting D.told D.seen D.may_leave self.old w L records
             → stopped_of self.old.server ≡ None
-            → BegunBy D.told D.seen D.may_leave D.faults self.old.server self.new finals.new.items w L records now at_once (own_event event.entry)
+            → BegunBy D.told D.seen D.may_leave D.moment D.left_since D.faults self.old.server self.new finals.new.items w L records now at_once (own_event event.entry)
             (wait_event (config_of self.old.server).users L w.server event.entry) result }
         ensures config { config_of self.new.server ≡ config_of self.old.server }
     {
@@ -112,13 +112,13 @@ impl<D: Disk> WaitServer<D> {
         at_once: bool,
         event: ServerEvent<'_>,
         finals: &mut Vec<Later>,
-    ) -> Result<Option<Later>, EventError>
+    ) -> Result<Option<OwnAnswer>, EventError>
         requires { (finals.old.items ≡ []) × (vec_len finals.old < vec_capacity finals.old)
             × (vec_len self.old.waiters < vec_capacity self.old.waiters) }
         ensures step { (w : WaitState) (L : Logons) (records : List model.Record)
             → HoldsWaiting D.told D.seen D.may_leave self.old w L records
             → stopped_of self.old.server ≡ None
-            → BegunBy D.told D.seen D.may_leave D.faults self.old.server self.new finals.new.items w L records now at_once event.entry
+            → BegunBy D.told D.seen D.may_leave D.moment D.left_since D.faults self.old.server self.new finals.new.items w L records now at_once event.entry
             (Serves (heard_event (config_of self.old.server).users L w.server event.entry)) result }
         ensures config { config_of self.new.server ≡ config_of self.old.server }
     {
@@ -135,13 +135,13 @@ impl<D: Disk> WaitServer<D> {
         at_once: bool,
         message: Message<'_>,
         finals: &mut Vec<Later>,
-    ) -> Result<Option<Later>, EventError>
+    ) -> Result<Option<OwnAnswer>, EventError>
         requires { (finals.old.items ≡ []) × (vec_len finals.old < vec_capacity finals.old)
             × (vec_len self.old.waiters < vec_capacity self.old.waiters) }
         ensures step { (w : WaitState) (L : Logons) (records : List model.Record)
             → HoldsWaiting D.told D.seen D.may_leave self.old w L records
             → stopped_of self.old.server ≡ None
-            → BegunBy D.told D.seen D.may_leave D.faults self.old.server self.new finals.new.items w L records now at_once
+            → BegunBy D.told D.seen D.may_leave D.moment D.left_since D.faults self.old.server self.new finals.new.items w L records now at_once
             (events.Message message.entry)
             (Serves (heard_event (config_of self.old.server).users L w.server (events.Message message.entry))) result }
         ensures config { config_of self.new.server ≡ config_of self.old.server }
@@ -156,14 +156,14 @@ impl<D: Disk> WaitServer<D> {
     }
 
     // It becomes the last waiter, or takes the place of the one that it repeats; where there is no place, it is turned away.
-    fn let_in(&mut self, waiter: &Waiter, finals: &mut Vec<Later>) -> Later
+    fn let_in(&mut self, waiter: &Waiter, finals: &mut Vec<Later>) -> OwnAnswer
         requires { (vec_len finals.old < vec_capacity finals.old) × (vec_len self.old.waiters < vec_capacity self.old.waiters) }
         ensures lists { (w : WaitState) → map waiter_of self.old.waiters.items ≡ w.waiters → self.old.ids_given ≡ w.ids_given
             → LetInIs (let_in w (kept_message waiter.now) []) self.new finals.old.items finals.new.items result }
         ensures rest { self.new ≡ record self.old { waiters = self.new.waiters; ids_given = self.new.ids_given } }
     {
         if self.ids_given >= u64::MAX {
-            return turned_away(waiter);
+            return turned_away(self.alloc, waiter);
         }
         match sent_before(self.waiters.as_slice(), waiter) {
             Some(place) => self.replace(place, waiter, finals),
@@ -172,7 +172,7 @@ impl<D: Disk> WaitServer<D> {
     }
 
     // It comes behind all, where there is a place.
-    fn take_behind(&mut self, waiter: &Waiter) -> Later
+    fn take_behind(&mut self, waiter: &Waiter) -> OwnAnswer
         requires { (vec_len self.old.waiters < vec_capacity self.old.waiters) × (self.old.ids_given < 0xffff_ffff_ffff_ffff) }
         ensures lists { (w : WaitState) (before : List Later) → map waiter_of self.old.waiters.items ≡ w.waiters
             → self.old.ids_given ≡ w.ids_given
@@ -180,16 +180,16 @@ impl<D: Disk> WaitServer<D> {
         ensures rest { self.new ≡ record self.old { waiters = self.new.waiters; ids_given = self.new.ids_given } }
     {
         if self.waiters.len() >= 1024 {
-            return turned_away(waiter);
+            return turned_away(self.alloc, waiter);
         }
         self.ids_given += 1;
         let new = waiter.with_id(self.ids_given);
         self.waiters.push_reserved(new);
-        pending_to(&new)
+        pending_to(self.alloc, &new)
     }
 
     // It takes the place of the one that it repeats, which is cancelled.
-    fn replace(&mut self, place: usize, waiter: &Waiter, finals: &mut Vec<Later>) -> Later
+    fn replace(&mut self, place: usize, waiter: &Waiter, finals: &mut Vec<Later>) -> OwnAnswer
         requires { (vec_len finals.old < vec_capacity finals.old) × (place < length self.old.waiters.items)
             × (self.old.ids_given < 0xffff_ffff_ffff_ffff) }
         ensures lists { (w : WaitState) (d : Waiter) → map waiter_of self.old.waiters.items ≡ w.waiters → self.old.ids_given ≡ w.ids_given
@@ -203,25 +203,29 @@ impl<D: Disk> WaitServer<D> {
         let old = self.waiters[place];
         self.waiters[place] = new;
         finals.push_reserved(cancelled_to(&old));
-        pending_to(&new)
+        pending_to(self.alloc, &new)
     }
 
     // The server's own step; an end drops waiters before it.
-    fn to_server(&mut self, now: u64, event: ServerEvent<'_>) -> Result<Option<Later>, EventError>
+    fn to_server(
+        &mut self,
+        now: u64,
+        event: ServerEvent<'_>,
+    ) -> Result<Option<OwnAnswer>, EventError>
         ensures step { (w : WaitState) (L : Logons) (records : List model.Record)
             → HoldsWaiting D.told D.seen D.may_leave self.old w L records
             → stopped_of self.old.server ≡ None
-            → ServedBy D.told D.seen D.may_leave D.faults self.old.server self.new w L records now event.entry result }
+            → ServedBy D.told D.seen D.may_leave D.moment D.left_since D.faults self.old.server self.new w L records now event.entry result }
         ensures config { config_of self.new.server ≡ config_of self.old.server }
     {
         drop_by(&mut self.waiters, &event);
         let asker = asker_of(&event);
         match self.server.event(now, event) {
-            Ok(answer) => Ok(Some(Later {
+            Ok(answer) => Ok(Some(OwnAnswer {
                 connection: asker.connection,
                 message: asker.message,
                 async_id: 0,
-                reply: answer.reply,
+                answer,
             })),
             Err(error) => {
                 self.starved = true;

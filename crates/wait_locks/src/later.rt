@@ -3,13 +3,17 @@ ghost use Rattle.std.specs.Prelude.{◌≡◌};
 ghost use Rattle.law_waiting.specs.wait_steps.WaitStep as tells;
 ghost use Rattle.law_waiting.specs.wait_steps.WaitStep.{cancelled_to, later_to, pending_to};
 ghost use Rattle.wait_locks.specs.Kept.{kept_message, waiter_of};
-ghost use Rattle.wait_locks.specs.Told.{response_of};
+ghost use Rattle.wait_locks.specs.Begun.{IsOfNoStep};
+ghost use Rattle.wait_locks.specs.Told.{own_response, response_of};
 ghost use Rattle.wire_commands.specs.values.Meaning.{reply_of};
 
 use crate::waiter::Waiter;
+use server_effects::Answer;
+use std::alloc::Global;
+use wire_bytes::Bytes;
 use wire_commands::{Body, Reply};
 
-/// A response to a message, at once or later. The AsyncId is 0 where the message didn't wait.
+/// A final response to a LOCK that waited.
 #[derive(Drop, Debug)]
 pub struct Later {
     pub connection: u32,
@@ -18,10 +22,21 @@ pub struct Later {
     pub reply: Reply,
 }
 
-/// The event's own response, which a CANCEL hasn't, and the final ones to waiters in order.
+/// The answer to an event itself. Of an event that is no message the MessageId is 0.
+#[derive(Drop, Debug)]
+pub struct OwnAnswer {
+    pub connection: u32,
+    pub message: u64,
+    /// Of a LOCK that waits; else 0.
+    pub async_id: u64,
+    /// The reply, and a logon's token, keys and channel.
+    pub answer: Answer,
+}
+
+/// The event's own answer, which a CANCEL hasn't, and the final responses to waiters in order.
 #[derive(Drop, Debug)]
 pub struct LaterList {
-    pub own: Option<Later>,
+    pub own: Option<OwnAnswer>,
     pub finals: Vec<Later>,
 }
 
@@ -45,21 +60,42 @@ pub fn cancelled_to(waiter: &Waiter) -> Later
 }
 
 /// That a LOCK waits.
-pub fn pending_to(waiter: &Waiter) -> Later
-    ensures { response_of result ≡ pending_to (waiter_of waiter.now) }
+pub fn pending_to(alloc: Global, waiter: &Waiter) -> OwnAnswer
+    ensures response { own_response result ≡ pending_to (waiter_of waiter.now) }
+    ensures alone { IsOfNoStep result.answer }
 {
-    later_to(waiter, without_body(waiter, 0x103))
+    answered(alloc, waiter, waiter.async_id, 0x103)
 }
 
 /// That there is no place for it to wait.
-pub fn turned_away(waiter: &Waiter) -> Later
-    ensures { response_of result ≡ tells.at_once_to (kept_message waiter.now) (tells.reply_of (kept_message waiter.now) 0xc000_009a) }
+pub fn turned_away(alloc: Global, waiter: &Waiter) -> OwnAnswer
+    ensures response { own_response result ≡ tells.at_once_to (kept_message waiter.now) (tells.reply_of (kept_message waiter.now) 0xc000_009a) }
+    ensures alone { IsOfNoStep result.answer }
 {
-    Later {
+    answered(alloc, waiter, 0, 0xc000_009a)
+}
+
+// With this status, of no step of the server.
+fn answered(alloc: Global, waiter: &Waiter, async_id: u64, status: u32) -> OwnAnswer
+    ensures response { own_response result ≡ record {
+      connection = waiter.now.connection;
+      message = waiter.now.message_id;
+      async_id = async_id;
+      reply = tells.reply_of (kept_message waiter.now) status;
+    } }
+    ensures alone { IsOfNoStep result.answer }
+{
+    OwnAnswer {
         connection: waiter.connection,
         message: waiter.message_id,
-        async_id: 0,
-        reply: without_body(waiter, 0xc000_009a),
+        async_id,
+        answer: Answer {
+            reply: without_body(waiter, status),
+            acted: false,
+            token: Bytes::new(alloc),
+            keys: None,
+            channel: None,
+        },
     }
 }
 

@@ -12,6 +12,6 @@ mod waiter;
 mod waiters;
 
 pub use held::{held_up, would_wait};
-pub use later::{Later, LaterList};
+pub use later::{Later, LaterList, OwnAnswer};
 pub use wait_server::{CancelTarget, WaitEvent, WaitServer};
 pub use waiter::Waiter;

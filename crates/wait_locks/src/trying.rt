@@ -38,7 +38,7 @@ impl<D: Disk> WaitServer<D> {
         ensures step { (own : ServerEvent) (s : model.Server) (L : Logons) (records : List model.Record) (d : Waiter)
             → HoldsServer D.told D.seen D.may_leave self.old.server s L records → stopped_of self.old.server ≡ None
             → message_of message.entry ≡ kept_message (slice_index_or self.old.waiters.items place d)
-            → RoundIs D.told D.seen D.may_leave D.faults now own self.old self.new finals.old.items finals.new.items result s L records
+            → RoundIs D.told D.seen D.may_leave D.moment D.left_since D.faults now own self.old self.new finals.old.items finals.new.items result s L records
             (map waiter_of (take place self.old.waiters.items)) (waiter_of (slice_index_or self.old.waiters.items place d))
             (map waiter_of (drop (place + 1) self.old.waiters.items)) }
         ensures rest { IsRest self.old self.new }
@@ -61,7 +61,7 @@ impl<D: Disk> WaitServer<D> {
         requires { place < length self.old.waiters.items }
         ensures step { (own : ServerEvent) (s : model.Server) (L : Logons) (records : List model.Record) (d : Waiter)
             → HoldsServer D.told D.seen D.may_leave self.old.server s L records → stopped_of self.old.server ≡ None
-            → RoundIs D.told D.seen D.may_leave D.faults now own self.old self.new finals.old.items finals.new.items result s L records
+            → RoundIs D.told D.seen D.may_leave D.moment D.left_since D.faults now own self.old self.new finals.old.items finals.new.items result s L records
             (map waiter_of (take place self.old.waiters.items)) (waiter_of (slice_index_or self.old.waiters.items place d))
             (map waiter_of (drop (place + 1) self.old.waiters.items)) }
         ensures rest { IsRest self.old self.new }
@@ -81,7 +81,7 @@ impl<D: Disk> WaitServer<D> {
     fn try_next(&mut self, now: u64, finals: &mut Vec<Later>) -> Round
         ensures step { (own : ServerEvent) (s : model.Server) (L : Logons) (records : List model.Record)
             → HoldsServer D.told D.seen D.may_leave self.old.server s L records → stopped_of self.old.server ≡ None
-            → NextIs D.told D.seen D.may_leave D.faults now own self.old self.new finals.old.items finals.new.items result s L records }
+            → NextIs D.told D.seen D.may_leave D.moment D.left_since D.faults now own self.old self.new finals.old.items finals.new.items result s L records }
         ensures rest { IsRest self.old self.new }
         ensures fewer { IsFewer result (vec_len self.old.waiters) (vec_len self.new.waiters) }
     {
@@ -95,7 +95,7 @@ impl<D: Disk> WaitServer<D> {
     pub(crate) fn try_all(&mut self, now: u64, finals: &mut Vec<Later>) -> Result<(), EventError>
         ensures step { (own : ServerEvent) (s : model.Server) (L : Logons) (records : List model.Record)
             → HoldsServer D.told D.seen D.may_leave self.old.server s L records → stopped_of self.old.server ≡ None
-            → AllTried D.told D.seen D.may_leave D.faults now own self.old self.new finals.old.items finals.new.items result s L records }
+            → AllTried D.told D.seen D.may_leave D.moment D.left_since D.faults now own self.old self.new finals.old.items finals.new.items result s L records }
         ensures config { (config_of self.new.server) ≡ (config_of self.old.server) }
         ensures rest { (self.new.alloc ≡ self.old.alloc) × (self.new.ids_given ≡ self.old.ids_given) }
     {

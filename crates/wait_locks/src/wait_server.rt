@@ -42,7 +42,7 @@ impl<D: Disk> WaitServer<D> {
     ghost use Rattle.spec_world.specs.Ends.{Logons};
     ghost use Rattle.law_waiting.specs.wait_steps.WaitStep.{WaitState, waiting_on};
     ghost use Rattle.server_checks.specs.declared.setups.error.EventError.TheVariants as errors;
-    ghost use Rattle.server_core.specs.Shown.{HoldsServer, config_of, stopped_of};
+    ghost use Rattle.server_core.specs.Shown.{HoldsServer, config_of, disk_of, stopped_of};
     ghost use Rattle.wait_locks.specs.Begun.{BegunBy};
     ghost use Rattle.law_waiting.specs.wait_steps.WaitStep.{staying_waiters};
     ghost use Rattle.wait_locks.specs.Kept.{waiter_of};
@@ -78,6 +78,14 @@ impl<D: Disk> WaitServer<D> {
         &self.server
     }
 
+    /// Hands back the disk. Whoever waits is told nothing.
+    pub fn stop(self) -> D
+        ensures { result ≡ disk_of self.server }
+    {
+        let WaitServer { server, .. } = self;
+        server.stop()
+    }
+
     /// One event, and all waiters that it lets go. The room for its responses is taken first.
     ///
     /// `Memory`: it found none; nobody was tried then, but an end dropped its connection's waiters. `DiskFault`: a step of the server
@@ -85,7 +93,7 @@ impl<D: Disk> WaitServer<D> {
     pub fn event(&mut self, now: u64, event: WaitEvent<'_>) -> Result<LaterList, EventError>
         ensures step { (w : WaitState) (L : Logons) (records : List model.Record)
             → HoldsWaiting D.told D.seen D.may_leave self.old w L records
-            → TurnAnswers D.told D.seen D.may_leave D.faults self.old.server self.new w L records now false event.entry result }
+            → TurnAnswers D.told D.seen D.may_leave D.moment D.left_since D.faults self.old.server self.new w L records now false event.entry result }
         ensures stopped { (count : ℕ) → stopped_of self.old.server ≡ Some count
             → (result ≡ Err (errors.Stopped count)) × (self.new ≡ self.old) }
         ensures config { config_of self.new.server ≡ config_of self.old.server }
@@ -97,7 +105,7 @@ impl<D: Disk> WaitServer<D> {
     pub fn event_at_once(&mut self, now: u64, event: WaitEvent<'_>) -> Result<LaterList, EventError>
         ensures step { (w : WaitState) (L : Logons) (records : List model.Record)
             → HoldsWaiting D.told D.seen D.may_leave self.old w L records
-            → TurnAnswers D.told D.seen D.may_leave D.faults self.old.server self.new w L records now true event.entry result }
+            → TurnAnswers D.told D.seen D.may_leave D.moment D.left_since D.faults self.old.server self.new w L records now true event.entry result }
         ensures stopped { (count : ℕ) → stopped_of self.old.server ≡ Some count
             → (result ≡ Err (errors.Stopped count)) × (self.new ≡ self.old) }
         ensures config { config_of self.new.server ≡ config_of self.old.server }
@@ -113,7 +121,7 @@ impl<D: Disk> WaitServer<D> {
     ) -> Result<LaterList, EventError>
         ensures step { (w : WaitState) (L : Logons) (records : List model.Record)
             → HoldsWaiting D.told D.seen D.may_leave self.old w L records
-            → TurnAnswers D.told D.seen D.may_leave D.faults self.old.server self.new w L records now at_once event.entry result }
+            → TurnAnswers D.told D.seen D.may_leave D.moment D.left_since D.faults self.old.server self.new w L records now at_once event.entry result }
         ensures stopped { (count : ℕ) → stopped_of self.old.server ≡ Some count
             → (result ≡ Err (errors.Stopped count)) × (self.new ≡ self.old) }
         ensures config { config_of self.new.server ≡ config_of self.old.server }
@@ -134,7 +142,7 @@ impl<D: Disk> WaitServer<D> {
         ensures step { (w : WaitState) (L : Logons) (records : List model.Record)
             → HoldsWaiting D.told D.seen D.may_leave self.old w L records
             → stopped_of self.old.server ≡ None
-            → TurnAnswers D.told D.seen D.may_leave D.faults self.old.server self.new w L records now at_once event.entry result }
+            → TurnAnswers D.told D.seen D.may_leave D.moment D.left_since D.faults self.old.server self.new w L records now at_once event.entry result }
         ensures config { config_of self.new.server ≡ config_of self.old.server }
     {
         match self.room() {
@@ -181,7 +189,7 @@ impl<D: Disk> WaitServer<D> {
         ensures step { (w : WaitState) (L : Logons) (records : List model.Record)
             → HoldsWaiting D.told D.seen D.may_leave self.old w L records
             → stopped_of self.old.server ≡ None
-            → TurnAnswers D.told D.seen D.may_leave D.faults self.old.server self.new w L records now at_once event.entry result }
+            → TurnAnswers D.told D.seen D.may_leave D.moment D.left_since D.faults self.old.server self.new w L records now at_once event.entry result }
         ensures config { config_of self.new.server ≡ config_of self.old.server }
     {
         match self.carry(now, at_once, event, &mut finals) {

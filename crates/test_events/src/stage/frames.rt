@@ -58,8 +58,9 @@ impl<S: Runs> Stage<S> {
             return Err(Fault::Other);
         };
         match server.frame(conn, self.now, CHALLENGE, frame) {
-            Ok(taken) => Ok(Some(taken)),
-            Err(ended) => {
+            None => Err(Fault::Other),
+            Some(Ok(taken)) => Ok(Some(taken)),
+            Some(Err(ended)) => {
                 write!(self.said, "{:?}", ended.why)?;
                 Ok(None)
             }

@@ -11,7 +11,7 @@ use Rattle.wait_locks.proofs.wait_server.WaitServer.goes.Goals as goal
 pub returns-in-Ok-clause-step : goal.returns-in-Ok-clause-step
 returns-in-Ok-clause-step g c = λ w L records h none.
     let e = c.room.ensures.same in let es = ap (λ (z : WaitServer g.row.D.Denot). z.server) e.1 in
-    let P : Server g.row.D.Denot → Type 0 = λ z. TurnAnswers g.D.Disk.told g.D.Disk.seen g.D.Disk.may_leave g.D.Disk.faults z c.begin.new.self w L records c.args.now
+    let P : Server g.row.D.Denot → Type 0 = λ z. TurnAnswers g.D.Disk.told g.D.Disk.seen g.D.Disk.may_leave g.D.Disk.moment g.D.Disk.left_since g.D.Disk.faults z c.begin.new.self w L records c.args.now
     c.args.at_once c.args.event c.begin.result in
     subst P es
     (c.begin.ensures.step w L records (moved g.D.Disk.told g.D.Disk.seen g.D.Disk.may_leave c.args.self.now c.room.new.self w L records e.0 e.1 h)
@@ -20,8 +20,8 @@ returns-in-Ok-clause-step g c = λ w L records h none.
 pub returns-in-Err-clause-step : goal.returns-in-Err-clause-step
 returns-in-Err-clause-step g c = λ w L records h none.
     let e = c.room.ensures.same in let es = ap (λ (z : WaitServer g.row.D.Denot). z.server) e.1 in let r = c.lack.ensures.rest in
-    lacks_all g.D.Disk.told g.D.Disk.seen g.D.Disk.may_leave g.D.Disk.faults c.args.self.now.server w L records c.args.now c.args.at_once c.args.event c.args.self.now
-    c.lack.new.self refl h none (ap (λ (z : WaitServer g.row.D.Denot). z.server) r ∙ es)
+    lacks_all g.D.Disk.told g.D.Disk.seen g.D.Disk.may_leave g.D.Disk.moment g.D.Disk.left_since g.D.Disk.faults c.args.self.now.server w L records c.args.now c.args.at_once c.args.event g.met.D.Disk.only_now
+    (λ t n. let x = (h.server.holds n).stands n t in (w.server, x.0, x.1)) c.args.self.now c.lack.new.self refl h none (ap (λ (z : WaitServer g.row.D.Denot). z.server) r ∙ es)
     (ap (λ (z : WaitServer g.row.D.Denot). z.ids_given) r ∙ ap (λ (z : WaitServer g.row.D.Denot). z.ids_given) e.1)
     (ap (λ (z : WaitServer g.row.D.Denot). z.starved) r)
     (c.lack.ensures.lists w L

@@ -13,8 +13,9 @@ returns-clause-lists g c = λ w d e i p.
           ∙ ap (λ n. waits.in_place (record { message = kept_message k; async_id = n + 1 }) w.waiters) i;
       ids_given = ap (λ n. n + 1) i;
       own = ap Some
-          (c.pending_to.ensures ∙ ap (λ z. waits.pending_to (waiter_of z)) c.with_id-new.ensures
+          (c.pending_to.ensures.response ∙ ap (λ z. waits.pending_to (waiter_of z)) c.with_id-new.ensures
           ∙ ap (λ n. waits.pending_to (record { message = kept_message k; async_id = n + 1 })) i);
+      alone = c.pending_to.ensures.alone;
       finals = told_behind c.args.finals.now.items _ c.cancelled_to.result _ c.push_reserved.ensures.items
           (c.cancelled_to.ensures
           ∙ ap (λ z. waits.cancelled_to (waiter_of z)) (c.index.ensures ∙ index_any ws c.args.place c.requires.1 c.index.result.now d));

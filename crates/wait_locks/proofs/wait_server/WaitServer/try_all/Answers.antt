@@ -9,7 +9,7 @@ rounds-init g c = record {
   alloc = refl;
   ids = refl;
   so = λ own s L records h none.
-      begins g.D.Disk.told g.D.Disk.seen g.D.Disk.may_leave g.D.Disk.faults c.args.now own c.args.self.now c.args.finals.now.items s L records none h;
+      begins g.D.Disk.told g.D.Disk.seen g.D.Disk.may_leave g.D.Disk.moment g.D.Disk.left_since g.D.Disk.faults c.args.now own c.args.self.now c.args.finals.now.items s L records none h;
 }
 
 pub rounds-preserved : goal.rounds-preserved
@@ -19,7 +19,7 @@ rounds-preserved g c = record {
   ids = c.try_next.ensures.rest.ids_given ∙ c.rounds.invariant.ids;
   so = λ own s L records h none.
       let t = c.rounds.invariant.so own s L records h none in
-      goes_on g.D.Disk.told g.D.Disk.seen g.D.Disk.may_leave g.D.Disk.faults c.args.now own c.args.self.now c.args.finals.now.items s L records _ _ _ _ t
+      goes_on g.D.Disk.told g.D.Disk.seen g.D.Disk.may_leave g.D.Disk.moment g.D.Disk.left_since g.D.Disk.faults c.args.now own c.args.self.now c.args.finals.now.items s L records _ _ _ _ t
       (ap (λ (z : Config). z.users) c.rounds.invariant.config)
       (c.in-Went.ensures.step own t.state L (records ++ t.written) t.holds t.going);
 }
@@ -27,18 +27,18 @@ rounds-preserved g c = record {
 pub returns-in-AllHeld-clause-step : goal.returns-in-AllHeld-clause-step
 returns-in-AllHeld-clause-step g c = λ own s L records h none.
     let t = c.rounds.invariant.so own s L records h none in
-    rests g.D.Disk.told g.D.Disk.seen g.D.Disk.may_leave g.D.Disk.faults c.args.now own c.args.self.now c.args.finals.now.items s L records _ _ _ _ t
+    rests g.D.Disk.told g.D.Disk.seen g.D.Disk.may_leave g.D.Disk.moment g.D.Disk.left_since g.D.Disk.faults c.args.now own c.args.self.now c.args.finals.now.items s L records _ _ _ _ t
     (ap (λ (z : Config). z.users) c.rounds.invariant.config) (tt {0}) (c.in-AllHeld.ensures.step own t.state L (records ++ t.written) t.holds t.going)
 
 pub returns-in-Lacks-clause-step : goal.returns-in-Lacks-clause-step
 returns-in-Lacks-clause-step g c = λ own s L records h none.
     let t = c.rounds.invariant.so own s L records h none in
-    lacks g.D.Disk.told g.D.Disk.seen g.D.Disk.may_leave g.D.Disk.faults c.args.now own c.args.self.now c.args.finals.now.items s L records _ _ _ _ t
+    lacks g.D.Disk.told g.D.Disk.seen g.D.Disk.may_leave g.D.Disk.moment g.D.Disk.left_since g.D.Disk.faults c.args.now own c.args.self.now c.args.finals.now.items s L records _ _ _ _ t
     (ap (λ (z : Config). z.users) c.rounds.invariant.config) (tt {0}) (c.in-Lacks.ensures.step own t.state L (records ++ t.written) t.holds t.going)
 
 pub returns-in-Fails-clause-step : goal.returns-in-Fails-clause-step
 returns-in-Fails-clause-step g c = λ own s L records h none.
     let t = c.rounds.invariant.so own s L records h none in
-    fails g.D.Disk.told g.D.Disk.seen g.D.Disk.may_leave g.D.Disk.faults c.args.now own c.args.self.now c.args.finals.now.items s L records _ _ _ _ t
+    fails g.D.Disk.told g.D.Disk.seen g.D.Disk.may_leave g.D.Disk.moment g.D.Disk.left_since g.D.Disk.faults c.args.now own c.args.self.now c.args.finals.now.items s L records _ _ _ _ t
     (ap (λ (z : Config). z.users) c.rounds.invariant.config) (Unit {0}) _
     (c.in-Fails.ensures.step own t.state L (records ++ t.written) t.holds t.going)

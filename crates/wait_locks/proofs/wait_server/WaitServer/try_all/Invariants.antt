@@ -15,7 +15,7 @@ invariant-rounds g l = record {
   so : (own : ServerEvent) (s : model.Server) (L : Logons) (records : List model.Record)
       → HoldsServer g.D.Disk.told g.D.Disk.seen g.D.Disk.may_leave l.initial.self.server s L records
       → stopped_of l.initial.self.server ≡ None
-      → TriedSo g.D.Disk.told g.D.Disk.seen g.D.Disk.may_leave g.D.Disk.faults l.now own l.initial.self l.initial.finals.items s L records l.self
+      → TriedSo g.D.Disk.told g.D.Disk.seen g.D.Disk.may_leave g.D.Disk.moment g.D.Disk.left_since g.D.Disk.faults l.now own l.initial.self l.initial.finals.items s L records l.self
       l.finals.items;
 }
 
