@@ -1,0 +1,5 @@
+mod Comparing
+mod Places
+mod Denials
+mod Walking
+mod Masks

@@ -1,0 +1,4 @@
+pub mod Decide
+pub mod Examples
+pub mod Index
+pub mod Walk
