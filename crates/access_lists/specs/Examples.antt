@@ -12,6 +12,13 @@ pay_rules =
     ∷ record { allow = false; user = None; rights = 3; path = 112 ∷ 97 ∷ 121 ∷ [] }
     ∷ []
 
+-- `deny * w pay` and `deny * rd -`
+abbrev pub two_denials : List Rule
+two_denials =
+    record { allow = false; user = None; rights = 2; path = 112 ∷ 97 ∷ 121 ∷ [] }
+    ∷ record { allow = false; user = None; rights = 5; path = [] }
+    ∷ []
+
 -- `ANN`, `Bob`
 abbrev pub ann : List ℕ
 ann = 65 ∷ 78 ∷ 78 ∷ []

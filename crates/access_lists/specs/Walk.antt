@@ -32,7 +32,7 @@ abbrev pub judged_behind : Option Asked → ℕ → (Asked → Option ℕ) → O
 judged_behind None n f = Some n
 judged_behind (Some a) n f = f a
 
--- a rule that bears on nothing
+-- a rule that has no right
 abbrev pub no_rule : Rule
 no_rule = record { allow = true; user = None; rights = 0; path = [] }
 
