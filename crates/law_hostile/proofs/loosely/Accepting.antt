@@ -1,6 +1,6 @@
 -- A response of a dialog comes down to a client's end whose lists are let go, and is taken; a session that a dialog makes is waited for and
 -- accepted at once.
-use Rattle.std.proofs.Common.{◌≡◌, ℕ, ◌+◌, ◌≤◌, ◌<◌, Bool, true, false, ◌&&◌, if◌then◌else◌, List, [], ◌∷◌, ◌++◌, refl, sym, ap, ◌∙◌, subst, arith}
+use Rattle.std.proofs.Common.{◌≡◌, ℕ, ◌≤◌, ◌<◌, Bool, true, false, ◌&&◌, if◌then◌else◌, List, [], ◌∷◌, ◌++◌, refl, sym, ap, ◌∙◌, subst, arith}
 use Rattle.std.proofs.Common.{Some, None}
 use Rattle.law_records.proofs.recovery.Lists.{put_here}
 use Rattle.spec_exchange.specs.Table.{put, is_filled}
