@@ -1,7 +1,8 @@
 mod Bytes
-mod Files
-mod Opens
-mod Ranges
-mod Tables
+pub mod Files
+pub mod Opens
+pub mod Order
+pub mod Ranges
+pub mod Tables
 pub mod Whole
 pub mod Fitting

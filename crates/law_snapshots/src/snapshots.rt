@@ -3,11 +3,12 @@
 //! Each law is a public function with an empty body, whose contract is the statement.
 
 ghost use Rattle.std.specs.Prelude.{◌≡◌, ℕ, List, [], ◌++◌, length};
-ghost use Rattle.spec_exchange.specs.State.{Server};
+ghost use Rattle.spec_exchange.specs.State.{Entry, Server};
 ghost use Rattle.law_records.specs.fold.Order.{FilesAscend};
 ghost use Rattle.law_server.specs.tables.Fits.{Fits};
-ghost use Rattle.law_snapshots.specs.snapshots.Kept.{ListsGuids, SnapshotKeeps, TellsBytes, parts_joined, patches_of};
-ghost use Rattle.law_snapshots.specs.snapshots.Pieces.{FileBytes, shown, snapshot, unfolded};
+ghost use Rattle.law_snapshots.specs.snapshots.Kept.{IsOrderOf, Keeps, ListsGuids, SnapshotKeeps, TellsBytes, parts_joined};
+ghost use Rattle.law_snapshots.specs.snapshots.Kept.{patches_of};
+ghost use Rattle.law_snapshots.specs.snapshots.Pieces.{FileBytes, shown, snapshot, snapshot_in, unfolded};
 
 use law_records::keeps_law;
 
@@ -26,6 +27,23 @@ pub fn snapshot_fits_law()
     ensures ascends { (s : Server) (held : ℕ → FileBytes) (guids : List (ℕ × ℕ)) → Fits s → FilesAscend s → TellsBytes s held
         → ListsGuids s guids → FilesAscend (unfolded (snapshot s held guids) s.stored) }
     ensures none { (stored : ℕ → List ℕ) → Fits (unfolded [] stored) }
+{
+    keeps_law();
+}
+
+/// In whatever order the files are told, once each, and whatever is stored beside the journal, if the bytes are told over it: what the
+/// pieces stand for is all that outlives a restart of the server (`keeps`), and it fits together (`fits`), with its files in the order of
+/// their numbers (`ascends`).
+pub fn order_law()
+    ensures keeps { (s : Server) (stored : ℕ → List ℕ) (held : ℕ → FileBytes) (guids : List (ℕ × ℕ)) (order : List Entry) → Fits s
+        → FilesAscend s → TellsBytes (record s { stored = stored }) held → ListsGuids s guids → IsOrderOf order s.entries
+        → Keeps (unfolded (snapshot_in s held guids order) stored) s }
+    ensures fits { (s : Server) (stored : ℕ → List ℕ) (held : ℕ → FileBytes) (guids : List (ℕ × ℕ)) (order : List Entry) → Fits s
+        → FilesAscend s → TellsBytes (record s { stored = stored }) held → ListsGuids s guids → IsOrderOf order s.entries
+        → Fits (unfolded (snapshot_in s held guids order) stored) }
+    ensures ascends { (s : Server) (stored : ℕ → List ℕ) (held : ℕ → FileBytes) (guids : List (ℕ × ℕ)) (order : List Entry) → Fits s
+        → FilesAscend s → TellsBytes (record s { stored = stored }) held → ListsGuids s guids → IsOrderOf order s.entries
+        → FilesAscend (unfolded (snapshot_in s held guids order) stored) }
 {
     keeps_law();
 }

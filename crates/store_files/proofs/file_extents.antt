@@ -1,3 +1,4 @@
 pub mod Shown
 pub mod Updated
 pub mod Planned
+pub mod Told

@@ -1,5 +1,8 @@
 pub mod Keys
 pub mod Entries
+pub mod Between
+pub mod PutPlace
+pub mod ByPath
 pub mod Rows
 pub mod Order
 pub mod Below

@@ -1,3 +1,4 @@
 pub mod Shown
 pub mod Kept
 pub mod Ready
+pub mod Parts

@@ -7,3 +7,4 @@ pub mod Moved
 pub mod Listed
 pub mod Stored
 pub mod Gone
+pub mod Placed

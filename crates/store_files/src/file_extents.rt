@@ -4,6 +4,7 @@
 
 mod cut;
 mod extents;
+mod parts;
 mod put;
 mod seek;
 mod write;

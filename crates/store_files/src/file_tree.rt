@@ -6,6 +6,7 @@
 //! A number names a file or directory that is there; on any other, and for bytes on a directory, a call returns but
 //! promises nothing.
 
+mod by_path;
 mod bytes;
 mod error;
 mod files;
@@ -15,6 +16,8 @@ mod index;
 mod list;
 mod make;
 mod new_name;
+mod parts;
+mod placing;
 mod rename;
 mod row;
 mod tree;
@@ -26,6 +29,7 @@ pub use gone::Gone;
 pub use list::{Entry, Listed};
 pub use make::NewFile;
 pub use new_name::NewName;
+pub use placing::PlacedFile;
 pub use rename::Move;
 pub use row::Info;
 pub use tree::{Space, Tree};

@@ -8,7 +8,7 @@ mod names;
 
 pub use file_extents::{Extents, Prepared};
 pub use file_tree::{
-    Entry, Gone, Info, Listed, Move, NewBytes, NewFile, NewName, Space, StoreError, StoredFile,
-    Tree,
+    Entry, Gone, Info, Listed, Move, NewBytes, NewFile, NewName, PlacedFile, Space, StoreError,
+    StoredFile, Tree,
 };
 pub use names::{accepts, key_of, path_form, units};

@@ -3,5 +3,5 @@
 mod names;
 mod pattern;
 
-pub use names::{key_of, path_form, units};
+pub use names::{begins_with_backslash, is_component, key_of, path_form, units};
 pub use pattern::accepts;

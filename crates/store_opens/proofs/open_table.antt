@@ -20,3 +20,4 @@ pub mod Counts
 pub mod Empty
 pub mod Found
 pub mod Unlisted
+pub mod StoodLemmas

@@ -6,3 +6,4 @@ pub mod Left
 pub mod Changes
 pub mod Locks
 pub mod Taken
+pub mod Stood

@@ -16,7 +16,9 @@ mod made;
 mod of_tree;
 mod row;
 mod rows;
+mod stand;
 mod table;
+mod told;
 
 pub use crate::channel_sequence::{Offered, Seen};
 pub use crate::lock_replay::{Kept, Slots};

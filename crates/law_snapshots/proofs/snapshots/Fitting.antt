@@ -17,13 +17,15 @@ use Rattle.law_server.proofs.tables.Logic.{either, front_of, back_of}
 use Rattle.law_records.specs.fold.Order.{FilesAscend, numbers}
 use Rattle.law_records.specs.recovery.Restarted.{Bare}
 use Rattle.law_records.proofs.recovery.Lists.{has_persistent}
-use Rattle.law_snapshots.specs.snapshots.Kept.{Keeps, ListsGuids, TellsBytes}
+use Rattle.law_snapshots.specs.snapshots.Kept.{IsOrderOf, Keeps, ListsGuids, TellsBytes}
 use Rattle.law_snapshots.specs.snapshots.Pieces.{SnapshotPiece, BasePiece, FilePiece, BytesPiece, OpenPiece, SlotPiece, RangePiece, GuidPiece}
-use Rattle.law_snapshots.specs.snapshots.Pieces.{FileBytes, has_free_guid, may_place, may_stand, place_file, push_range, snapshot, unfolded, with_piece, with_pieces}
+use Rattle.law_snapshots.specs.snapshots.Pieces.{FileBytes, has_free_guid, may_place, may_stand, place_file, push_range, snapshot, snapshot_in, unfolded, with_piece}
+use Rattle.law_snapshots.specs.snapshots.Pieces.{with_pieces}
 use Rattle.law_snapshots.proofs.restarts.Sessionless.{bare_unfolded}
 use Rattle.law_snapshots.proofs.snapshots.Opens.{ascending_persistent}
 use Rattle.law_snapshots.proofs.snapshots.Ranges.{AllOwned, file_in, stay_owned}
-use Rattle.law_snapshots.proofs.snapshots.Whole.{snapshot_given, snapshot_keeps}
+use Rattle.law_snapshots.proofs.snapshots.Order.{order_itself}
+use Rattle.law_snapshots.proofs.snapshots.Whole.{order_given, order_keeps}
 
 -- ---- what no piece touches
 
@@ -36,23 +38,23 @@ pub record Rooted (d : Server) : Type 0 where
 apart_root : (f : ℕ) → nat_lt 0 f ≡ true → (0 == f) ≡ false
 apart_root f h = grind (arith, nat_tests)
 
-placed_apart : (s : Server) (f : ℕ) → may_place s f ≡ true → (0 == f) ≡ false
+pub placed_apart : (s : Server) (f : ℕ) → may_place s f ≡ true → (0 == f) ≡ false
 unfolding may_place
 placed_apart s f h = apart_root f (front_of (nat_lt 0 f) _ h)
 
-put_at_root : (p : ℕ → Bool) (f : ℕ) (v : Bool) → (0 == f) ≡ false → p 0 ≡ false → put p f v 0 ≡ false
+pub put_at_root : (p : ℕ → Bool) (f : ℕ) (v : Bool) → (0 == f) ≡ false → p 0 ≡ false → put p f v 0 ≡ false
 put_at_root p f v e h = rw e h
 
 not_both : (a b c d e f : Bool) → (a && (b && (c && (d && (not e && f))))) ≡ true → e ≡ false
 not_both a b c d true f h = absurd (grind arith)
 not_both a b c d false f h = refl
 
-stood_apart : (s : Server) (o : ℕ) (row : Open) → may_stand s o row ≡ true → (deletes_on_close row.options && (row.file == root)) ≡ false
+pub stood_apart : (s : Server) (o : ℕ) (row : Open) → may_stand s o row ≡ true → (deletes_on_close row.options && (row.file == root)) ≡ false
 unfolding may_stand
 stood_apart s o row h = not_both (nat_lt 0 o) (not (s.standing o)) row.persistent (exists s row.file)
     (deletes_on_close row.options && (row.file == root)) (has_free_guid s row.client_guid row.create_guid) h
 
-other_file : (a : Bool) (f : ℕ) → (a && (f == 0)) ≡ false → a ≡ true → f ≢ 0
+pub other_file : (a : Bool) (f : ℕ) → (a && (f == 0)) ≡ false → a ≡ true → f ≢ 0
 other_file true f h e q = let t : (f == 0) ≡ true = grind arith in cc
 other_file false f h e q = cc
 
@@ -279,15 +281,25 @@ module _ (s d : Server) (k : Keeps d s) (i : Fits s) (b : Bare d) (r : Rooted d)
     limit = r.limit;
   }
 
+pub order_fits : Fits nothing_yet → (s : Server) (stored : ℕ → List ℕ) (held : ℕ → FileBytes) (guids : List (ℕ × ℕ)) (order : List Entry) → Fits s → FilesAscend s
+    → TellsBytes (record s { stored = stored }) held → ListsGuids s guids → IsOrderOf order s.entries → Fits (unfolded (snapshot_in s held guids order) stored)
+order_fits none s stored held guids order i ascend told lists n =
+    kept_fits s (unfolded (snapshot_in s held guids order) stored) (order_keeps s stored held guids order i ascend told lists n) i
+    (bare_unfolded (snapshot_in s held guids order) stored) (rooted_unfolded none (snapshot_in s held guids order) stored)
+    (order_given s stored held guids order i ascend told n)
+
+pub order_ascends : (s : Server) (stored : ℕ → List ℕ) (held : ℕ → FileBytes) (guids : List (ℕ × ℕ)) (order : List Entry) → Fits s → FilesAscend s
+    → TellsBytes (record s { stored = stored }) held → ListsGuids s guids → IsOrderOf order s.entries → FilesAscend (unfolded (snapshot_in s held guids order) stored)
+order_ascends s stored held guids order i ascend told lists n =
+    ap (λ (es : List Entry). is_ascending (numbers es)) (order_keeps s stored held guids order i ascend told lists n).files.entries ∙ ascend
+
 pub snapshot_fits : Fits nothing_yet → (s : Server) (held : ℕ → FileBytes) (guids : List (ℕ × ℕ)) → Fits s → FilesAscend s
     → TellsBytes s held
     → ListsGuids s guids → Fits (unfolded (snapshot s held guids) s.stored)
 snapshot_fits none s held guids i ascend told lists =
-    kept_fits s (unfolded (snapshot s held guids) s.stored) (snapshot_keeps s held guids i ascend told lists) i
-    (bare_unfolded (snapshot s held guids) s.stored) (rooted_unfolded none (snapshot s held guids) s.stored)
-    (snapshot_given s held guids i ascend told)
+    order_fits none s s.stored held guids s.entries i ascend told lists (order_itself s.entries ascend)
 
 pub snapshot_ascends : (s : Server) (held : ℕ → FileBytes) (guids : List (ℕ × ℕ)) → Fits s → FilesAscend s → TellsBytes s held
     → ListsGuids s guids → FilesAscend (unfolded (snapshot s held guids) s.stored)
 snapshot_ascends s held guids i ascend told lists =
-    ap (λ (es : List Entry). is_ascending (numbers es)) (snapshot_keeps s held guids i ascend told lists).files.entries ∙ ascend
+    order_ascends s s.stored held guids s.entries i ascend told lists (order_itself s.entries ascend)

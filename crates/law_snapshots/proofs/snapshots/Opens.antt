@@ -286,7 +286,7 @@ guid_told s t done o g0 c g i own named old =
     by false e k f = old ∙ told_more done o (s.by_guid c g) (λ h.
         let n : (s.opened o).client_guid ≡ c = (i.guid_open c g o h).1 in grind (arith, nat_tests))
 
-opened_one : (s b t : Server) (done : List ℕ) (o : ℕ) → Opened s b t done → Fits s → b.entries ≡ s.entries → stays s o ≡ true
+pub opened_one : (s b t : Server) (done : List ℕ) (o : ℕ) → Opened s b t done → Fits s → b.entries ≡ s.entries → stays s o ≡ true
     → has o done ≡ false → ((p : ℕ) → has p done ≡ true → p < o)
     → Opened s b (with_pieces (with_piece t (OpenPiece o (s.opened o))) (slot_pieces (s.lock_sequences o) o 64)) (done ++ o ∷ [])
 opened_one s b t done o w i es st n below =

@@ -7,12 +7,12 @@ use Rattle.spec_exchange.specs.Table.{put2}
 use Rattle.spec_exchange.specs.State.{Server, Entry, Range}
 use Rattle.spec_exchange.specs.Files.{exists, exists_in}
 use Rattle.spec_exchange.specs.Fold.{stays, ranges_that_stay}
-use Rattle.law_server.specs.tables.Fits.{Fits, is_ascending}
+use Rattle.law_server.specs.tables.Fits.{Fits}
 use Rattle.law_records.specs.fold.Order.{numbers}
-use Rattle.law_records.proofs.fold.Numbers.{ascending_rest}
 use Rattle.law_snapshots.specs.snapshots.Pieces.{RangePiece, GuidPiece, with_piece, with_pieces, push_range, range_pieces, all_range_pieces, guid_pieces}
-use Rattle.law_snapshots.specs.snapshots.Kept.{has_pair}
-use Rattle.law_snapshots.proofs.snapshots.Files.{behind_both, put_same, put_other, not_in}
+use Rattle.law_snapshots.specs.snapshots.Kept.{has_pair, are_distinct}
+use Rattle.law_snapshots.proofs.snapshots.Files.{behind_both, put_same, put_other}
+use Rattle.law_snapshots.proofs.snapshots.Order.{once_first, once_rest}
 
 -- ---- the ranges of one file
 
@@ -64,10 +64,10 @@ pub record AllRanged (s t u : Server) (es : List Entry) : Type 0 where
   pub here : (f : ℕ) → exists_in es f ≡ true → u.ranges f ≡ t.ranges f ++ ranges_that_stay s (s.ranges f)
   pub other : (f : ℕ) → exists_in es f ≡ false → u.ranges f ≡ t.ranges f
 
-pub all_ranged : (s t : Server) (es : List Entry) → Fits s → is_ascending (numbers es) ≡ true
+pub all_ranged : (s t : Server) (es : List Entry) → Fits s → are_distinct (numbers es) ≡ true
     → ((o : ℕ) → stays s o ≡ true → (t.standing o ≡ true) × (file_in t o ≡ (s.opened o).file))
     → AllRanged s t (with_pieces t (all_range_pieces s es)) es
-unfolding with_pieces all_range_pieces exists_in numbers
+unfolding with_pieces all_range_pieces exists_in
 all_ranged s t [] i a w = record { is = refl; here = λ f h. absurd (cc); other = λ f h. refl }
 all_ranged s t (e ∷ es) i a w =
     let rs : List Range = ranges_that_stay s (s.ranges e.file) in
@@ -75,7 +75,7 @@ all_ranged s t (e ∷ es) i a w =
     let one : Ranged t u e.file rs = ranged t e.file rs (stay_owned s t e.file (s.ranges e.file) (i.range_owners e.file) w) in
     let kept : (o : ℕ) → stays s o ≡ true → (u.standing o ≡ true) × (file_in u o ≡ (s.opened o).file) = λ o h.
     (ap (λ (x : Server). x.standing o) one.is ∙ (w o h).0, ap (λ (x : Server). file_in x o) one.is ∙ (w o h).1) in
-    let more : AllRanged s u (with_pieces u (all_range_pieces s es)) es = all_ranged s u es i (ascending_rest e.file (numbers es) a) kept in
+    let more : AllRanged s u (with_pieces u (all_range_pieces s es)) es = all_ranged s u es i (once_rest e es a) kept in
     let d : Server = with_pieces u (all_range_pieces s es) in
     subst (λ (x : Server). AllRanged s t x (e ∷ es)) (sym (behind_both t (range_pieces rs) (all_range_pieces s es))) (record {
       is = more.is ∙ ap (λ (x : Server). record x { ranges = d.ranges }) one.is;
@@ -91,7 +91,7 @@ all_ranged s t (e ∷ es) i a w =
         → d.ranges f ≡ t.ranges f ++ ranges_that_stay s (s.ranges f)
     at_one u d first off there later f h true q =
         subst (λ (g : ℕ). d.ranges g ≡ t.ranges g ++ ranges_that_stay s (s.ranges g)) (eqb-true e.file f q)
-        (later e.file (not_in e es a) ∙ first)
+        (later e.file (once_first e es a) ∙ first)
     at_one u d first off there later f h false q =
         let o : (f == e.file) ≡ false = grind (arith, nat_tests) in
         there f (subst (λ (b : Bool). (if b then true else exists_in es f) ≡ true) q h)

@@ -13,9 +13,10 @@ use Rattle.law_server.proofs.tables.Logic.{either, front_of, back_of, both}
 use Rattle.law_records.specs.fold.Order.{FilesAscend}
 use Rattle.law_snapshots.specs.snapshots.Pieces.{SnapshotPiece, BasePiece, FilePiece, BytesPiece, OpenPiece, SlotPiece, RangePiece, GuidPiece, with_piece}
 use Rattle.law_snapshots.specs.snapshots.Pieces.{with_pieces, FileBytes, may_stand, slot_piece, slot_pieces, open_pieces, range_pieces, all_range_pieces}
-use Rattle.law_snapshots.specs.snapshots.Pieces.{guid_pieces, file_pieces, base_piece, snapshot, unfolded}
-use Rattle.law_snapshots.specs.snapshots.Kept.{SnapshotFiles, TellsBytes}
+use Rattle.law_snapshots.specs.snapshots.Pieces.{guid_pieces, file_pieces, base_piece, snapshot_in, unfolded}
+use Rattle.law_snapshots.specs.snapshots.Kept.{IsOrderOf, SnapshotFiles, TellsBytes}
 use Rattle.law_snapshots.proofs.snapshots.Files.{behind_both, Walked, walked, Behind}
+use Rattle.law_snapshots.proofs.snapshots.Order.{order_placed}
 
 pub record SameFiles (t u : Server) : Type 0 where
   pub entries : u.entries ≡ t.entries
@@ -125,34 +126,40 @@ guids_apart [] = refl
 guids_apart (g ∷ gs) = guids_apart gs
 
 -- what stands behind the files in a snapshot
-abbrev pub behind_files : Server → List (ℕ × ℕ) → List SnapshotPiece
-behind_files s guids = open_pieces s (persistent_in s.opened s.opens)
-    ++ (range_pieces (ranges_that_stay s (s.ranges root)) ++ (all_range_pieces s s.entries ++ guid_pieces guids))
+abbrev pub behind_files : Server → List (ℕ × ℕ) → List Entry → List SnapshotPiece
+behind_files s guids order = open_pieces s (persistent_in s.opened s.opens)
+    ++ (range_pieces (ranges_that_stay s (s.ranges root)) ++ (all_range_pieces s order ++ guid_pieces guids))
 
-behind_apart : (s : Server) (guids : List (ℕ × ℕ)) → all_apart (behind_files s guids) ≡ true
-behind_apart s guids =
+behind_apart : (s : Server) (guids : List (ℕ × ℕ)) (order : List Entry) → all_apart (behind_files s guids order) ≡ true
+behind_apart s guids order =
     apart_both (open_pieces s (persistent_in s.opened s.opens)) _ (opens_apart s (persistent_in s.opened s.opens))
     (apart_both (range_pieces (ranges_that_stay s (s.ranges root))) _ (ranges_apart (ranges_that_stay s (s.ranges root)))
-    (apart_both (all_range_pieces s s.entries) (guid_pieces guids) (all_ranges_apart s s.entries) (guids_apart guids)))
+    (apart_both (all_range_pieces s order) (guid_pieces guids) (all_ranges_apart s order) (guids_apart guids)))
 
 -- ---- the files of a snapshot
 
-abbrev pub based : Server → Server
-based s = with_piece (record nothing_yet { stored = s.stored }) (base_piece s)
+abbrev pub based : Server → (ℕ → List ℕ) → Server
+based s stored = with_piece (record nothing_yet { stored = stored }) (base_piece s)
 
-pub first_behind : (s : Server) (held : ℕ → FileBytes) → Fits s → FilesAscend s → TellsBytes s held → Behind s (based s) held s.entries
+pub first_behind : (s : Server) (stored : ℕ → List ℕ) (held : ℕ → FileBytes) (order : List Entry) → Fits s → TellsBytes (record s { stored = stored }) held → IsOrderOf order s.entries
+    → Behind s stored (based s stored) held order
 unfolding exists_in
-first_behind s held i a c = record {
-  given = λ f h. i.file_numbers f h;
-  ascend = a;
-  below = λ f h. absurd (cc);
-  told = c;
-  stored = refl;
+first_behind s stored held order i c n = record {
+  given = λ f h. i.file_numbers f (sym (n.there f) ∙ h);
+  once = n.once;
+  free = λ f h. refl;
+  told = λ f h. c f (sym (n.there f) ∙ h);
+  beside = refl;
 }
 
-pub files_walked : (s : Server) (held : ℕ → FileBytes) → Fits s → FilesAscend s → TellsBytes s held
-    → Walked s (based s) (with_pieces (based s) (file_pieces s held s.entries)) s.entries
-files_walked s held i a c = walked s (based s) held s.entries (first_behind s held i a c)
+pub files_walked : (s : Server) (stored : ℕ → List ℕ) (held : ℕ → FileBytes) (order : List Entry) → Fits s → TellsBytes (record s { stored = stored }) held → IsOrderOf order s.entries
+    → Walked s (based s stored) (with_pieces (based s stored) (file_pieces s held order)) order
+files_walked s stored held order i c n = walked s stored (based s stored) held order (first_behind s stored held order i c n)
+
+-- they stand in the order of their numbers
+pub walked_entries : (s : Server) (stored : ℕ → List ℕ) (t : Server) (order : List Entry) → FilesAscend s → IsOrderOf order s.entries → Walked s (based s stored) t order
+    → t.entries ≡ s.entries
+walked_entries s stored t order a n w = w.entries ∙ order_placed order s.entries n a
 
 pub no_root : (s : Server) → Fits s → exists_in s.entries root ≡ false
 no_root s i = by (exists_in s.entries root) (λ h. let l = (i.file_numbers root h).0 in omega (arith, l))
@@ -161,20 +168,21 @@ no_root s i = by (exists_in s.entries root) (λ h. let l = (i.file_numbers root 
     by true h = absurd (h refl)
     by false h = refl
 
-pub files_kept : (s : Server) (held : ℕ → FileBytes) (guids : List (ℕ × ℕ)) → Fits s → FilesAscend s → TellsBytes s held
-    → SnapshotFiles (unfolded (snapshot s held guids) s.stored) s
+pub files_kept : (s : Server) (stored : ℕ → List ℕ) (held : ℕ → FileBytes) (guids : List (ℕ × ℕ)) (order : List Entry) → Fits s → FilesAscend s
+    → TellsBytes (record s { stored = stored }) held → IsOrderOf order s.entries → SnapshotFiles (unfolded (snapshot_in s held guids order) stored) s
 unfolding with_pieces
-files_kept s held guids i a c =
-    let t : Server = with_pieces (based s) (file_pieces s held s.entries) in
-    let w : Walked s (based s) t s.entries = files_walked s held i a c in
-    let k : SameFiles t (with_pieces t (behind_files s guids)) = all_keep t (behind_files s guids) (behind_apart s guids) in
-    subst (λ (d : Server). SnapshotFiles d s) (sym (behind_both (based s) (file_pieces s held s.entries) (behind_files s guids)))
+files_kept s stored held guids order i a c n =
+    let t : Server = with_pieces (based s stored) (file_pieces s held order) in
+    let w : Walked s (based s stored) t order = files_walked s stored held order i c n in
+    let k : SameFiles t (with_pieces t (behind_files s guids order)) =
+    all_keep t (behind_files s guids order) (behind_apart s guids order) in
+    subst (λ (d : Server). SnapshotFiles d s) (sym (behind_both (based s stored) (file_pieces s held order) (behind_files s guids order)))
     (record {
-      entries = k.entries ∙ w.entries;
+      entries = k.entries ∙ walked_entries s stored t order a n w;
       next_file = k.next_file ∙ ap (λ (x : Server). x.next_file) w.is;
-      root_times = ap (λ (b : ℕ → Basic). b root) k.basic ∙ (w.other root (no_root s i)).basic;
-      directory = λ f h. ap (λ (b : ℕ → Bool). b f) k.directory ∙ (w.here f h).directory;
-      delete_pending = λ f h. ap (λ (b : ℕ → Bool). b f) k.delete_pending ∙ (w.here f h).delete_pending;
-      basic = λ f h. ap (λ (b : ℕ → Basic). b f) k.basic ∙ (w.here f h).basic;
-      content = λ f h. ap (λ (b : ℕ → List ℕ). b f) k.content ∙ (w.here f h).content;
+      root_times = ap (λ (b : ℕ → Basic). b root) k.basic ∙ (w.other root (n.there root ∙ no_root s i)).basic;
+      directory = λ f h. ap (λ (b : ℕ → Bool). b f) k.directory ∙ (w.here f (n.there f ∙ h)).directory;
+      delete_pending = λ f h. ap (λ (b : ℕ → Bool). b f) k.delete_pending ∙ (w.here f (n.there f ∙ h)).delete_pending;
+      basic = λ f h. ap (λ (b : ℕ → Basic). b f) k.basic ∙ (w.here f (n.there f ∙ h)).basic;
+      content = λ f h. ap (λ (b : ℕ → List ℕ). b f) k.content ∙ (w.here f (n.there f ∙ h)).content;
     })

@@ -7,15 +7,16 @@ use Rattle.spec_exchange.specs.Files.{root, exists, exists_in}
 use Rattle.spec_exchange.specs.Fold.{persistent_in, stays, stays_by_guid, ranges_that_stay}
 use Rattle.law_server.specs.tables.Fits.{Fits}
 use Rattle.law_records.specs.fold.Order.{FilesAscend}
-use Rattle.law_snapshots.specs.snapshots.Pieces.{FileBytes, with_pieces, file_pieces, open_pieces, range_pieces, all_range_pieces, guid_pieces, snapshot, unfolded}
-use Rattle.law_snapshots.specs.snapshots.Kept.{ListsGuids, TellsBytes, OpensKept, CountsKept, SnapshotKeeps, has_pair}
+use Rattle.law_snapshots.specs.snapshots.Pieces.{FileBytes, with_pieces, file_pieces, open_pieces, range_pieces, all_range_pieces, guid_pieces, snapshot_in, unfolded}
+use Rattle.law_snapshots.specs.snapshots.Kept.{IsOrderOf, Keeps, ListsGuids, TellsBytes, OpensKept, CountsKept, SnapshotKeeps, has_pair}
 use Rattle.law_snapshots.proofs.snapshots.Files.{behind_both, Walked}
-use Rattle.law_snapshots.proofs.snapshots.Tables.{based, files_walked, files_kept, no_root, behind_files}
+use Rattle.law_snapshots.proofs.snapshots.Tables.{based, files_walked, walked_entries, files_kept, no_root, behind_files}
+use Rattle.law_snapshots.proofs.snapshots.Order.{order_itself}
 use Rattle.law_snapshots.proofs.snapshots.Opens.{Opened, opened_all, told_of, has_persistent, ascending_persistent}
 use Rattle.law_snapshots.proofs.snapshots.Ranges.{Ranged, ranged, stay_owned, AllRanged, all_ranged, no_ranges, Expired, expired, file_in}
 
 -- the list of what stays is the table of it
-stay_listed : (s : Server) → Fits s → (p : ℕ) → has p (persistent_in s.opened s.opens) ≡ stays s p
+pub stay_listed : (s : Server) → Fits s → (p : ℕ) → has p (persistent_in s.opened s.opens) ≡ stays s p
 stay_listed s i p = has_persistent s.opened p s.opens ∙ ap (λ (b : Bool). b && (s.opened p).persistent) (i.listed p)
 
 none_told : (v : Option ℕ) → None ≡ told_of [] v
@@ -23,8 +24,8 @@ none_told None = refl
 none_told (Some o) = refl
 
 -- no open stands yet
-first_opened : (s t : Server) (es : List Entry) → Walked s (based s) t es → Opened s t t []
-first_opened s t es w = record {
+pub first_opened : (s : Server) (stored : ℕ → List ℕ) (t : Server) (es : List Entry) → Walked s (based s stored) t es → Opened s t t []
+first_opened s stored t es w = record {
   is = refl;
   opens = ap (λ (x : Server). x.opens) w.is;
   standing = λ p. ap (λ (x : Server). x.standing p) w.is;
@@ -42,26 +43,27 @@ or_none true b h = refl
 or_none false b h = h
 
 -- the states between the parts of a snapshot
-pub record Chain (s : Server) (guids : List (ℕ × ℕ)) (t o q r g : Server) : Type 0 where
-  pub walked : Walked s (based s) t s.entries
+pub record Chain (s : Server) (stored : ℕ → List ℕ) (guids : List (ℕ × ℕ)) (order : List Entry) (t o q r g : Server) : Type 0 where
+  pub is_order : IsOrderOf order s.entries
+  pub walked : Walked s (based s stored) t order
   pub opened : Opened s t o (persistent_in s.opened s.opens)
   pub at_root : Ranged o q root (ranges_that_stay s (s.ranges root))
-  pub at_files : AllRanged s q r s.entries
+  pub at_files : AllRanged s q r order
   pub guids_are : Expired r g guids
 
-chain_over : (s : Server) (guids : List (ℕ × ℕ)) (t o q r g : Server) → Chain s guids t o q r g
+pub chain_over : (s : Server) (stored : ℕ → List ℕ) (guids : List (ℕ × ℕ)) (order : List Entry) (t o q r g : Server) → Chain s stored guids order t o q r g
     → g ≡ record o { ranges = g.ranges; expired_guids = g.expired_guids; expired_count = g.expired_count }
-chain_over s guids t o q r g c =
+chain_over s stored guids order t o q r g c =
     c.guids_are.is
     ∙ ap (λ (x : Server). record x { expired_guids = g.expired_guids; expired_count = g.expired_count }) (c.at_files.is
     ∙ ap (λ (x : Server). record x { ranges = r.ranges }) c.at_root.is)
     ∙ ap (λ (k : ℕ → List Range). record o { ranges = k; expired_guids = g.expired_guids; expired_count = g.expired_count })
     (sym (ap (λ (x : Server). x.ranges) c.guids_are.is))
 
-chain_ranges : (s : Server) (guids : List (ℕ × ℕ)) (t o q r g : Server) → Chain s guids t o q r g → Fits s → (f : ℕ)
+chain_ranges : (s : Server) (stored : ℕ → List ℕ) (guids : List (ℕ × ℕ)) (order : List Entry) (t o q r g : Server) → Chain s stored guids order t o q r g → Fits s → (f : ℕ)
     → g.ranges f ≡ ranges_that_stay s (s.ranges f)
 unfolding exists ranges_that_stay
-chain_ranges s guids t o q r g c i f =
+chain_ranges s stored guids order t o q r g c i f =
     ap (λ (x : Server). x.ranges f) c.guids_are.is ∙ by (f == root) refl (exists_in s.entries f) refl
   where
     empty : (f : ℕ) → o.ranges f ≡ []
@@ -71,21 +73,21 @@ chain_ranges s guids t o q r g c i f =
     by true e k n =
         let z : f ≡ root = eqb-true f root e in
         subst (λ (y : ℕ). r.ranges y ≡ ranges_that_stay s (s.ranges y)) (sym z)
-        (c.at_files.other root (no_root s i) ∙ c.at_root.here
+        (c.at_files.other root (c.is_order.there root ∙ no_root s i) ∙ c.at_root.here
         ∙ ap (λ (v : List Range). v ++ ranges_that_stay s (s.ranges root)) (ap (λ (x : Server). x.ranges root) c.opened.is
         ∙ c.walked.unlocked root refl))
     by false e true n =
-        c.at_files.here f n
+        c.at_files.here f (c.is_order.there f ∙ n)
         ∙ ap (λ (v : List Range). v ++ ranges_that_stay s (s.ranges f)) (c.at_root.other f e ∙ ap (λ (x : Server). x.ranges f) c.opened.is
         ∙ c.walked.unlocked f refl)
     by false e false n =
         let gone : exists s f ≡ false = grind arith in
-        c.at_files.other f n ∙ c.at_root.other f e ∙ ap (λ (x : Server). x.ranges f) c.opened.is ∙ c.walked.unlocked f refl
+        c.at_files.other f (c.is_order.there f ∙ n) ∙ c.at_root.other f e ∙ ap (λ (x : Server). x.ranges f) c.opened.is ∙ c.walked.unlocked f refl
         ∙ ap (λ (v : List Range). ranges_that_stay s v) (sym (no_ranges s f i gone))
 
-chain_opens : (s : Server) (guids : List (ℕ × ℕ)) (t o q r g : Server) → Chain s guids t o q r g → Fits s → OpensKept g s
-chain_opens s guids t o q r g c i =
-    let over = chain_over s guids t o q r g c in
+chain_opens : (s : Server) (stored : ℕ → List ℕ) (guids : List (ℕ × ℕ)) (order : List Entry) (t o q r g : Server) → Chain s stored guids order t o q r g → Fits s → OpensKept g s
+chain_opens s stored guids order t o q r g c i =
+    let over = chain_over s stored guids order t o q r g c in
     record {
       opens = ap (λ (x : Server). x.opens) over ∙ c.opened.opens;
       standing = λ p. ap (λ (x : Server). x.standing p) over ∙ c.opened.standing p ∙ stay_listed s i p;
@@ -93,15 +95,15 @@ chain_opens s guids t o q r g c i =
       lock_sequences = λ p j h a l. ap (λ (x : Server). x.lock_sequences p j) over ∙ c.opened.slots p j (stay_listed s i p ∙ h) a l;
       by_guid = λ a b. ap (λ (x : Server). x.by_guid a b) over ∙ c.opened.guids a b
           ∙ told_stays s (persistent_in s.opened s.opens) (stay_listed s i) (s.by_guid a b);
-      ranges = chain_ranges s guids t o q r g c i;
+      ranges = chain_ranges s stored guids order t o q r g c i;
     }
 
 -- nothing but files, opens, ranges and guids was changed behind the numbers
-chain_apart : (s : Server) (guids : List (ℕ × ℕ)) (t o q r g : Server) → Chain s guids t o q r g
+pub chain_apart : (s : Server) (stored : ℕ → List ℕ) (guids : List (ℕ × ℕ)) (order : List Entry) (t o q r g : Server) → Chain s stored guids order t o q r g
     → (g.version ≡ s.version) × (g.epoch ≡ s.epoch) × (g.open_ids_given ≡ s.open_ids_given) × (g.room ≡ 1125899906842624)
     × ((c k : ℕ) → r.expired_guids c k ≡ false) × (r.expired_count ≡ 0)
-chain_apart s guids t o q r g c =
-    let over = chain_over s guids t o q r g c in
+chain_apart s stored guids order t o q r g c =
+    let over = chain_over s stored guids order t o q r g c in
     let back : r ≡ record o { ranges = r.ranges } = c.at_files.is ∙ ap (λ (x : Server). record x { ranges = r.ranges }) c.at_root.is in (
       ap (λ (x : Server). x.version) over ∙ ap (λ (x : Server). x.version) c.opened.is ∙ ap (λ (x : Server). x.version) c.walked.is,
       ap (λ (x : Server). x.epoch) over ∙ ap (λ (x : Server). x.epoch) c.opened.is ∙ ap (λ (x : Server). x.epoch) c.walked.is,
@@ -114,9 +116,9 @@ chain_apart s guids t o q r g c =
           ∙ ap (λ (x : Server). x.expired_count) c.walked.is,
     )
 
-chain_counts : (s : Server) (guids : List (ℕ × ℕ)) (t o q r g : Server) → Chain s guids t o q r g → Fits s → ListsGuids s guids → CountsKept g s
-chain_counts s guids t o q r g c fits l =
-    let apart = chain_apart s guids t o q r g c in
+chain_counts : (s : Server) (stored : ℕ → List ℕ) (guids : List (ℕ × ℕ)) (order : List Entry) (t o q r g : Server) → Chain s stored guids order t o q r g → Fits s → ListsGuids s guids → CountsKept g s
+chain_counts s stored guids order t o q r g c fits l =
+    let apart = chain_apart s stored guids order t o q r g c in
     record {
       version = apart.0;
       epoch = apart.1;
@@ -134,19 +136,33 @@ chain_counts s guids t o q r g c fits l =
     zero_more n = omega arith
 
 -- the states that the parts of a snapshot lead to, one behind the other
-pub chained : (s : Server) (held : ℕ → FileBytes) (guids : List (ℕ × ℕ)) → Fits s → FilesAscend s → TellsBytes s held
-    → (t : Server) × (o : Server) × (q : Server) × (r : Server) × (g : Server) × Chain s guids t o q r g
-    × (unfolded (snapshot s held guids) s.stored ≡ g)
-unfolding with_pieces
-chained s held guids i ascend told =
+abbrev pub told_files : Server → (ℕ → List ℕ) → (ℕ → FileBytes) → List Entry → Server
+told_files s stored held order = with_pieces (based s stored) (file_pieces s held order)
+
+abbrev pub told_opens : Server → (ℕ → List ℕ) → (ℕ → FileBytes) → List Entry → Server
+told_opens s stored held order = with_pieces (told_files s stored held order) (open_pieces s (persistent_in s.opened s.opens))
+
+abbrev pub told_root : Server → (ℕ → List ℕ) → (ℕ → FileBytes) → List Entry → Server
+told_root s stored held order = with_pieces (told_opens s stored held order) (range_pieces (ranges_that_stay s (s.ranges root)))
+
+abbrev pub told_ranges : Server → (ℕ → List ℕ) → (ℕ → FileBytes) → List Entry → Server
+told_ranges s stored held order = with_pieces (told_root s stored held order) (all_range_pieces s order)
+
+abbrev pub told_guids : Server → (ℕ → List ℕ) → (ℕ → FileBytes) → List Entry → List (ℕ × ℕ) → Server
+told_guids s stored held order guids = with_pieces (told_ranges s stored held order) (guid_pieces guids)
+
+pub chained : (s : Server) (stored : ℕ → List ℕ) (held : ℕ → FileBytes) (guids : List (ℕ × ℕ)) (order : List Entry) → Fits s → FilesAscend s
+    → TellsBytes (record s { stored = stored }) held → IsOrderOf order s.entries
+    → Chain s stored guids order (told_files s stored held order) (told_opens s stored held order) (told_root s stored held order)
+    (told_ranges s stored held order) (told_guids s stored held order guids)
+chained s stored held guids order i ascend told n =
     let os : List ℕ = persistent_in s.opened s.opens in
-    let t : Server = with_pieces (based s) (file_pieces s held s.entries) in
-    let o : Server = with_pieces t (open_pieces s os) in
-    let q : Server = with_pieces o (range_pieces (ranges_that_stay s (s.ranges root))) in
-    let r : Server = with_pieces q (all_range_pieces s s.entries) in
-    let g : Server = with_pieces r (guid_pieces guids) in
-    let w : Walked s (based s) t s.entries = files_walked s held i ascend told in
-    let p : Opened s t o os = opened_all s t t [] os (first_opened s t s.entries w) i w.entries (λ x h. sym (stay_listed s i x) ∙ h)
+    let t : Server = told_files s stored held order in
+    let o : Server = told_opens s stored held order in
+    let q : Server = told_root s stored held order in
+    let w : Walked s (based s stored) t order = files_walked s stored held order i told n in
+    let p : Opened s t o os = opened_all s t t [] os (first_opened s stored t order w) i (walked_entries s stored t order ascend n w)
+    (λ x h. sym (stay_listed s i x) ∙ h)
     (ascending_persistent s.opened s.opens i.ascending) (λ x h. absurd (cc)) in
     let stands : (x : ℕ) → stays s x ≡ true → (o.standing x ≡ true) × (file_in o x ≡ (s.opened x).file) = λ x h.
     (p.standing x ∙ stay_listed s i x ∙ h, ap (λ (y : _). y.file) (p.opened x (stay_listed s i x ∙ h))) in
@@ -154,32 +170,43 @@ chained s held guids i ascend told =
     ranged o root (ranges_that_stay s (s.ranges root)) (stay_owned s o root (s.ranges root) (i.range_owners root) stands) in
     let kept : (x : ℕ) → stays s x ≡ true → (q.standing x ≡ true) × (file_in q x ≡ (s.opened x).file) = λ x h.
     (ap (λ (y : Server). y.standing x) m.is ∙ (stands x h).0, ap (λ (y : Server). file_in y x) m.is ∙ (stands x h).1) in
-    let c : Chain s guids t o q r g = record {
+    record {
+      is_order = n;
       walked = w;
       opened = p;
       at_root = m;
-      at_files = all_ranged s q s.entries i ascend kept;
-      guids_are = expired r guids;
-    } in
-    let whole : unfolded (snapshot s held guids) s.stored ≡ g =
-    behind_both (based s) (file_pieces s held s.entries) (behind_files s guids)
-    ∙ behind_both t (open_pieces s os) _
-    ∙ behind_both o (range_pieces (ranges_that_stay s (s.ranges root))) _
-    ∙ behind_both q (all_range_pieces s s.entries) (guid_pieces guids) in
-    (t, o, q, r, g, c, whole)
-
-pub snapshot_keeps : (s : Server) (held : ℕ → FileBytes) (guids : List (ℕ × ℕ)) → SnapshotKeeps s held guids
-snapshot_keeps s held guids i ascend told lists =
-    let x = chained s held guids i ascend told in
-    record {
-      files = files_kept s held guids i ascend told;
-      opens = subst (λ (y : Server). OpensKept y s) (sym x.6) (chain_opens s guids x.0 x.1 x.2 x.3 x.4 x.5 i);
-      counts = subst (λ (y : Server). CountsKept y s) (sym x.6) (chain_counts s guids x.0 x.1 x.2 x.3 x.4 x.5 i lists);
+      at_files = all_ranged s q order i n.once kept;
+      guids_are = expired (told_ranges s stored held order) guids;
     }
 
+all_told : (s : Server) (stored : ℕ → List ℕ) (held : ℕ → FileBytes) (guids : List (ℕ × ℕ)) (order : List Entry)
+    → unfolded (snapshot_in s held guids order) stored ≡ told_guids s stored held order guids
+unfolding with_pieces
+all_told s stored held guids order =
+    behind_both (based s stored) (file_pieces s held order) (behind_files s guids order)
+    ∙ behind_both (told_files s stored held order) (open_pieces s (persistent_in s.opened s.opens)) _
+    ∙ behind_both (told_opens s stored held order) (range_pieces (ranges_that_stay s (s.ranges root))) _
+    ∙ behind_both (told_root s stored held order) (all_range_pieces s order) (guid_pieces guids)
+
+pub order_keeps : (s : Server) (stored : ℕ → List ℕ) (held : ℕ → FileBytes) (guids : List (ℕ × ℕ)) (order : List Entry) → Fits s
+    → FilesAscend s → TellsBytes (record s { stored = stored }) held → ListsGuids s guids → IsOrderOf order s.entries
+    → Keeps (unfolded (snapshot_in s held guids order) stored) s
+order_keeps s stored held guids order i ascend told lists n =
+    let x = chained s stored held guids order i ascend told n in
+    let whole = sym (all_told s stored held guids order) in
+    record {
+      files = files_kept s stored held guids order i ascend told n;
+      opens = subst (λ (y : Server). OpensKept y s) whole (chain_opens s stored guids order _ _ _ _ _ x i);
+      counts = subst (λ (y : Server). CountsKept y s) whole (chain_counts s stored guids order _ _ _ _ _ x i lists);
+    }
+
+pub snapshot_keeps : (s : Server) (held : ℕ → FileBytes) (guids : List (ℕ × ℕ)) → SnapshotKeeps s held guids
+snapshot_keeps s held guids i ascend told lists = order_keeps s s.stored held guids s.entries i ascend told lists (order_itself s.entries ascend)
+
 -- it gives as many ids of opens as the server did
-pub snapshot_given : (s : Server) (held : ℕ → FileBytes) (guids : List (ℕ × ℕ)) → Fits s → FilesAscend s → TellsBytes s held
-    → (unfolded (snapshot s held guids) s.stored).open_ids_given ≡ s.open_ids_given
-snapshot_given s held guids i ascend told =
-    let x = chained s held guids i ascend told in
-    ap (λ (y : Server). y.open_ids_given) x.6 ∙ (chain_apart s guids x.0 x.1 x.2 x.3 x.4 x.5).2
+pub order_given : (s : Server) (stored : ℕ → List ℕ) (held : ℕ → FileBytes) (guids : List (ℕ × ℕ)) (order : List Entry) → Fits s
+    → FilesAscend s → TellsBytes (record s { stored = stored }) held → IsOrderOf order s.entries
+    → (unfolded (snapshot_in s held guids order) stored).open_ids_given ≡ s.open_ids_given
+order_given s stored held guids order i ascend told n =
+    ap (λ (y : Server). y.open_ids_given) (all_told s stored held guids order)
+    ∙ (chain_apart s stored guids order _ _ _ _ _ (chained s stored held guids order i ascend told n)).2

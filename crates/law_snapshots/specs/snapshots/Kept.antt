@@ -1,10 +1,11 @@
 -- What a snapshot keeps of a state, and what it is made with.
-use Rattle.std.specs.Prelude.{◌≡◌, ℕ, ◌+◌, ◌<◌, ◌≤◌, ◌==◌, Bool, true, false, if◌then◌else◌, List, [], ◌∷◌, ◌++◌, length}
+use Rattle.std.specs.Prelude.{◌≡◌, ℕ, ◌+◌, ◌<◌, ◌≤◌, ◌==◌, Bool, true, false, not, ◌&&◌, if◌then◌else◌, List, [], ◌∷◌, ◌++◌, length}
+use Rattle.spec_exchange.specs.Table.{has}
 use Rattle.spec_exchange.specs.Commands.{Basic}
 use Rattle.spec_exchange.specs.State.{Server, Entry}
-use Rattle.spec_exchange.specs.Files.{root, exists_in}
+use Rattle.spec_exchange.specs.Files.{root, exists_in, path_in}
 use Rattle.spec_exchange.specs.Fold.{full_room, persistent_in, stays, stays_by_guid, ranges_that_stay}
-use Rattle.law_records.specs.fold.Order.{FilesAscend}
+use Rattle.law_records.specs.fold.Order.{FilesAscend, numbers}
 use Rattle.law_server.specs.tables.Fits.{Fits}
 use Rattle.law_snapshots.specs.snapshots.Pieces.{FileBytes, Patch, shown, snapshot, unfolded}
 
@@ -65,6 +66,17 @@ has_pair c g (p ∷ ps) = if p.0 == c then (if p.1 == g then true else has_pair 
 pub record ListsGuids (s : Server) (guids : List (ℕ × ℕ)) : Type 0 where
   pub each : (c g : ℕ) → s.expired_guids c g ≡ has_pair c g guids
   pub count : length guids ≡ s.expired_count
+
+-- no number stands twice
+unfoldable pub are_distinct : List ℕ → Bool
+are_distinct [] = true
+are_distinct (n ∷ ns) = not (has n ns) && are_distinct ns
+
+-- the same files at the same paths, each once, in any order
+pub record IsOrderOf (order entries : List Entry) : Type 0 where
+  pub there : (f : ℕ) → exists_in order f ≡ exists_in entries f
+  pub paths : (f : ℕ) → exists_in entries f ≡ true → path_in order f ≡ path_in entries f
+  pub once : are_distinct (numbers order) ≡ true
 
 -- a snapshot stands for the part of a state that outlives a restart
 abbrev pub SnapshotKeeps : Server → (ℕ → FileBytes) → List (ℕ × ℕ) → Type 0

@@ -153,8 +153,12 @@ abbrev pub base_piece : Server → SnapshotPiece
 base_piece s = BasePiece s.version s.epoch s.open_ids_given s.next_file (s.basic root)
 
 -- what a server writes down in the place of all its records: its files with their bytes, its persistent opens with their slots and
--- ranges, and the guids of expired ones
-abbrev pub snapshot : Server → (ℕ → FileBytes) → List (ℕ × ℕ) → List SnapshotPiece
-snapshot s held guids = base_piece s ∷ (file_pieces s held s.entries
+-- ranges, and the guids of expired ones; the files, and what is locked of them, in this order
+abbrev pub snapshot_in : Server → (ℕ → FileBytes) → List (ℕ × ℕ) → List Entry → List SnapshotPiece
+snapshot_in s held guids order = base_piece s ∷ (file_pieces s held order
     ++ (open_pieces s (persistent_in s.opened s.opens)
-    ++ (range_pieces (ranges_that_stay s (s.ranges root)) ++ (all_range_pieces s s.entries ++ guid_pieces guids))))
+    ++ (range_pieces (ranges_that_stay s (s.ranges root)) ++ (all_range_pieces s order ++ guid_pieces guids))))
+
+-- the same in the order of the files' numbers
+abbrev pub snapshot : Server → (ℕ → FileBytes) → List (ℕ × ℕ) → List SnapshotPiece
+snapshot s held guids = snapshot_in s held guids s.entries

@@ -27,12 +27,12 @@ unfolding path_at
 path_added [] e f n = grind (arith, common_steps)
 path_added (x ∷ xs) e f n = let h = path_added xs e f in grind (arith, common_steps)
 
-key_differs : (x e : Entry) (xs : List Entry) → at_key (x ∷ xs) (folded e.path) ≡ None
+pub key_differs : (x e : Entry) (xs : List Entry) → at_key (x ∷ xs) (folded e.path) ≡ None
     → (bytes_eq (folded e.path) (folded x.path) ≡ false) × (at_key xs (folded e.path) ≡ None)
 unfolding at_key
 key_differs x e xs n = let t = bytes_turned (folded e.path) (folded x.path) in grind (arith, common_steps)
 
-number_differs : (x e : Entry) (xs : List Entry) → path_at (x ∷ xs) e.file ≡ None → ((x.file == e.file) ≡ false)
+pub number_differs : (x e : Entry) (xs : List Entry) → path_at (x ∷ xs) e.file ≡ None → ((x.file == e.file) ≡ false)
     × (path_at xs e.file ≡ None)
 unfolding path_at
 number_differs x e xs n = grind (arith, common_steps)

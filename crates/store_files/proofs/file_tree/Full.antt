@@ -9,9 +9,9 @@ use Rattle.spec_exchange.specs.Texts.{is_below}
 use Rattle.spec_exchange.specs.Files.{exists, exists_in, is_directory, path_of, path_in, has_below, is_full_directory}
 use Rattle.store_files.specs.declared.file_tree.row.Row.{Row}
 use Rattle.store_files.specs.file_tree.Shown.{FileRowFound, RowOrRoot, path_at, at_key, folded, FileApart}
-use Rattle.store_files.proofs.file_tree.Keys.{path_is}
+use Rattle.store_files.proofs.file_tree.Keys.{path_is, exists_is}
 use Rattle.store_files.proofs.file_tree.Entries.{key_of_path}
-use Rattle.store_files.proofs.file_tree.Found.{found_directory, found_path}
+use Rattle.store_files.proofs.file_tree.Found.{found_directory, found_path, none_found, zero}
 
 not_empty : (p : List ℕ) (f : ℕ) (o : Option ℕ) → (if bytes_eq (folded p) [] then Some f else o) ≡ None → is_below [] p ≡ true
 unfolding is_below same_bytes
@@ -57,6 +57,22 @@ row_filled s f r a n z h = by (f == 0) z h
 pub there_in : (s : model.Server) (f : ℕ) → (f == 0) ≡ false → exists s f ≡ true → exists_in s.entries f ≡ true
 unfolding exists
 there_in s f z e = grind (arith, common_steps)
+
+pub in_there : (s : model.Server) (f : ℕ) → exists_in s.entries f ≡ true → exists s f ≡ true
+unfolding exists
+in_there s f e = rw e (either (f == 0))
+  where
+    either : (b : Bool) → (b || true) ≡ true
+    either true = refl
+    either false = refl
+
+-- what has an entry is not the root
+pub there_apart : (s : model.Server) (f : ℕ) → path_at s.entries 0 ≡ None → exists_in s.entries f ≡ true → (f == 0) ≡ false
+there_apart s f n e = by (f == 0) refl
+  where
+    by : (b : Bool) → (f == 0) ≡ b → b ≡ false
+    by false z = refl
+    by true z = sym (none_found (path_at s.entries 0) n (sym (exists_is s.entries 0) ∙ (ap (exists_in s.entries) (sym (zero f z)) ∙ e)))
 
 -- a directory that may go has nothing below it
 pub not_full : (s : model.Server) (f : ℕ) (p : List ℕ) → path_at s.entries f ≡ Some p → is_full_directory s f ≡ false

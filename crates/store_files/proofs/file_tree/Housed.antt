@@ -6,11 +6,10 @@ use Rattle.std.proofs.lemmas.Bool.Decides.{nat_tests}
 use Rattle.std.specs.Str.{bytes_eq}
 use Rattle.std.specs.Char.{to_ascii_uppercase}
 use Rattle.spec_exchange.specs.State.{Server, Entry}
-use Rattle.spec_exchange.specs.Commands.{path_form}
 use Rattle.spec_exchange.specs.Texts.{parent_of, begins_with_backslash}
 use Rattle.spec_exchange.specs.Files.{find, has_parent, is_directory, is_found_directory, exists_in, has_below, without_file}
 use Rattle.store_files.specs.file_tree.Shown.{folded, at_key, path_at, FileApart, IsHouse}
-use Rattle.store_files.proofs.file_tree.Entries.{bytes_same, key_of_path, key_added, key_gone}
+use Rattle.store_files.proofs.file_tree.Entries.{bytes_same, key_of_path, key_gone}
 use Rattle.store_files.specs.file_tree.Keys.{key_begins}
 use Rattle.store_files.proofs.file_tree.Keys.{find_other, exists_is}
 use Rattle.store_files.proofs.file_tree.Found.{key_there, none_found}
@@ -60,8 +59,8 @@ slash_folded (c ∷ cs) = let h = slash_folded cs in let s : (to_ascii_uppercase
 
 -- ---- a new path
 
-no_front : (l : List ℕ) → path_form (92 ∷ l) ≡ None → true ≡ false
-unfolding path_form begins_with_backslash
+no_front : (l : List ℕ) → begins_with_backslash (92 ∷ l) ≡ false → true ≡ false
+unfolding begins_with_backslash
 no_front l e = absurd (cc)
 
 -- a number that no entry has is named by no key
@@ -75,7 +74,7 @@ absent_number es q f n z e = by (f == n) refl
         let there = key_there es q f e in
         sym (none_found (path_at es n) z (sym (exists_is es n) ∙ ap (exists_in es) (sym same) ∙ there))
 
--- the directory of a path that may be made is there
+-- the directory of such a path is there
 pub parent_house : (s : Server) (d : List ℕ) → path_at s.entries 0 ≡ None → (length d == 0) ≡ false
     → is_found_directory s (find s d) ≡ true → IsHouse (at_key s.entries (folded d)) s.directory
 unfolding is_found_directory is_directory
@@ -99,14 +98,15 @@ filled_folded [] [] m e = absurd (cc)
 filled_folded [] (x ∷ xs) m e = absurd (cc)
 filled_folded (c ∷ cs) a m e = grind arith
 
-filled_front : (p d l : List ℕ) → path_form p ≡ None → p ≡ d ++ 92 ∷ l → (length d == 0) ≡ false
-filled_front p [] l f e = absurd (let x = no_front l (ap path_form (sym e) ∙ f) in cc)
+filled_front : (p d l : List ℕ) → begins_with_backslash p ≡ false → p ≡ d ++ 92 ∷ l → (length d == 0) ≡ false
+filled_front p [] l f e = absurd (let x = no_front l (ap begins_with_backslash (sym e) ∙ f) in cc)
 filled_front p (c ∷ cs) l f e = grind arith
 
--- each directory above a path that may be made is there
+-- each directory above such a path is there
 pub ancestor_house : (s : Server) (p : List ℕ) → path_at s.entries 0 ≡ None
     → ((a b : List ℕ) → is_some (at_key s.entries (a ++ 92 ∷ b)) ≡ true → IsHouse (at_key s.entries a) s.directory)
-    → path_form p ≡ None → has_parent s p ≡ true → (a b : List ℕ) → folded p ≡ a ++ 92 ∷ b → IsHouse (at_key s.entries a) s.directory
+    → begins_with_backslash p ≡ false → has_parent s p ≡ true → (a b : List ℕ) → folded p ≡ a ++ 92 ∷ b
+    → IsHouse (at_key s.entries a) s.directory
 unfolding has_parent
 ancestor_house s p z old form parent a b e =
     let slash : has_slash p ≡ true = sym (slash_folded p) ∙ (ap has_slash e ∙ has_slash_in a b) in
@@ -138,30 +138,29 @@ no_house : (o : Option ℕ) (directory : ℕ → Bool) (b : Bool) → o ≡ None
 no_house None directory b e h = absurd h
 no_house (Some f) directory b e h = absurd (cc)
 
-pub housed_made : (s : Server) (p : List ℕ) (dir : Bool) → path_at s.entries 0 ≡ None → path_at s.entries s.next_file
+-- behind a new file at a number that no entry has, whose path has its directory
+pub housed_made : (s : Server) (more : List Entry) (n : ℕ) (p : List ℕ) (dir : Bool) → path_at s.entries 0 ≡ None → path_at s.entries n
     ≡ None → at_key s.entries (folded p) ≡ None
     → ((a b : List ℕ) → is_some (at_key s.entries (a ++ 92 ∷ b)) ≡ true → IsHouse (at_key s.entries a) s.directory)
-    → path_form p ≡ None → has_parent s p ≡ true
-    → (a b : List ℕ) → is_some (at_key (s.entries ++ record { file = s.next_file; path = p } ∷ []) (a ++ 92 ∷ b)) ≡ true
-    → IsHouse (at_key (s.entries ++ record { file = s.next_file; path = p } ∷ []) a) (λ f. if f == s.next_file then dir else s.directory f)
-housed_made s p dir z m free old form parent a b there = rw (key_added s.entries new a free) (put (bytes_eq (folded p) a) refl)
+    → begins_with_backslash p ≡ false → has_parent s p ≡ true
+    → ((q : List ℕ) → at_key more q ≡ (if bytes_eq (folded p) q then Some n else at_key s.entries q))
+    → (a b : List ℕ) → is_some (at_key more (a ++ 92 ∷ b)) ≡ true
+    → IsHouse (at_key more a) (λ f. if f == n then dir else s.directory f)
+housed_made s more n p dir z m free old form parent keys a b there = rw (keys a) (put (bytes_eq (folded p) a) refl)
   where
-    new : Entry
-    new = record { file = s.next_file; path = p }
-
     house : (c : Bool) → bytes_eq (folded p) (a ++ 92 ∷ b) ≡ c
-        → is_some (if c then Some s.next_file else at_key s.entries (a ++ 92 ∷ b)) ≡ true → IsHouse (at_key s.entries a)
+        → is_some (if c then Some n else at_key s.entries (a ++ 92 ∷ b)) ≡ true → IsHouse (at_key s.entries a)
         s.directory
     house true e t = ancestor_house s p z old form parent a b (bytes_same (folded p) (a ++ 92 ∷ b) e)
     house false e t = old a b t
 
     above : IsHouse (at_key s.entries a) s.directory
-    above = house (bytes_eq (folded p) (a ++ 92 ∷ b)) refl (ap is_some (sym (key_added s.entries new (a ++ 92 ∷ b) free)) ∙ there)
+    above = house (bytes_eq (folded p) (a ++ 92 ∷ b)) refl (ap is_some (sym (keys (a ++ 92 ∷ b))) ∙ there)
 
-    put : (c : Bool) → bytes_eq (folded p) a ≡ c → IsHouse (if c then Some s.next_file else at_key s.entries a)
-        (λ f. if f == s.next_file then dir else s.directory f)
+    put : (c : Bool) → bytes_eq (folded p) a ≡ c → IsHouse (if c then Some n else at_key s.entries a)
+        (λ f. if f == n then dir else s.directory f)
     put true e = no_house (at_key s.entries a) s.directory _ (ap (at_key s.entries) (sym (bytes_same (folded p) a e)) ∙ free) above
-    put false e = house_more s.entries a (at_key s.entries a) s.directory s.next_file dir m refl above
+    put false e = house_more s.entries a (at_key s.entries a) s.directory n dir m refl above
 
 begins_front : (a b : List ℕ) → key_begins (a ++ 92 ∷ []) (a ++ 92 ∷ b) ≡ true
 unfolding key_begins

@@ -18,6 +18,7 @@ use Rattle.store_files.proofs.file_tree.Entries.{bytes_same, key_of_path, key_go
 use Rattle.store_files.proofs.file_tree.Keys.{find_other}
 use Rattle.store_files.proofs.file_tree.Full.{path_filled}
 use Rattle.store_files.proofs.file_tree.Below.{below_is}
+use Rattle.store_files.proofs.file_tree.Plain.{made_front}
 use Rattle.store_files.proofs.file_tree.Housed.{ancestor_house, housed_gone}
 use Rattle.store_files.proofs.file_tree.Fronts.{folded_moved}
 use Rattle.store_files.proofs.file_tree.Carried.{after_front, front_back, moved_in, moved_out}
@@ -166,7 +167,7 @@ module _ (s : Server) (f : ℕ) (old to : List ℕ) (apart : FileApart s.entries
       by r e (inr h) =
           let k : folded to ≡ folded old ++ 92 ∷ h.0 = e ∙ ap (λ (q : List ℕ). folded old ++ q) h.1 in
           let house = house_of (at_key s.entries (folded old)) s.directory f own
-          (ancestor_house s to zero housed form parent (folded old) h.0 k) in
+          (ancestor_house s to zero housed (made_front to form) parent (folded old) h.0 k) in
           let lies : is_below old to ≡ true = below_is old to filled
           ∙ (ap (key_begins (below_key old)) (k ∙ sym (append_assoc (folded old) (92 ∷ []) h.0))
           ∙ begins_append (below_key old) h.0) in
@@ -365,7 +366,7 @@ module _ (s : Server) (f : ℕ) (old to : List ℕ) (apart : FileApart s.entries
   -- a directory above the new path stays where it is
   above : (a l : List ℕ) → folded to ≡ a ++ 92 ∷ l → IsHouse (at_key (moved_entries old to left) a) s.directory
   above a l e = rw (without_new a outside_new, not_here (name_within (after_key (folded old) a)) not_old, kept a differs)
-      (ancestor_house s to zero housed form parent a l e)
+      (ancestor_house s to zero housed (made_front to form) parent a l e)
     where
       shorter : (m : List ℕ) → a ≡ folded to ++ m → false ≡ true
       shorter [] z = no_longer a l 92 (z ∙ (append-nil (folded to) ∙ e))

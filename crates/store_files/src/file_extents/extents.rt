@@ -17,8 +17,8 @@ use std::collections::BTreeMap;
 pub struct Extents {
     // Ordered, since each look-up asks for the piece at or before a place. Each piece is owned, because sharing would
     // look no different to a caller.
-    pieces: BTreeMap<u64, Vec<u8>>,
-    len: u64,
+    pub(crate) pieces: BTreeMap<u64, Vec<u8>>,
+    pub(crate) len: u64,
     held: u64,
     alloc: Global,
 }

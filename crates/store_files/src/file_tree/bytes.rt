@@ -5,7 +5,7 @@ ghost use Rattle.std.specs.Prelude.{OnOk, IfOk, IfSome, IfNone, IsSome, IsOk, Ma
 ghost use Rattle.std.specs.HashMap.{get, hash_map_len};
 ghost use Rattle.spec_exchange.specs.State.{Server};
 ghost use Rattle.spec_exchange.specs.Content.{written, ended, same_bytes, past_end, Read};
-ghost use Rattle.spec_exchange.specs.Files.{exists, is_directory, passes_room, used, touched, set_content, empty_file};
+ghost use Rattle.spec_exchange.specs.Files.{exists, exists_in, is_directory, passes_room, used, touched, set_content, empty_file};
 ghost use Rattle.store_files.specs.file_extents.Kept.{IsContent};
 ghost use Rattle.store_files.specs.file_extents.Ready.{IsPieceReady};
 ghost use Rattle.store_files.specs.file_tree.Shown.{ShowsFiles};
@@ -35,7 +35,7 @@ pub struct NewBytes {
 }
 
 // Takes the memory for a write into a row's bytes, which stay as they are.
-fn prepare_row(
+pub(crate) fn prepare_row(
     rows: &mut HashMap<u64, Row>,
     file: u64,
     at: u64,
@@ -144,8 +144,8 @@ impl Tree {
         (others as u128 + size > self.room() as u128) & (size > length as u128)
     }
 
-    // The number of bytes of a file.
-    fn length(&self, file: u64) -> u64
+    /// The number of bytes of a file.
+    pub fn length(&self, file: u64) -> u64
         ensures { (s : Server) → ShowsFiles self.now s → exists s file ≡ true → result ≡ length (s.content file) }
     {
         self.info(file).length
@@ -235,9 +235,9 @@ impl Tree {
     }
 
     // Does a prepared write, and leaves the times as they are.
-    fn put_bytes(&mut self, new: NewBytes, bytes: &[u8])
-        ensures shown { (s : Server) (file at : ℕ) → ShowsFiles self.old s → CanWrite self.old new file at bytes.now → exists s file ≡ true
-            → is_directory s file ≡ false → passes_room s file (at + length bytes.now) ≡ false
+    pub(crate) fn put_bytes(&mut self, new: NewBytes, bytes: &[u8])
+        ensures shown { (s : Server) (file at : ℕ) → ShowsFiles self.old s → CanWrite self.old new file at bytes.now
+            → exists_in s.entries file ≡ true → passes_room s file (at + length bytes.now) ≡ false
             → ShowsFiles self.new (with_content s file (written at bytes.now (s.content file))) }
         ensures held { self.new.held ≤ self.old.held + length bytes.now }
     {

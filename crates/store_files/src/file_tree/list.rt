@@ -426,8 +426,8 @@ fn take_child(
     }
 }
 
-// The name of a path: the part behind its last `\`.
-fn leaf_of(path: &str) -> &str
+/// The name of a path: the part behind its last `\`.
+pub fn leaf_of(path: &str) -> &str
     ensures { result.now ≡ leaf_of path.now }
 {
     match path.rsplit_once('\\') {

@@ -44,7 +44,8 @@ pub struct NewFile {
     pub(crate) row: Row,
 }
 
-fn new_row(
+// The row of a new file or directory, without bytes.
+pub fn new_row(
     alloc: Global,
     path: &str,
     directory: bool,

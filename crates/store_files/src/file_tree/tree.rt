@@ -102,6 +102,16 @@ impl Tree {
         }
     }
 
+    /// The path of a file or directory that is there, as its row has it.
+    pub fn text(&self, file: u64) -> Option<&Text>
+        ensures { (s : Server) → ShowsFiles self.now s → exists s file ≡ true → option_copied result ≡ Some (path_of s file) }
+    {
+        match self.row(file) {
+            Some(row) => return Some(&row.path),
+            None => return None,
+        }
+    }
+
     /// What is known of a file or directory that is there.
     pub fn info(&self, file: u64) -> Info
         ensures { (s : Server) → ShowsFiles self.now s → exists s file ≡ true → model_info result ≡ info_of s file }

@@ -64,9 +64,9 @@ fn is_plain(byte: u8) -> bool
             || byte == 124)
 }
 
-// A component: not empty, not `.` and not `..`.
+/// A component: not empty, not `.` and not `..`.
 #[tactic(auto, unfolding(spec_exchange::specs::Texts::is_component))]
-fn is_component(name: &[u8]) -> bool
+pub fn is_component(name: &[u8]) -> bool
     ensures { result ≡ is_component name.now }
 {
     !is_same(name, b"") && !is_same(name, b".") && !is_same(name, b"..")
@@ -131,8 +131,9 @@ fn is_path(path: &[u8]) -> bool
     path.is_empty() || units(path) <= 1024 && are_components(path)
 }
 
+/// Whether a path begins with a backslash.
 #[tactic(auto, unfolding(spec_exchange::specs::Texts::begins_with_backslash))]
-fn begins_with_backslash(path: &[u8]) -> bool
+pub fn begins_with_backslash(path: &[u8]) -> bool
     ensures { result ≡ begins_with_backslash path.now }
 {
     match path.first() {

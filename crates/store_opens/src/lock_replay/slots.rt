@@ -34,6 +34,18 @@ impl Slots {
         }
     }
 
+    /// What the slot keeps.
+    pub fn kept(&self, index: u8) -> Option<Kept>
+        requires { (1 ≤ index) × (index ≤ 64) }
+        ensures { (kept : ℕ → Option model.Kept) → SlotsShown self.now kept → result ≡ kept index }
+    {
+        let place = usize::from(index) - 1;
+        match self.items.get(place) {
+            Some(kept) => *kept,
+            None => None,
+        }
+    }
+
     /// The slot keeps this number with its status from now on. It takes no memory.
     pub fn keep(&mut self, index: u8, number: u8, status: u32)
         requires { (1 ≤ index) × (index ≤ 64) }

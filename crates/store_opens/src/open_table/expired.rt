@@ -52,9 +52,19 @@ impl Opens {
             → ShowsOpens self.new (add_expired_guid s client guid) }
     {
         if let Some(guid) = guid {
-            put_guid(&mut self.expired, client, guid);
-            self.expired_count = self.expired_count.saturating_add(1);
+            self.put_expired(client, guid);
         }
+    }
+
+    // Keeps a CreateGuid, where the count has a number for it.
+    pub(crate) fn put_expired(&mut self, client: u128, guid: u128)
+        requires { HasExpiredRoom self.old }
+        ensures rest { self.new ≡ record self.old { expired = self.new.expired; expired_count = self.new.expired_count } }
+        ensures shown { (s : Server) → ShowsOpens self.old s → s.expired_count < 0xffff_ffff
+            → ShowsOpens self.new (add_expired_guid s client (Some guid)) }
+    {
+        put_guid(&mut self.expired, client, guid);
+        self.expired_count = self.expired_count.saturating_add(1);
     }
 
     /// Takes back what `expire_guid` kept last, where `was_kept` tells whether these guids were among the expired ones before.

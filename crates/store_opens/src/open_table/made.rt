@@ -171,7 +171,12 @@ impl Opens {
     }
 
     // A row without a session, room for it, and its id among those that wait for their deadline.
-    fn ready_to_restore(&mut self, id: u64, made: &OpenParts, user: &str) -> Result<Row, AllocError>
+    pub(crate) fn ready_to_restore(
+        &mut self,
+        id: u64,
+        made: &OpenParts,
+        user: &str,
+    ) -> Result<Row, AllocError>
         ensures same { (s : Server) → ShowsOpens self.old s → ShowsOpens self.new s }
         ensures row { IfOk result (λ r. IsRestoredRow r made.now user.now) }
         ensures room { OnOk result (HasOpensRoom self.new) }

@@ -51,7 +51,7 @@ impl Model for Ranges {
 }
 
 impl Ranges {
-    ghost use Rattle.std.specs.Prelude.{◌≡◌, [], None, Some, IfErr, OnOk, MatchResult, filter, not, ◌==◌};
+    ghost use Rattle.std.specs.Prelude.{◌≡◌, [], ◌∷◌, ◌++◌, None, Some, IfErr, OnOk, OnErr, MatchResult, filter, not, ◌==◌};
     ghost use Rattle.store_opens.specs.share_modes.Locking.{lock_outcome, unlock_outcome, Stands, RefusedBy, IsConflict};
     ghost use Rattle.store_opens.specs.share_modes.Locking.{read_conflict, write_conflict};
 
@@ -121,6 +121,17 @@ impl Ranges {
         ensures { self.new ≡ ranges.items }
     {
         self.items = ranges;
+    }
+
+    /// One more range stands behind the others. Where memory runs out they are as before.
+    pub fn push(&mut self, range: Range) -> Result<(), AllocError>
+        ensures ok { OnOk result (self.new ≡ self.old ++ range ∷ []) }
+        ensures err { OnErr result (self.new ≡ self.old) }
+    {
+        match self.items.push(range) {
+            Ok(()) => return Ok(()),
+            Err(_) => return Err(AllocError),
+        }
     }
 
     /// Gives up all ranges of an open. It takes no memory.

@@ -25,7 +25,8 @@ returns-clause-shown c = λ s path directory attributes now p.
           above = omega arith;
           no_root = root_added s.entries s.next_file path m h.no_root h.above;
           no_empty = key_added s.entries entry [] p.free ∙ rw (bytes_filled path p.named) h.no_empty;
-          housed = housed_made s path directory h.no_root m p.free h.housed p.form p.parent;
+          housed = housed_made s _ s.next_file path directory h.no_root m p.free h.housed (made_front path p.form) p.parent
+              (λ q. key_added s.entries entry q p.free);
           plain = plain_added s.entries entry h.plain (made_leaf path p.named p.form) (made_front path p.form);
           root_path = h.root_path;
           root_below = h.root_below;

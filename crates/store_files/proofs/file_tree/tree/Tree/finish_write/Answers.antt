@@ -5,7 +5,8 @@ use Rattle.spec_exchange.specs.Content.{written}
 use Rattle.spec_exchange.specs.Files.{exists, is_directory, passes_room, store_basic, set_content, touched}
 use Rattle.store_files.specs.file_tree.Shown.{ShowsFiles}
 use Rattle.store_files.specs.file_tree.Bytes.{with_content, RowReady}
-use Rattle.store_files.proofs.file_tree.Lengths.{told_basic}
+use Rattle.store_files.proofs.file_tree.Full.{there_in}
+use Rattle.store_files.proofs.file_tree.Lengths.{no_root, told_basic}
 use Rattle.store_files.proofs.file_tree.tree.Tree.finish_write.Goals as goal
 
 pub returns-clause-shown : goal.returns-clause-shown
@@ -25,4 +26,4 @@ returns-clause-shown c = λ s file at h can.
       some = can.some;
       ready = subst (λ (g : ℕ). RowReady (get nat_eq c.args.self.now.rows g) c.args.new.prepared at
           bytes) (sym can.file_is) can.ready;
-    }) e d r)))
+    }) (there_in s f (no_root s f d) e) r)))

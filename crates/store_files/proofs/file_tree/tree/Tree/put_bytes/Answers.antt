@@ -1,15 +1,15 @@
 use Rattle.std.proofs.Common.{◌≡◌, ◌+◌, ◌-◌, ◌&&◌, ◌≤◌, ℕ, List, nat_eq, true, false, nat_lt, max, length, refl, sym, ap, subst, ◌∙◌}
 use Rattle.std.specs.HashMap.{get}
 use Rattle.spec_exchange.specs.Content.{written}
-use Rattle.spec_exchange.specs.Files.{path_in, used, exists, is_directory, passes_room}
+use Rattle.spec_exchange.specs.Files.{path_in, used, exists_in, passes_room}
 use Rattle.spec_exchange.proofs.Content.{length-written}
 use Rattle.store_files.specs.declared.file_tree.tree.Tree.{Tree}
 use Rattle.store_files.specs.file_extents.Kept.{IsContent}
 use Rattle.store_files.specs.file_tree.Shown.{ShowsFiles}
 use Rattle.store_files.specs.file_tree.Bytes.{with_content, RowReady}
-use Rattle.store_files.proofs.file_tree.Full.{there_in}
+use Rattle.store_files.proofs.file_tree.Full.{in_there, there_apart}
 use Rattle.store_files.proofs.file_tree.Keys.{some_there}
-use Rattle.store_files.proofs.file_tree.Lengths.{no_root, rows_changed, shows_changed, sum_changed, part_of_used, room_left_used}
+use Rattle.store_files.proofs.file_tree.Lengths.{rows_changed, shows_changed, sum_changed, part_of_used, room_left_used}
 use Rattle.store_files.proofs.file_tree.Lengths.{used_grown, filled, ready_put}
 use Rattle.store_files.proofs.file_tree.tree.Tree.put_bytes.Goals as goal
 
@@ -19,12 +19,13 @@ returns-clause-shown c = λ s file at h can.
     let t = c.args.self.now in
     let bytes = c.args.bytes.now in
     let u : Tree = record t { rows = c.finish_row.new.rows; used = c.used_behind-self.result; held = c.held_after-self.result } in
-    subst (λ (g : ℕ). exists s g ≡ true → is_directory s g ≡ false → passes_room s g (at + length bytes) ≡ false
+    subst (λ (g : ℕ). exists_in s.entries g ≡ true → passes_room s g (at + length bytes) ≡ false
     → ShowsFiles u (with_content s g (written at bytes (s.content g))))
     can.file_is
-    (λ e d r.
-    let z = no_root s f d in
-    let p = some_there s.entries f (there_in s f z e) in
+    (λ i r.
+    let z = there_apart s f h.rows.no_root i in
+    let e = in_there s f i in
+    let p = some_there s.entries f i in
     let new = written at bytes (s.content f) in
     let end = at + length bytes in
     let len = c.length-length.ensures s h e in

@@ -1,0 +1,6 @@
+mod Names
+mod Ordered
+mod Rest
+mod Taken
+mod Told
+mod Whole
