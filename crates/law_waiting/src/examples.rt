@@ -1,13 +1,14 @@
 //! Waiters, computed: two clients on one file.
 
-ghost use Rattle.std.specs.Prelude.{◌≡◌, [], ◌∷◌, false, true, None, Some};
-ghost use Rattle.spec_exchange.specs.Commands.{Close, Lock, Logoff};
-ghost use Rattle.spec_exchange.specs.State.{End, Stop};
+ghost use Rattle.std.specs.Prelude.{◌≡◌, ℕ, [], ◌∷◌, false, true, None, Some};
+ghost use Rattle.spec_exchange.specs.Commands.{Close, Lock, Logoff, Read};
+ghost use Rattle.spec_exchange.specs.State.{End, Heard, Server, Stop};
+ghost use Rattle.law_waiting.specs.held.Untouched.{leaves_waiters};
 ghost use Rattle.law_waiting.specs.wait_steps.WaitStep.{ByAsyncId, ByMessageId, DiskFault, Fails, Lacks, NoMemory, Serves, Stopped, wait_step};
 ghost use Rattle.law_waiting.specs.out_steps.OutStep.{Answers, Ended, Goes, Kept, Last, Pending, Plain, Waits};
 ghost use Rattle.law_waiting.specs.examples.Outs.{response_later, lucky, replied_after, unlucky_out, written_after};
 ghost use Rattle.law_waiting.specs.examples.Waiters.{Breaks, Hears, asks, at_once, cancels, full, lock, lock_by, locks_ten, seen_after, seen_in};
-ghost use Rattle.law_waiting.specs.examples.Waiters.{sends, no_ids_left, response, plain_turn, unlocked, unlocks_ten, unlucky, wants_ten};
+ghost use Rattle.law_waiting.specs.examples.Waiters.{sends, no_ids_left, response, plain_turn, two_opens, unlocked, unlocks_ten, unlucky, wants_ten};
 
 /// A LOCK waits for another client's range: STATUS_PENDING with an AsyncId; the unlock lets it go, and its final response has that id.
 #[tactic(auto, unfolding(crate::specs::examples::Waiters::computed))]
@@ -103,6 +104,14 @@ pub fn mishap_example()
     ensures stopped { seen_after (locks_ten ∷ wants_ten ∷ unlucky (None ∷ Some (Fails unlocked 3) ∷ []) unlocks_ten ∷ [])
         (cancels 2 (ByAsyncId 1)) ≡ Breaks (Stopped 3) 1 true }
     ensures lacking { seen_after (locks_ten ∷ []) (record wants_ten { lacks = true }) ≡ Breaks NoMemory 0 true }
+{}
+
+/// A READ lets nobody go, whatever he waits for. A LOCK may let go who waits for its open's file, here file 1, and nobody else.
+#[tactic(auto, unfolding(crate::specs::examples::Waiters::computed))]
+pub fn untouched_example()
+    ensures read { (s : Server) (f : ℕ) → leaves_waiters s f (Heard (asks 1 5 (Read 1 0 10 0 0))) ≡ true }
+    ensures own_file { leaves_waiters two_opens 1 (Heard (asks 1 5 (lock 1 0 10 0x12))) ≡ false }
+    ensures other_file { leaves_waiters two_opens 2 (Heard (asks 1 5 (lock 1 0 10 0x12))) ≡ true }
 {}
 
 /// An interim response goes out when its LOCK waits, the final one behind it. A final one that comes first is kept, and goes out behind

@@ -2,18 +2,19 @@
 use Rattle.std.proofs.Common.{◌≡◌, ◌⊎◌, ◌<◌, inl, inr, ℕ, zero, suc, ◌+◌, true, false, List, [], ◌∷◌, length, slice_get, Option, Some}
 use Rattle.std.proofs.Common.{refl, sym, ap, subst, ◌∙◌, arith}
 use Rattle.law_nonces.specs.event_nonces.Events.{NonceTables}
-use Rattle.law_records.proofs.recovery.Restarts.{bare_fold}
 use Rattle.spec_crypto.specs.tokens.Tokens.{Users}
-use Rattle.spec_exchange.specs.Fold.{recovery_records}
+use Rattle.law_snapshots.proofs.restarts.Sessionless.{bare_found}
+use Rattle.law_snapshots.specs.snapshots.Pieces.{SnapshotPiece}
+use Rattle.server_core.specs.Over.{opened_over}
 use Rattle.spec_exchange.specs.State as model
 use Rattle.spec_world.specs.Ends.{Logons, no_logons}
 use Rattle.std.proofs.Common.{◌++◌}
 use Rattle.server_checks.specs.declared.tables.Config.{Config}
 use Rattle.server_core.specs.journaled_tables.Holds.{JournaledStands}
 use Rattle.server_core.specs.server_start.Begun.{ServerBegins}
-use Rattle.server_core.specs.declared.disk_server.book.Book.{Book}
+use Rattle.server_core.specs.declared.disk_server.book.DiskBook.{DiskBook}
 use Rattle.server_core.specs.declared.server.Server.{Server}
-use Rattle.server_core.specs.Shown.{HoldsServer, disk_of, journal_of, state_of, stopped_of}
+use Rattle.server_core.specs.Shown.{HoldsServerOver, disk_of, journal_of, state_of, stopped_of}
 use Rattle.serve_turns.specs.declared.event_book.turn.Answer.{Answer}
 use Rattle.serve_turns.specs.declared.event_book.turn.Turn.{Turn}
 use Rattle.serve_turns.specs.declared.link_serving.ended.Ended.{Ended}
@@ -44,13 +45,13 @@ entry_at (e ∷ es) zero within = (e, refl)
 entry_at (e ∷ es) (suc i) within = entry_at es i (omega (arith, within))
 
 module _ {D : Type 0} (told : Type 0) (seen : D → List ℕ) (may_leave : D → List ℕ → Type 0) (faults : D → ℕ) where
-  abbrev shows : Book D → Users → model.Server → Logons → List model.Record → Type 0
+  abbrev shows : DiskBook D → Users → model.Server → Logons → List model.Record → Type 0
   shows = server_shows told seen may_leave
 
-  abbrev stopped : Book D → Option ℕ
+  abbrev stopped : DiskBook D → Option ℕ
   stopped = server_stopped
 
-  abbrev counts : Book D → ℕ
+  abbrev counts : DiskBook D → ℕ
   counts = server_faults faults
 
   -- ---- a server that has just begun
@@ -70,18 +71,20 @@ module _ {D : Type 0} (told : Type 0) (seen : D → List ℕ) (may_leave : D →
 
   pub begins_at : (config : Config) (disk : D) (server : Server D)
       (b : ServerBegins told seen may_leave faults config disk (state_of server))
-      → BeginsAt told seen may_leave server (first_stand config b.2 b.3)
+      → BeginsAt told seen may_leave server (first_stand config b.2 b.4 b.3)
   begins_at config disk server b = record {
-    holds = b.4 no_logons;
+    base = b.4;
+    holds = b.5 no_logons;
     goes_on = b.0;
-    bare = bare_fold (b.3 ++ recovery_records b.3);
+    bare = bare_found b.4 (λ f. []) (opened_over b.4 b.3);
   }
 
   -- ---- the disk
 
-  pub disk_stands : (server : Server D) (s : model.Server) (records : List model.Record) (bodies : List (List ℕ))
-      → JournaledStands seen may_leave (journal_of server) s records bodies → DiskStands told seen may_leave (disk_of server) records
-  disk_stands server s records bodies j =
+  pub disk_stands : (server : Server D) (base : List SnapshotPiece) (s : model.Server) (records : List model.Record) (bodies : List (List ℕ))
+      → JournaledStands seen may_leave base (journal_of server) s records bodies
+      → DiskStands told seen may_leave (disk_of server) base records
+  disk_stands server base s records bodies j =
       let f = j.settled in
       record {
         bodies = bodies;
@@ -100,35 +103,36 @@ module _ {D : Type 0} (told : Type 0) (seen : D → List ℕ) (may_leave : D →
   on_at : (users : Users) (book : ServerBook D) (s : Standing) → ShowsStanding shows stopped counts users book s
       → OnDiskAt told seen may_leave faults book s
   on_at users book (On s) g = record {
-    holds = g.0.1;
+    base = g.0.0;
+    holds = g.0.1.1;
     goes_on = g.1;
-    disk = λ t. (let w = g.0.1.stands g.1 t in disk_stands book.server.server s.server s.records w.0 w.1);
+    disk = λ t. (let w = g.0.1.1.stands g.1 t in disk_stands book.server.book.server g.0.0 s.server s.records w.0 w.1);
   }
   on_at users book (Off count) g = g
 
   -- ---- the whole
 
-  first_shows : (server : Server D) (opening : ServerBook D) (from : Stand) → opening.server.server ≡ server
-      → BeginsAt told seen may_leave server from → ShowsStanding shows stopped counts (settings_of opening.server.server).users opening
+  first_shows : (server : Server D) (opening : ServerBook D) (from : Stand) → opening.server.book.server ≡ server
+      → BeginsAt told seen may_leave server from → ShowsStanding shows stopped counts (settings_of opening.server.book.server).users opening
       (On from)
   first_shows server opening from is b = (
-    (refl, subst (λ (x : Server D). HoldsServer told seen may_leave x from.server from.logons from.records) (sym is) b.holds),
+    (b.base, (refl, subst (λ (x : Server D). HoldsServerOver told seen may_leave b.base x from.server from.logons from.records) (sym is) b.holds)),
     ap (λ (x : Server D). stopped_of x) is ∙ b.goes_on,
   )
 
   on_disk_by : (opening last : ServerBook D) (from : Stand) (log : List (Entry Turn Answer))
-      (k : Booked shows stopped counts (settings_of opening.server.server) (On from) opening log last)
-      → IsOnDisk told seen may_leave faults opening log (course_of (settings_of opening.server.server) (On from) log k.all k.to k.runs) last
+      (k : Booked shows stopped counts (settings_of opening.server.book.server) (On from) opening log last)
+      → IsOnDisk told seen may_leave faults opening log (course_of (settings_of opening.server.book.server) (On from) log k.all k.to k.runs) last
   unfolding course_of
   on_disk_by opening last from log k = record {
     books = k.books;
     begins = k.begins;
     ends = k.ends;
     steps = k.steps;
-    stands = λ i within. on_at (settings_of opening.server.server).users (k.books i)
-        (found_by (settings_of opening.server.server) (On from) log k.all k.to k.runs i) (k.stands i within);
+    stands = λ i within. on_at (settings_of opening.server.book.server).users (k.books i)
+        (found_by (settings_of opening.server.book.server) (On from) log k.all k.to k.runs i) (k.stands i within);
     rose = λ i s count within on off.
-        (let z = settings_of opening.server.server in
+        (let z = settings_of opening.server.book.server in
         let at = entry_at log i within in
         (at_fault shows stopped counts z s (k.books i) (k.books (i + 1)) at.0.event at.0.reply at.0.event.what count (k.steps i at.0 at.1)
         (subst (λ (x : Standing). ShowsStanding shows stopped counts z.users (k.books i) x) on (k.stands i (omega (arith, within))))
@@ -154,9 +158,9 @@ module _ {D : Type 0} (told : Type 0) (seen : D → List ℕ) (may_leave : D →
   whole_by : (over : ℕ → Passage → Type 0) (count : ℕ) (from : Stand) (v : View (ServerBook D) Turn Answer) (ends : List (Option Ended))
       (opening last : ServerBook D)
       (log : List (Entry Turn Answer)) (to : Standing) (h : Course) (s : AreServedBy over count v ends)
-      → Replays (server_steps told seen may_leave faults) opening log last → RunsBy (settings_of opening.server.server) (On from) log h to
+      → Replays (server_steps told seen may_leave faults) opening log last → RunsBy (settings_of opening.server.book.server) (On from) log h to
       → NonceTables from.server from.logons (λ x. 0) → IsOnDisk told seen may_leave faults opening log h last
-      → Connected (settings_of opening.server.server) h log count s.links v.ended over → entries_of v.number 0 log ≡ []
+      → Connected (settings_of opening.server.book.server) h log count s.links v.ended over → entries_of v.number 0 log ≡ []
       → (IsWhole v → (i : ℕ) (e : Entry Turn Answer) → slice_get log i ≡ Some e → IsOneOf e.seat (numbers_of v))
       → WasServedWhole told seen may_leave faults over count opening from ends last
   whole_by over count from v ends opening last log to h s replays runs first on_disk c none none_else = record {
@@ -176,12 +180,12 @@ module _ {D : Type 0} (told : Type 0) (seen : D → List ℕ) (may_leave : D →
     told_are = λ i end there. c.told i end (s.told i end there);
     on_disk = on_disk;
     stops_told = λ i x count here is.
-        (let off = served_off (settings_of opening.server.server) h log (On from) to runs (number_of x) x.seat x.passage.came
+        (let off = served_off (settings_of opening.server.book.server) h log (On from) to runs (number_of x) x.seat x.passage.came
         x.passage.wrote x.passage.faults x.passage.faults' x.passage.ended x.end x.seals count (c.each i x here) is in
         subst (λ (s : Standing). OnDiskAt told seen may_leave faults last s) (runs.ends ∙ off)
         (subst (λ (b : ServerBook D). OnDiskAt told seen may_leave faults b (h.found (length log))) on_disk.ends
         (on_disk.stands (length log) (omega arith))));
-    once = are_once (settings_of opening.server.server) h log from to runs first c.all c.each c.apart;
+    once = are_once (settings_of opening.server.book.server) h log from to runs first c.all c.each c.apart;
   }
 
   pub whole_of : (over : ℕ → Passage → Type 0) (count : ℕ) (server : Server D) (from : Stand) (v : View (ServerBook D) Turn Answer)
@@ -195,13 +199,13 @@ module _ {D : Type 0} (told : Type 0) (seen : D → List ℕ) (may_leave : D →
       let same : closes.opening ≡ opening = cc in
       let replays : Replays (server_steps told seen may_leave faults) opening closes.log last =
       subst (λ (o : ServerBook D). Replays (server_steps told seen may_leave faults) o closes.log last) same closes.replays in
-      let k = booked shows stopped counts (settings_of opening.server.server) (On from) opening last closes.log replays
+      let k = booked shows stopped counts (settings_of opening.server.book.server) (On from) opening last closes.log replays
       (first_shows server opening from opens.begins b) in
-      let h = course_of (settings_of opening.server.server) (On from) closes.log k.all k.to k.runs in
+      let h = course_of (settings_of opening.server.book.server) (On from) closes.log k.all k.to k.runs in
       whole_by over count from v ends opening last closes.log k.to h s replays
-      (runs_by (settings_of opening.server.server) (On from) closes.log k.all k.to k.runs) (nothing_drawn server from b)
+      (runs_by (settings_of opening.server.book.server) (On from) closes.log k.all k.to k.runs) (nothing_drawn server from b)
       (on_disk_by opening last from closes.log k)
-      (connected (settings_of opening.server.server) refl h closes.log
-      (λ seat. own_meet (settings_of opening.server.server) seat (On from) closes.log k.all k.to k.runs) s.seat_at v.opening v.kept count
+      (connected (settings_of opening.server.book.server) refl h closes.log
+      (λ seat. own_meet (settings_of opening.server.book.server) seat (On from) closes.log k.all k.to k.runs) s.seat_at v.opening v.kept count
       s.links v.ended over s.each closes.ended_are closes.apart.1)
       (sym closes.own_are ∙ s.none_own) closes.none_else

@@ -1,7 +1,6 @@
 -- A server that was served: its history, its connections, its disk and its nonces go together.
 use Rattle.std.specs.Prelude.{◌≡◌, ℕ, ◌+◌, ◌%◌, ◌^◌, ◌≤◌, ◌<◌, List, length, Option, None, Some, slice_get, get_or}
 use Rattle.law_records.specs.recovery.Restarted.{Bare}
-use Rattle.spec_exchange.specs.Fold.{recovered, recovery_records}
 use Rattle.spec_exchange.specs.State as model
 use Rattle.std.specs.Prelude.{◌++◌}
 use Rattle.base_outside.specs.streams.Faults.{Rose}
@@ -11,10 +10,12 @@ use Rattle.spec_world.specs.Ends.{no_logons}
 use Rattle.spec_world.specs.Settings.{ServerSettings}
 use Rattle.spec_world.specs.Statements.{IsOneNonce}
 use Rattle.server_checks.specs.declared.tables.Config.{Config}
-use Rattle.server_core.specs.Reading.{BodiesSpell}
+use Rattle.law_snapshots.specs.snapshots.Pieces.{SnapshotPiece}
+use Rattle.server_core.specs.Over.{begun_over, opened_over}
+use Rattle.server_core.specs.Reading.{SpellOver}
 use Rattle.server_core.specs.restart_tables.Restart.{configuration_of}
 use Rattle.server_core.specs.declared.server.Server.{Server}
-use Rattle.server_core.specs.Shown.{HoldsServer, config_of, disk_of, stopped_of}
+use Rattle.server_core.specs.Shown.{HoldsServerOver, config_of, disk_of, stopped_of}
 use Rattle.serve_turns.specs.connection_turns.Serving.{WasServedBy}
 use Rattle.serve_turns.specs.declared.event_book.turn.Answer.{Answer}
 use Rattle.serve_turns.specs.declared.event_book.turn.Turn.{Turn}
@@ -102,42 +103,44 @@ AreOnce xs = (i j p q : ℕ) (x y : EndedConnection) (a b : Seal) → slice_get 
 abbrev pub settings_of : {D : Type 0} → Server D → ServerSettings
 settings_of server = record { users = (config_of server).users; guid = server_guid }
 
--- what recovery makes of these records behind so many bytes; nobody is logged on
-abbrev pub first_stand : Config → ℕ → List model.Record → Stand
-first_stand config bytes records = record {
-  server = recovered (configuration_of config) bytes records;
+-- what a start makes of a snapshot and the records behind it, in a journal of so many bytes; nobody is logged on
+abbrev pub first_stand : Config → ℕ → List SnapshotPiece → List model.Record → Stand
+first_stand config bytes base records = record {
+  server = begun_over (configuration_of config) bytes base records;
   logons = no_logons;
-  records = records ++ recovery_records records;
+  records = opened_over base records;
 }
 
 module _ {D : Type 0} (told : Type 0) (seen : D → List ℕ) (may_leave : D → List ℕ → Type 0) where
   -- a server has just begun so: it shows this, and there is no session
   pub record BeginsAt (server : Server D) (from : Stand) : Type 0 where
-    pub holds : HoldsServer told seen may_leave server from.server from.logons from.records
+    pub base : List SnapshotPiece
+    pub holds : HoldsServerOver told seen may_leave base server from.server from.logons from.records
     pub goes_on : stopped_of server ≡ None
     pub bare : Bare from.server
 
   -- ---- the disk
 
-  -- its bytes stand for these records, and so does whatever a crash may leave of them
-  pub record DiskStands (disk : D) (records : List model.Record) : Type 0 where
+  -- its bytes stand for a snapshot, the base, and these records behind it, and so does whatever a crash may leave of them
+  pub record DiskStands (disk : D) (base : List SnapshotPiece) (records : List model.Record) : Type 0 where
     pub bodies : List (List ℕ)
-    pub spelled : BodiesSpell bodies records
+    pub spelled : SpellOver base bodies records
     pub stands : StandsFor (seen disk) bodies
     pub stays : (bytes : List ℕ) → may_leave disk bytes → StandsFor bytes bodies
 
   -- A server that goes on shows what its place found, and its disk, where it tells its bytes, stands for the records of all events up to
   -- there: a reply that stands in the history stands on the disk.
   pub record OnDisk (book : ServerBook D) (s : Stand) : Type 0 where
-    pub holds : HoldsServer told seen may_leave book.server.server s.server s.logons s.records
-    pub goes_on : stopped_of book.server.server ≡ None
-    pub disk : told → DiskStands (disk_of book.server.server) s.records
+    pub base : List SnapshotPiece
+    pub holds : HoldsServerOver told seen may_leave base book.server.book.server s.server s.logons s.records
+    pub goes_on : stopped_of book.server.book.server ≡ None
+    pub disk : told → DiskStands (disk_of book.server.book.server) base s.records
 
 module _ {D : Type 0} (told : Type 0) (seen : D → List ℕ) (may_leave : D → List ℕ → Type 0) (faults : D → ℕ) where
   -- a server stops at its disk's own count of faults
   abbrev pub OnDiskAt : ServerBook D → Standing → Type 0
   OnDiskAt book (On s) = OnDisk told seen may_leave book s
-  OnDiskAt book (Off count) = (stopped_of book.server.server ≡ Some count) × (count ≡ faults (disk_of book.server.server))
+  OnDiskAt book (Off count) = (stopped_of book.server.book.server ≡ Some count) × (count ≡ faults (disk_of book.server.book.server))
 
   -- The server at each place of the history, from the one that began to the one that was there in the end. Each step is the event's at its
   -- place, with its reply. At each place where the server goes on its disk, if it tells its bytes, stands for the records up to there; at
@@ -150,7 +153,7 @@ module _ {D : Type 0} (told : Type 0) (seen : D → List ℕ) (may_leave : D →
         → server_steps told seen may_leave faults (books i) e.event e.reply (books (i + 1))
     pub stands : (i : ℕ) → i ≤ length log → OnDiskAt (books i) (h.found i)
     pub rose : (i : ℕ) (s : Stand) (count : ℕ) → i < length log → h.found i ≡ On s → h.found (i + 1) ≡ Off count
-        → Rose (faults (disk_of (books i).server.server)) count
+        → Rose (faults (disk_of (books i).server.book.server)) count
 
   -- whoever is told that the server stopped is told the count of faults that its disk has in the end
   abbrev pub StopsAreTold : ServerBook D → List EndedConnection → Type 0
@@ -172,8 +175,8 @@ module _ {D : Type 0} (told : Type 0) (seen : D → List ℕ) (may_leave : D →
     pub to : Standing
     pub connections : List EndedConnection
     pub replays : Replays (server_steps told seen may_leave faults) opening log last
-    pub runs : RunsBy (settings_of opening.server.server) (On from) log h to
-    pub each : AllServed (settings_of opening.server.server) h log connections
+    pub runs : RunsBy (settings_of opening.server.book.server) (On from) log h to
+    pub each : AllServed (settings_of opening.server.book.server) h log connections
     pub passed : AllPassed over connections
     pub as_many : length connections ≡ count
     pub apart : AreApart connections

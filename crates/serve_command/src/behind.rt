@@ -8,7 +8,7 @@ use crate::lines::ended;
 use crate::server_settings::Bound;
 use base_outside::{Disk, Sink};
 use serve_turns::{Ended, EventBook, Halt};
-use server_core::Book;
+use server_core::{Book, DiskBook};
 use std::alloc::Global;
 
 /// The disk of a server that is no more, whether the server had stopped, and whether the disk failed meanwhile.
@@ -27,13 +27,14 @@ fn has_risen(before: u64, after: u64) -> bool
 }
 
 /// What is left of a server, whose disk had failed so often before.
-pub(crate) fn left_of<D: Disk>(last: EventBook<Book<D>>, before: u64) -> Left<D>
+pub(crate) fn left_of<D: Disk>(last: EventBook<DiskBook<D>>, before: u64) -> Left<D>
     ensures stopped { result.stopped ≡ has_stopped last }
-    ensures risen { result.risen ≡ has_risen before (D.faults (disk_of last.server.server)) }
-    ensures disk { result.disk ≡ disk_of last.server.server }
+    ensures risen { result.risen ≡ has_risen before (D.faults (disk_of last.server.book.server)) }
+    ensures disk { result.disk ≡ disk_of last.server.book.server }
 {
     let EventBook { alloc: _, server } = last;
-    let Book { alloc: _, server } = server;
+    let DiskBook { book } = server;
+    let Book { alloc: _, server } = book;
     let stopped = server.stopped().is_some();
     let disk = server.stop();
     let risen = has_risen(before, disk.fault_count());

@@ -21,7 +21,7 @@ use base_outside::{Clock, Disk, Failed, Net, Sink, Source};
 use journal::RefusedStart;
 use rand_core::Rng;
 use serve_turns::{BookSeat, Connections, Ended, EventBook, Roll, Served, SharedBook, serve_links};
-use server_core::{Book, Server};
+use server_core::{Book, DiskBook, Server};
 use std::alloc::{AllocError, Global};
 use std::sync::{Mutex, Wait};
 use std::thread::Threads;
@@ -33,7 +33,7 @@ const GUID: [u8; 16] = *b"smb311-server-01";
 const LINKS_OF_OWN_NUMBER: usize = 4_294_967_295;
 
 /// A server on a disk whose connections take turns.
-type ServerBook<D> = EventBook<Book<D>>;
+type ServerBook<D> = EventBook<DiskBook<D>>;
 
 /// How the command ended, with the net, and the disk where it was not given up.
 #[derive(Drop)]
@@ -133,11 +133,13 @@ fn none_ended(alloc: Global, count: usize) -> Result<Vec<Option<Ended>>, AllocEr
 }
 
 fn first_book<D: Disk>(alloc: Global, server: Server<D>) -> ServerBook<D>
-    ensures { result.server.server ≡ server }
+    ensures { result.server.book.server ≡ server }
 {
     EventBook {
         alloc,
-        server: Book { alloc, server },
+        server: DiskBook {
+            book: Book { alloc, server },
+        },
     }
 }
 

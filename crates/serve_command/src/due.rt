@@ -7,6 +7,7 @@ ghost use Rattle.spec_world.specs.Settings.{ServerSettings};
 ghost use Rattle.serve_turns.specs.connection_turns.Due.{AnswerIsDue};
 ghost use Rattle.serve_turns.specs.event_book.History.{Stand};
 ghost use Rattle.server_core.specs.Shown.{disk_of};
+ghost use Rattle.law_snapshots.specs.snapshots.Pieces.{SnapshotPiece};
 ghost use Rattle.serve_command.specs.Steps.{ServerBook, server_faults, server_shows, server_stopped};
 ghost use Rattle.serve_command.specs.Whole.{DiskStands};
 
@@ -18,5 +19,5 @@ pub fn due_law<D: Disk>()
     ensures on_disk { D.told → (z : ServerSettings) (k seat : ℕ) (opening : ServerBook D) (from : Stand) (came wrote answer : List ℕ)
         (due : AnswerIsDue (server_shows D.told D.seen D.may_leave) server_stopped (server_faults D.faults) z k seat opening from came wrote
         answer)
-        → DiskStands D.told D.seen D.may_leave (disk_of due.last.server.server) due.stand.records }
+        → (base : List SnapshotPiece) × DiskStands D.told D.seen D.may_leave (disk_of due.last.server.book.server) base due.stand.records }
 {}

@@ -1,18 +1,15 @@
--- One more body behind those that were read.
+-- One more body of records behind others.
 use Rattle.std.proofs.Common.{◌≡◌, ℕ, true, List, [], ◌∷◌, ◌++◌, refl, sym, ap, subst, ◌∙◌, append_assoc}
 use Rattle.std.proofs.lemmas.List.{append-nil}
 use Rattle.spec_exchange.specs.State as model
 use Rattle.spec_exchange.specs.State.{Server}
-use Rattle.spec_exchange.specs.Fold.{nothing_yet, fold_from, with_record}
+use Rattle.spec_exchange.specs.Fold.{fold_from, with_record}
 use Rattle.journal_bytes.specs.record_bytes.Grammar.{SpellsRecords}
 use Rattle.journal_bytes.specs.record_bytes.Meaning.{records_of}
 use Rattle.journal_bytes.specs.declared.record_bytes.value.Record.{Record}
-use Rattle.law_server.specs.tables.Fits.{Fits, is_sound, all_sound}
+use Rattle.law_server.specs.tables.Fits.{is_sound, all_sound}
 use Rattle.law_server.proofs.tables.Logic.{front_of, back_of, both}
-use Rattle.law_server.proofs.tables.Folded.{folded_keeps, sound_more}
-use Rattle.server_core.specs.durable_state.Durable.{DurableShown}
-use Rattle.server_core.specs.declared.durable_state.durable.Durable.{Durable}
-use Rattle.server_core.specs.Reading.{SpellFrom, FoldedBy, IsReadFrom}
+use Rattle.server_core.specs.Reading.{SpellFrom}
 
 -- ---- folds and sound records of two lists
 
@@ -52,23 +49,4 @@ spell_more s (b ∷ bodies) rs body more e h =
       e.2,
       ap (λ (xs : List model.Record). xs ++ records_of more) is ∙ append_assoc (records_of front) rest (records_of more),
       spell_more u bodies rest body more e.4 v,
-    )
-
--- ---- one more body is read
-
-pub read_on : (d e : Durable) (bodies : List (List ℕ)) (rs : List model.Record) (body : List ℕ)
-    → IsReadFrom d nothing_yet bodies rs → ((u : Server) → Fits u → DurableShown d u → FoldedBy e u body)
-    → (more : List model.Record) × IsReadFrom e nothing_yet (bodies ++ body ∷ []) more
-read_on d e bodies rs body was apply =
-    let u = fold_from nothing_yet rs in
-    let a = apply u was.fits was.shown in
-    let new = records_of a.0 in
-    let same = sym (fold_both nothing_yet rs new) in (
-      rs ++ new,
-      record {
-        spelled = spell_more nothing_yet bodies rs body a.0 was.spelled a.1;
-        sound = sound_more rs new was.sound a.2;
-        shown = subst (λ (w : Server). DurableShown e w) same a.3;
-        fits = subst (λ (w : Server). Fits w) same (folded_keeps u new a.2 was.fits);
-      },
     )

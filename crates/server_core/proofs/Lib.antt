@@ -1,6 +1,8 @@
 pub mod Nothing
 pub mod Calls
 pub mod Bodies
+pub mod SnapshotBodies
+pub mod ReadOver
 mod Sound
 pub mod SoFar
 pub mod Openings

@@ -14,7 +14,7 @@ use Rattle.journal.specs.declared.disk_journal.journal.JournalError.{JournalErro
 use Rattle.server_core.specs.durable_state.Durable.{DurableShown}
 use Rattle.server_core.specs.declared.durable_state.durable.Durable.{Durable}
 use Rattle.law_server.specs.tables.Fits.{is_sound, all_sound}
-use Rattle.server_core.specs.Reading.{BodyCause, BodyRefused, FoldedBy, NoServerWrites, cause_of}
+use Rattle.server_core.specs.Reading.{BodyCause, RecordsRefused, FoldedBy, NoServerWrites, cause_of}
 
 -- ---- the records one by one
 
@@ -52,12 +52,12 @@ sound_through all i past was = ap (λ (xs : List Record). all_sound (records_of 
 -- ---- what is read of a body
 
 pub not_read : (version gate : ℕ) (body m : List ℕ) (error : RecordError) (x : JournalError) → m ≡ body → x ≡ cause_of error gate
-    → ReadsRecords {X = List Record} (λ rs. rs) version m (Err error) → BodyRefused version body x
+    → ReadsRecords {X = List Record} (λ rs. rs) version m (Err error) → RecordsRefused version body x
 not_read version gate body m error x same is h =
-    subst (λ (y : JournalError). BodyRefused version body y) (sym is)
+    subst (λ (y : JournalError). RecordsRefused version body y) (sym is)
     (by error (subst (λ (b : List ℕ). ReadsRecords {X = List Record} (λ rs. rs) version b (Err error)) same h))
   where
-    by : (f : RecordError) → ReadsRecords {X = List Record} (λ rs. rs) version body (Err f) → BodyRefused version body (cause_of f gate)
+    by : (f : RecordError) → ReadsRecords {X = List Record} (λ rs. rs) version body (Err f) → RecordsRefused version body (cause_of f gate)
     by faulty.Memory b = tt
     by (faulty.BadRecord place) b = inl (place, b)
 
@@ -97,6 +97,6 @@ folded_by d e s body rs ms shown read same h = (
   subst (λ (xs : List Record). all_sound (records_of xs) ≡ true → DurableShown e (fold_from s (records_of xs))) same h read.1,
 )
 
-pub refused_in : (d : Durable) (s : Server) (body : List ℕ) (x : JournalError) → DurableShown d s → BodyRefused d.version body x
-    → BodyRefused s.version body x
-refused_in d s body x shown h = subst (λ (v : ℕ). BodyRefused v body x) (sym shown.version_is) h
+pub refused_in : (d : Durable) (s : Server) (body : List ℕ) (x : JournalError) → DurableShown d s → RecordsRefused d.version body x
+    → RecordsRefused s.version body x
+refused_in d s body x shown h = subst (λ (v : ℕ). RecordsRefused v body x) (sym shown.version_is) h

@@ -9,3 +9,4 @@ pub mod Leaving
 pub mod Locking
 pub mod Following
 pub mod ByKind
+pub mod ByPiece

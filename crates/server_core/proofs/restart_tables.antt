@@ -1,3 +1,4 @@
 mod OfFold
+mod OfBase
 mod Sessions
 mod Behind

@@ -1,2 +1,4 @@
-mod Spelled
+pub mod Spelled
+pub mod Over
 mod Stands
+pub mod Starting

@@ -1,5 +1,6 @@
 pub mod durable_state
 pub mod body_writing
+pub mod Over
 pub mod Reading
 pub mod Opening
 pub mod restart_tables
@@ -14,3 +15,4 @@ pub mod event_step
 pub mod Shown
 pub mod event_replies
 pub mod disk_server
+pub mod snapshot_writing

@@ -3,4 +3,4 @@
 mod asked;
 mod book;
 
-pub use book::Book;
+pub use book::{Book, DiskBook};

@@ -6,6 +6,7 @@ mod durable;
 mod files;
 mod leaves;
 mod locks;
+mod pieces;
 mod records;
 
 pub use durable::{Durable, FULL_ROOM};

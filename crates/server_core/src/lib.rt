@@ -27,11 +27,12 @@ mod restarts;
 mod server;
 mod server_start;
 mod signing;
+mod snapshot_writing;
 mod standing;
 mod start_law;
 
 pub use crash::crash_law;
-pub use disk_server::Book;
+pub use disk_server::{Book, DiskBook};
 pub use journaled_tables::ServerState;
 pub use restarts::restart_law;
 pub use server::Server;

@@ -7,6 +7,7 @@ ghost use Rattle.spec_journal.specs.Forms.{StandsFor};
 ghost use Rattle.spec_wire.specs.journal.Moments.{LeavesOnly};
 ghost use Rattle.server_checks.specs.event_heard.Heard.{heard_event, is_setup_heard};
 ghost use Rattle.server_checks.specs.declared.event_heard.event.ServerEvent.{ServerEvent};
+ghost use Rattle.law_snapshots.specs.snapshots.Pieces.{SnapshotPiece};
 ghost use Rattle.server_core.specs.server_start.Begun.{ServerBegins};
 ghost use Rattle.server_core.specs.event_step.Early.{HasMemory, is_refused_early};
 ghost use Rattle.server_core.specs.journaled_tables.Beside.{logons_behind};
@@ -37,7 +38,7 @@ pub struct Server<D: Disk> {
 }
 
 impl<D: Disk> Server<D> {
-    ghost use Rattle.server_core.specs.Shown.{HoldsServer, config_of, disk_of, state_of, stopped_of};
+    ghost use Rattle.server_core.specs.Shown.{HoldsServerOver, config_of, disk_of, state_of, stopped_of};
 
     /// A server on the disk that an earlier one left, or on an empty one: it holds what the journal's records stand for, under the
     /// next epoch, which goes into the journal.
@@ -67,22 +68,23 @@ impl<D: Disk> Server<D> {
     /// sealing, refuse, but for a SESSION_SETUP with its bytes. `DiskFault` comes only where the disk's count of faults rose, and
     /// carries it: the tables have the event's change, and each later event answers `Stopped` with that count and changes nothing.
     pub fn event(&mut self, now: u64, event: ServerEvent<'_>) -> Result<Answer, EventError>
-        ensures step { (s : model.Server) (L : Logons) (records : List model.Record)
-            → HoldsServer D.told D.seen D.may_leave self.old s L records
+        ensures step { (base : List SnapshotPiece) (s : model.Server) (L : Logons) (records : List model.Record)
+            → HoldsServerOver D.told D.seen D.may_leave base self.old s L records
             → let e = heard_event (config_of self.old).users L s event.entry in MatchResult result
-            (λ r. StepAnswers D.told D.seen D.may_leave (state_of self.new) s L records now event.entry r (step s now e))
-            (λ x. EventRefused D.told D.seen D.may_leave D.faults x (state_of self.old) (state_of self.new) s L records now e
+            (λ r. StepAnswers D.told D.seen D.may_leave base (state_of self.new) s L records now event.entry r (step s now e))
+            (λ x. EventRefused D.told D.seen D.may_leave base D.faults x (state_of self.old) (state_of self.new) s L records now e
             (logons_behind (config_of self.old).users L event.entry now (progress_of e (step s now e).reply))) }
         ensures any_moment { D.told
-            → (s : model.Server) (L : Logons) (records : List model.Record) (bodies : List (List ℕ))
-            → HoldsServer D.told D.seen D.may_leave self.old s L records → JournaledGoesOn D.seen D.may_leave (state_of self.old) s records bodies
+            → (base : List SnapshotPiece) (s : model.Server) (L : Logons) (records : List model.Record) (bodies : List (List ℕ))
+            → HoldsServerOver D.told D.seen D.may_leave base self.old s L records
+            → JournaledGoesOn D.seen D.may_leave base (state_of self.old) s records bodies
             → LeavesOnly D.moment D.left_since (disk_of self.old) (disk_of self.new)
             (EventLeavesBodies s now (heard_event (config_of self.old).users L s event.entry) bodies) }
         ensures stopped { (count : ℕ) → stopped_of self.old ≡ Some count
             → (result ≡ Err (errors.Stopped count)) × (self.new ≡ self.old) }
         ensures config { config_of self.new ≡ config_of self.old }
-        ensures early { (s : model.Server) (L : Logons) (records : List model.Record)
-            → HoldsServer D.told D.seen D.may_leave self.old s L records → is_setup_heard event.entry ≡ false
+        ensures early { (base : List SnapshotPiece) (s : model.Server) (L : Logons) (records : List model.Record)
+            → HoldsServerOver D.told D.seen D.may_leave base self.old s L records → is_setup_heard event.entry ≡ false
             → due (with_deadlines s now) now ≡ None
             → is_refused_early s (heard_event (config_of self.old).users L s event.entry) ≡ true → HasMemory result }
     {
@@ -112,8 +114,8 @@ impl<D: Disk> Server<D> {
 
     /// With what the own key of a session signs, where it is live: not that of one of its channels (MS-SMB2 3.3.1.8).
     pub fn signer(&self, session: u64) -> Option<Signer>
-        ensures { (s : model.Server) (L : Logons) (records : List model.Record)
-            → HoldsServer D.told D.seen D.may_leave self.now s L records
+        ensures { (base : List SnapshotPiece) (s : model.Server) (L : Logons) (records : List model.Record)
+            → HoldsServerOver D.told D.seen D.may_leave base self.now s L records
             → result ≡ (if s.present session then Some (L.keys session).signing else None) }
     {
         signer_of(&self.state.tables.sessions, session)

@@ -327,10 +327,10 @@ module _ {D : Type 0} (told : Type 0) (seen : D → List ℕ) (may_leave : D →
 
     module _ (lists : map waiter_of new.waiters.items ≡ staying_waiters (map waiter_of old.waiters.items) (waits.Serves e))
         (ids : new.ids_given ≡ old.ids_given)
-        (leaves : told → (bodies : List (List ℕ)) → JournaledGoesOn seen may_leave (state_of old.server) w.server records bodies
+        (leaves : told → (bodies : List (List ℕ)) → JournaledGoesOn seen may_leave [] (state_of old.server) w.server records bodies
         → LeavesOnly moment left_since (disk_of old.server) (disk_of new.server) (EventLeavesBodies w.server now e bodies)) where
       asked : (r : Result Answer EventError) (y : Option StepMishap) (N : Logons) (front : List model.Record)
-          → EventAnswers told seen may_leave faults (state_of old.server) (state_of new.server) (config_of old.server).users w.server L records now own r
+          → EventAnswers told seen may_leave [] faults (state_of old.server) (state_of new.server) (config_of old.server).users w.server L records now own r
           → Befell now r (waits.own_step w.server now e y) e L M N front
           → StepGoes told seen may_leave moment left_since faults (config_of old.server).users now own (state_of old.server) (state_of new.server) L records
           (waits.own_step w.server now e y) N front
@@ -345,7 +345,7 @@ module _ {D : Type 0} (told : Type 0) (seen : D → List ℕ) (may_leave : D →
 
       pub served_well : (r : Answer) (l : OwnAnswer) → l.answer ≡ r
           → ((q : model.Reply) → own_reply e q ≡ record { connection = l.connection; message = l.message; async_id = l.async_id; reply = q })
-          → new.starved ≡ old.starved → config_of new.server ≡ config_of old.server → StepAnswers told seen may_leave (state_of new.server) w.server L records now own r A
+          → new.starved ≡ old.starved → config_of new.server ≡ config_of old.server → StepAnswers told seen may_leave [] (state_of new.server) w.server L records now own r A
           → ServedBy told seen may_leave moment left_since faults old.server new w L records now own (Ok (Some l))
       served_well r l same asker starved config a =
           let R : Config → Type 0 = λ z. BesideReply z.users L own now (progress_of (heard_event z.users L w.server own) A.reply) r.token r.keys r.channel in
@@ -426,7 +426,7 @@ module _ {D : Type 0} (told : Type 0) (seen : D → List ℕ) (may_leave : D →
           subst P (sym (append-nil front)) i
 
       pub served_ill : new.starved ≡ true → (x : EventError)
-          → EventRefused told seen may_leave faults x (state_of old.server) (state_of new.server) w.server L records now e M
+          → EventRefused told seen may_leave [] faults x (state_of old.server) (state_of new.server) w.server L records now e M
           → ServedBy told seen may_leave moment left_since faults old.server new w L records now own (Err x)
       served_ill starved errors.Memory a =
           let P : List model.Record → Type 0 = λ z. HoldsTill told seen may_leave (state_of new.server) w.server L z in

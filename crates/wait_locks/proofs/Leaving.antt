@@ -1,12 +1,14 @@
 -- What a crash at any moment of a turn's steps leaves.
-use Rattle.std.proofs.Common.{◌≡◌, ℕ, true, List, [], ◌∷◌, ◌++◌, Option, Some, None, ◌⊎◌, Result, Ok, Err, ap, sym, subst, ◌∙◌, inl, inr, ⊎_elim, arith}
+use Rattle.std.proofs.Common.{◌≡◌, ℕ, true, List, [], ◌∷◌, ◌++◌, Option, Some, None, ◌⊎◌, Result, Ok, Err, refl, ap, sym, subst, ◌∙◌, inl, inr, ⊎_elim, arith}
 use Rattle.std.specs.Prelude.{is_some}
 use Rattle.spec_exchange.specs.State as model
+use Rattle.spec_exchange.specs.Fold.{nothing_yet}
 use Rattle.spec_exchange.specs.Step.{step}
 use Rattle.spec_crypto.specs.tokens.Tokens.{Users}
 use Rattle.spec_world.specs.Ends.{Logons}
 use Rattle.spec_journal.specs.Forms.{StandsFor}
 use Rattle.spec_wire.specs.journal.Moments.{LeavesOnly}
+use Rattle.law_snapshots.specs.snapshots.Pieces.{with_pieces}
 use Rattle.law_waiting.specs.wait_steps.WaitStep.{Lacks, MadeStep, StepMishap}
 use Rattle.journal.specs.disk_journal.Journal.{JournalSettled, JournalState}
 use Rattle.server_checks.specs.event_heard.Heard.{heard_event}
@@ -15,6 +17,7 @@ use Rattle.server_checks.specs.declared.setups.error.EventError.{EventError}
 use Rattle.server_checks.specs.declared.setups.error.EventError.TheVariants.{Memory, DiskFault, Stopped}
 use Rattle.server_checks.specs.setups.Setups.{progress_of}
 use Rattle.server_core.specs.journaled_tables.Beside.{logons_behind}
+use Rattle.server_core.specs.Reading.{BodiesSpell, PiecesFrom, SpellOver}
 use Rattle.server_core.specs.crash.Left.{IsRecorded}
 use Rattle.server_core.specs.journaled_tables.Holds.{EventAnswers, EventLeavesBodies, JournaledHolds, JournaledStands}
 use Rattle.server_core.specs.declared.journaled_tables.state.ServerState.{ServerState}
@@ -57,15 +60,27 @@ stands_for seen may_leave j bodies s c left = inr (record {
   fit = s.fit;
 })
 
+-- where no snapshot stands in front, all bodies have records
+no_bodies : (s : model.Server) (bodies : List (List ℕ)) → PiecesFrom s bodies [] → bodies ≡ []
+no_bodies s [] h = refl
+no_bodies s (b ∷ bodies) h = absurd (let e : [] ≡ h.0 ∷ (h.1 ++ h.2) = h.5 in cc)
+
+none_over : (bodies : List (List ℕ)) (rs : List model.Record) → SpellOver [] bodies rs → BodiesSpell bodies rs
+unfolding with_pieces
+none_over bodies rs h =
+    let same : h.back ≡ bodies =
+    sym (h.bodies_are ∙ ap (λ (bs : List (List ℕ)). bs ++ h.back) (no_bodies nothing_yet h.front h.pieces)) in
+    subst (λ (bs : List (List ℕ)). BodiesSpell bs rs) same h.records
+
 recorded : {D : Type 0} (told : Type 0) (seen : D → List ℕ) (may_leave : D → List ℕ → Type 0) (c : ServerState D) (s : model.Server) (L : Logons)
     (records : List model.Record) (bodies : List (List ℕ)) → JournaledHolds told seen may_leave c s L records
-    → JournaledStands seen may_leave c.journal s records bodies → IsRecorded s records bodies
+    → JournaledStands seen may_leave [] c.journal s records bodies → IsRecorded s records bodies
 recorded told seen may_leave c s L records bodies h st =
-    record { fits = h.fits; version = h.version; sound = h.sound; spelled = st.spelled; for_state = st.for_state }
+    record { fits = h.fits; version = h.version; sound = h.sound; spelled = none_over bodies records st.spelled; for_state = st.plain refl }
 
 -- its bodies spell these records
 abbrev pub Stands : {D : Type 0} → (D → List ℕ) → (D → List ℕ → Type 0) → ServerState D → List model.Record → Type 0
-Stands seen may_leave c records = (s : model.Server) × (bodies : List (List ℕ)) × JournaledStands seen may_leave c.journal s records bodies
+Stands seen may_leave c records = (s : model.Server) × (bodies : List (List ℕ)) × JournaledStands seen may_leave [] c.journal s records bodies
 
 none_behind : (x : MadeStep) (xs : List MadeStep) → OnlyLast (x ∷ xs) → is_some x.mishap ≡ true → xs ≡ []
 none_behind x xs h e = h.0 e
@@ -85,7 +100,7 @@ module _ {D : Type 0} (told : Type 0) (seen : D → List ℕ) (may_leave : D →
       let P : ServerState D → Type 0 = λ z. Left c z L records [] in
       subst P (sym g.0)
       (started moment left_since c.journal.disk (StepsLeave users now own L records [])
-      (λ b left. (st.1, st.2.spelled, stands_for seen may_leave c.journal st.1 st.2.settled b (only_now c.journal.disk b left))))
+      (λ b left. (st.1, none_over st.1 records st.2.spelled, stands_for seen may_leave c.journal st.1 st.2.settled b (only_now c.journal.disk b left))))
 
   module _ (c b d : ServerState D) (L N M : Logons) (records front rest : List model.Record) (x : MadeStep) (xs : List MadeStep)
       (h : JournaledHolds told seen may_leave c x.server L records) (none : c.stopped ≡ None) where
@@ -156,7 +171,7 @@ module _ {D : Type 0} (told : Type 0) (seen : D → List ℕ) (may_leave : D →
       stays : is_some x.mishap ≡ true → Left c d L records (x ∷ xs)
       stays e = ends c b d L N M records front rest x xs h none last e more (ran c b d L N M records front rest x xs h none a)
 
-      by_result : (r : Result Answer EventError) → EventAnswers told seen may_leave faults c b users x.server L records now a.event r
+      by_result : (r : Result Answer EventError) → EventAnswers told seen may_leave [] faults c b users x.server L records now a.event r
           → Befell now r x ev L (logons_behind users L a.event now (progress_of ev x.answer.reply)) N front → Left c d L records (x ∷ xs)
       by_result (Ok r) ans bef =
           let Q : List model.Record → Type 0 = λ z. Stands seen may_leave b (records ++ z) in let st = ans.4.stands ans.0 tells in

@@ -10,3 +10,6 @@ mod Named
 mod Begins
 mod Lasting
 mod Leaving
+mod Mild
+mod Settling
+mod Places

@@ -106,13 +106,13 @@ module _ {D : Type 0} (told : Type 0) (seen : D → List ℕ) (may_leave : D →
 
   module _ (m : Message) (is : message_of m ≡ kept_message k) (h : JournaledHolds told seen may_leave (state_of old.server) s L records)
       (none : stopped_of old.server ≡ None)
-      (leaves : told → (bodies : List (List ℕ)) → JournaledGoesOn seen may_leave (state_of old.server) s records bodies
+      (leaves : told → (bodies : List (List ℕ)) → JournaledGoesOn seen may_leave [] (state_of old.server) s records bodies
       → LeavesOnly moment left_since (disk_of old.server) (disk_of new.server) (EventLeavesBodies s now (heard_event (users_of old) L s (events.Message m)) bodies)) where
     so : heard_event (users_of old) L s (events.Message m) ≡ model.Heard (kept_message k)
     so = heard_so (users_of old) L s m k is
 
     asked : (o : Option StepMishap) (N : Logons) (front : List model.Record) (r : Result Answer EventError)
-        → EventAnswers told seen may_leave faults (state_of old.server) (state_of new.server) (users_of old) s L records now (events.Message m) r
+        → EventAnswers told seen may_leave [] faults (state_of old.server) (state_of new.server) (users_of old) s L records now (events.Message m) r
         → Befell now r (trial s now es (waiter_of k) o) (heard_event (users_of old) L s (events.Message m)) L L N front
         → StepGoes told seen may_leave moment left_since faults (users_of old) now own (state_of old.server) (state_of new.server) L records
         (trial s now es (waiter_of k) o) N front
@@ -131,7 +131,7 @@ module _ {D : Type 0} (told : Type 0) (seen : D → List ℕ) (may_leave : D →
     )
 
     pub went : (r : Answer) (l : Later)
-        → StepAnswers told seen may_leave (state_of new.server) s L records now (events.Message m) r
+        → StepAnswers told seen may_leave [] (state_of new.server) s L records now (events.Message m) r
         (step s now (heard_event (users_of old) L s (events.Message m)))
         → map waiter_of new.waiters.items ≡ es ++ ls → response_of l ≡ later_to (waiter_of k) (reply_of r.reply) → after ≡ before ++ l ∷ []
         → RoundIs told seen may_leave moment left_since faults now own old new before after rounds.Went s L records es (waiter_of k) ls
@@ -149,7 +149,7 @@ module _ {D : Type 0} (told : Type 0) (seen : D → List ℕ) (may_leave : D →
           },
         )
 
-    pub lacks : EventRefused told seen may_leave faults Memory (state_of old.server) (state_of new.server) s L records now
+    pub lacks : EventRefused told seen may_leave [] faults Memory (state_of old.server) (state_of new.server) s L records now
         (heard_event (users_of old) L s (events.Message m)) L
         → SameLists old new before after
         → RoundIs told seen may_leave moment left_since faults now own old new before after rounds.Lacks s L records es (waiter_of k) ls
@@ -179,7 +179,7 @@ module _ {D : Type 0} (told : Type 0) (seen : D → List ℕ) (may_leave : D →
       ],
     )
 
-    pub fails : (count : ℕ) → EventRefused told seen may_leave faults (DiskFault count) (state_of old.server) (state_of new.server) s L records now
+    pub fails : (count : ℕ) → EventRefused told seen may_leave [] faults (DiskFault count) (state_of old.server) (state_of new.server) s L records now
         (heard_event (users_of old) L s (events.Message m)) L
         → SameLists old new before after
         → RoundIs told seen may_leave moment left_since faults now own old new before after (rounds.Fails count) s L records es (waiter_of k) ls
@@ -212,30 +212,30 @@ module _ {D : Type 0} (told : Type 0) (seen : D → List ℕ) (may_leave : D →
     )
 
     pub lacks_as : (x : EventError) → x ≡ Memory
-        → EventRefused told seen may_leave faults x (state_of old.server) (state_of new.server) s L records now
+        → EventRefused told seen may_leave [] faults x (state_of old.server) (state_of new.server) s L records now
         (heard_event (users_of old) L s (events.Message m)) L
         → SameLists old new before after
         → RoundIs told seen may_leave moment left_since faults now own old new before after rounds.Lacks s L records es (waiter_of k) ls
     lacks_as x e a lists =
-        let P : EventError → Type 0 = λ z. EventRefused told seen may_leave faults z (state_of old.server) (state_of new.server) s L records now
+        let P : EventError → Type 0 = λ z. EventRefused told seen may_leave [] faults z (state_of old.server) (state_of new.server) s L records now
         (heard_event (users_of old) L s (events.Message m)) L in lacks (subst P e a) lists
 
     pub fails_as : (x : EventError) (count : ℕ) → x ≡ DiskFault count
-        → EventRefused told seen may_leave faults x (state_of old.server) (state_of new.server) s L records now
+        → EventRefused told seen may_leave [] faults x (state_of old.server) (state_of new.server) s L records now
         (heard_event (users_of old) L s (events.Message m)) L
         → SameLists old new before after
         → RoundIs told seen may_leave moment left_since faults now own old new before after (rounds.Fails count) s L records es (waiter_of k) ls
     fails_as x count e a lists =
-        let P : EventError → Type 0 = λ z. EventRefused told seen may_leave faults z (state_of old.server) (state_of new.server) s L records now
+        let P : EventError → Type 0 = λ z. EventRefused told seen may_leave [] faults z (state_of old.server) (state_of new.server) s L records now
         (heard_event (users_of old) L s (events.Message m)) L in fails count (subst P e a) lists
 
     pub never_as : (x : EventError) (count : ℕ) → x ≡ Stopped count
-        → EventRefused told seen may_leave faults x (state_of old.server) (state_of new.server) s L records now
+        → EventRefused told seen may_leave [] faults x (state_of old.server) (state_of new.server) s L records now
         (heard_event (users_of old) L s (events.Message m)) L
         → (stopped_of old.server) ≡ None
         → RoundIs told seen may_leave moment left_since faults now own old new before after (rounds.Fails count) s L records es (waiter_of k) ls
     never_as x count e a none =
-        let P : EventError → Type 0 = λ z. EventRefused told seen may_leave faults z (state_of old.server) (state_of new.server) s L records now
+        let P : EventError → Type 0 = λ z. EventRefused told seen may_leave [] faults z (state_of old.server) (state_of new.server) s L records now
         (heard_event (users_of old) L s (events.Message m)) L in never_stopped count (subst P e a).0 none
 
 -- ---- of whom the first is told

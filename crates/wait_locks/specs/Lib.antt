@@ -5,3 +5,4 @@ pub mod Told
 pub mod Rounds
 pub mod Shown
 pub mod Begun
+pub mod Settled

@@ -56,11 +56,11 @@ module _ {D : Type 0} (told : Type 0) (seen : D → List ℕ) (may_leave : D →
     pub event : ServerEvent
     pub heard : IsHeardAs own x.waiter event
     pub result : Result Answer EventError
-    pub answers : EventAnswers told seen may_leave faults c d users x.server L records now event result
+    pub answers : EventAnswers told seen may_leave [] faults c d users x.server L records now event result
     pub answer : x.answer ≡ step x.server now (heard_event users L x.server event)
     pub befell : Befell now result x (heard_event users L x.server event) L
         (logons_behind users L event now (progress_of (heard_event users L x.server event) x.answer.reply)) N front
-    pub any_moment : told → (bodies : List (List ℕ)) → JournaledGoesOn seen may_leave c x.server records bodies
+    pub any_moment : told → (bodies : List (List ℕ)) → JournaledGoesOn seen may_leave [] c x.server records bodies
         → LeavesOnly moment left_since c.journal.disk d.journal.disk
         (EventLeavesBodies x.server now (heard_event users L x.server event) bodies)
 

@@ -10,10 +10,11 @@ ghost use Rattle.spec_exchange.specs.State.{Server};
 ghost use Rattle.store_opens.specs.share_modes.Locking.{first_conflict, locking_count_owned, locking_overlaps, range_of};
 ghost use Rattle.wait_locks.specs.Kept as way;
 ghost use Rattle.wait_locks.specs.Kept.{kept_message};
+ghost use Rattle.wait_locks.specs.Settled.{IsSettled};
 ghost use Rattle.wire_commands.specs.values.Meaning.{message_of};
 
 use crate::waiter::Waiter;
-use law_waiting::held_law;
+use law_waiting::{held_law, untouched_law};
 use server_checks::{Tables, is_slot};
 use store_opens::Range;
 use wire_commands::Message;
@@ -32,7 +33,7 @@ pub fn would_wait(tables: &Tables, message: &Message<'_>) -> Option<Range>
 /// The same, with all of its message; its AsyncId is to come.
 pub fn would_begin(tables: &Tables, message: &Message<'_>) -> Option<Waiter>
     ensures some { IfSome result (λ k. way.KeepsMessage k (message_of message.now) 0
-        × ((s : Server) → Fits s → TablesShown tables.now s → is_some (would_wait s (kept_message k)) ≡ true)) }
+        × ((s : Server) → Fits s → TablesShown tables.now s → IsSettled s k)) }
     ensures none { result ≡ None → (s : Server) → Fits s → TablesShown tables.now s → would_wait s (message_of message.now) ≡ None }
 {
     match Waiter::of(message, 0) {
@@ -44,11 +45,12 @@ pub fn would_begin(tables: &Tables, message: &Message<'_>) -> Option<Waiter>
 fn begins(tables: &Tables, message: &Message<'_>, waiter: Waiter) -> Option<Waiter>
     requires { way.KeepsMessage waiter (message_of message.now) 0 }
     ensures some { IfSome result (λ k. way.KeepsMessage k (message_of message.now) 0
-        × ((s : Server) → Fits s → TablesShown tables.now s → is_some (would_wait s (kept_message k)) ≡ true)) }
+        × ((s : Server) → Fits s → TablesShown tables.now s → IsSettled s k)) }
     ensures none { result ≡ None → (s : Server) → Fits s → TablesShown tables.now s → would_wait s (message_of message.now) ≡ None }
 {
+    untouched_law();
     match held_up(tables, &waiter) {
-        Some(_) => Some(waiter),
+        Some(_) => Some(waiter.on_file(tables.file_of(waiter.file))),
         None => None,
     }
 }

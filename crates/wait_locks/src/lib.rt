@@ -6,6 +6,7 @@
 mod carrying;
 mod held;
 mod later;
+mod touching;
 mod trying;
 mod wait_server;
 mod waiter;

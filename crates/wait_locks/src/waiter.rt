@@ -26,6 +26,8 @@ pub struct Waiter {
     pub number: u8,
     pub element: Element,
     pub async_id: u64,
+    /// The number of its open's file, from the moment on at which it waits.
+    pub on: u64,
 }
 
 impl Waiter {
@@ -57,6 +59,13 @@ impl Waiter {
         ensures { result ≡ record self.now { async_id = async_id } }
     {
         Waiter { async_id, ..*self }
+    }
+
+    /// The same on this file.
+    pub fn on_file(&self, on: u64) -> Waiter
+        ensures { result ≡ record self.now { on = on } }
+    {
+        Waiter { on, ..*self }
     }
 
     /// A copy of its message, for a step of the server. Its one element takes memory.
@@ -133,5 +142,6 @@ fn of_element(
         number,
         element,
         async_id,
+        on: 0,
     })
 }

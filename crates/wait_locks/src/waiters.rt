@@ -1,10 +1,12 @@
 //! The list of waiters.
-ghost use Rattle.std.specs.Prelude.{◌≡◌, ◌<◌, IfSome, length, map};
+ghost use Rattle.std.specs.Prelude.{◌≡◌, ◌<◌, IfSome, false, is_some, length, map, not};
 ghost use Rattle.law_waiting.specs.wait_steps.WaitStep as waits;
 ghost use Rattle.server_checks.specs.event_heard.Heard.{heard_event};
 ghost use Rattle.spec_crypto.specs.tokens.Tokens.{Users};
 ghost use Rattle.spec_world.specs.Ends.{Logons};
-ghost use Rattle.wait_locks.specs.Kept.{waiter_of};
+ghost use Rattle.law_waiting.specs.held.Held.{would_wait};
+ghost use Rattle.wait_locks.specs.Kept.{kept_message, waiter_of};
+ghost use Rattle.wait_locks.specs.Settled.{IsSettled, SettledBut, may_free};
 ghost use Rattle.wait_locks.specs.Shown.{BeforeIs, NamedIs, target_of, wait_event};
 ghost use Rattle.law_server.specs.tables.Fits.{Fits};
 ghost use Rattle.server_checks.specs.Shown.{TablesShown};
@@ -12,6 +14,7 @@ ghost use Rattle.spec_exchange.specs.State.{Server};
 ghost use Rattle.wait_locks.specs.Told.{FirstIs};
 
 use crate::held::held_up;
+use crate::touching::Touched;
 use crate::wait_server::{CancelTarget, WaitEvent};
 use crate::waiter::Waiter;
 use server_checks::{ServerEvent, Tables, is_slot};
@@ -27,6 +30,30 @@ pub fn first_free(tables: &Tables, waiters: &[Waiter]) -> Option<usize>
         }
     }
     None
+}
+
+/// The same, where a range holds up each that the step can't let go.
+pub fn first_touched(tables: &Tables, waiters: &[Waiter], touched: &Touched) -> Option<usize>
+    ensures exact { (s : Server) → Fits s → TablesShown tables.now s → SettledBut touched.now s waiters.now → FirstIs s waiters.now result }
+    ensures there { IfSome result (λ place. place < length waiters.now) }
+{
+    for (place, waiter) in waiters.iter().enumerate() {
+        if is_free(tables, waiter, touched) {
+            return Some(place);
+        }
+    }
+    None
+}
+
+// One that the step can't let go is held up as before.
+fn is_free(tables: &Tables, waiter: &Waiter, touched: &Touched) -> bool
+    ensures { (s : Server) → Fits s → TablesShown tables.now s → (may_free touched.now waiter.now.on ≡ false → IsSettled s waiter.now)
+        → result ≡ not (is_some (would_wait s (kept_message waiter.now))) }
+{
+    if !touched.may_free(waiter.on) {
+        return false;
+    }
+    held_up(tables, waiter).is_none()
 }
 
 /// An end drops its connection's waiters, and a stop all.

@@ -28,9 +28,9 @@ use Rattle.spec_exchange.specs.Check.{check, command_check, formed, has_session,
 use Rattle.spec_exchange.specs.Effects.{apply, change_file, keep_slot, reach, set_ranges}
 use Rattle.spec_exchange.specs.Records.{fits, origin_at}
 use Rattle.spec_exchange.specs.Step.{add_expired_guid, due, due_in, event_answer, expire, expire_records, expiring, is_past, max_expired_guids, step, with_deadlines, without_room, written_down}
-use Rattle.law_waiting.specs.held.Exactly.{comes_to_ranges}
+use Rattle.law_waiting.specs.held.Exactly.{comes_to_ranges, is_countable, is_owed}
 use Rattle.law_waiting.specs.held.Held.{awaited, first_in_the_way, held_by, is_not_granted, may_wait, wanted_range, would_wait}
-use Rattle.law_waiting.specs.held.Untouched.{UntouchedStays, leaves_file, leaves_waiters}
+use Rattle.law_waiting.specs.held.Untouched.{FilesStay, UntouchedStays, WaiterStands, is_mild, leaves_file, leaves_waiters}
 use Rattle.law_waiting.proofs.held.Equally.{waits_exactly}
 
 -- ---- what a LOCK by this open waits by
@@ -660,32 +660,78 @@ expired_opens s o =
     guid_opens (leave_open s o) (s.opened o).client_guid (s.opened o).create_guid
     ∙ left_opens (drop_open (pending_behind s o) o) (s.opened o).file ∙ ap (without o) (pending_opens s o)
 
-module _ (s : Server) (now o : ℕ) (k : Message) (h : Allows (Elsewhere s o) k.command) where
+opened_reach : (s : Server) (k : Message) (p : ℕ) → (reach s k p).opened ≡ s.opened
+opened_reach s k p = by (is_late s k p)
+  where
+    by : (b : Bool) → (if b then s else record s { sequence = λ q. if q == p then k.channel_sequence else s.sequence q }).opened ≡ s.opened
+    by true = refl
+    by false = refl
+
+opened_change : (u : Server) (f now : ℕ) (c : Change) → (change_file u f now c).opened ≡ u.opened
+opened_change u f now (PutBytes at bytes) = refl
+opened_change u f now (PutEnd size) = refl
+opened_change u f now (PutBasic basic) = refl
+opened_change u f now (PutDeletePending flag) = refl
+opened_change u f now (PutPath replaced path) = refl
+opened_change u f now PutNothing = refl
+
+opened_slot : (u : Server) (p index number status : ℕ) → (keep_slot u p index number status).opened ≡ u.opened
+opened_slot u p index number status = by (is_slot index)
+  where
+    by : (b : Bool) → (if b then record u {
+      lock_sequences = λ q r. if q == p then (if r == index then Some (record { number = number; status = status }) else u.lock_sequences q r)
+          else u.lock_sequences q r;
+    } else u).opened ≡ u.opened
+    by true = refl
+    by false = refl
+
+opened_keep : (locks : ℕ → Type 0) (s : Server) (k : Message) (now : ℕ) (v : Verdict) → Harmless locks v → (apply s k now v).server.opened ≡ s.opened
+opened_keep locks s k now (Refuse status) h = refl
+opened_keep locks s k now (Give body) h = refl
+opened_keep locks s k now (TurnDown p status) h = opened_reach s k p
+opened_keep locks s k now (Tell p body) h = opened_reach s k p
+opened_keep locks s k now (Show p place body) h = opened_reach s k p
+opened_keep locks s k now (Alter p change body) h = opened_change (reach s k p) (file_of s p) now change ∙ opened_reach s k p
+opened_keep locks s k now (KeepSlot p index number status elements) h = opened_slot (reach s k p) p index number status ∙ opened_reach s k p
+opened_keep locks s k now (PutRanges p index number ranges elements) h =
+    opened_slot (set_ranges (reach s k p) (file_of s p) ranges) p index number success ∙ opened_reach s k p
+opened_keep locks s k now _ h = absurd h
+
+opened_if : (b : Bool) (s : Server) (A B : Answer) → A.server.opened ≡ s.opened → B.server.opened ≡ s.opened
+    → (if b then A else B).server.opened ≡ s.opened
+opened_if true s A B h g = h
+opened_if false s A B h g = g
+
+opened_answer : (s : Server) (now : ℕ) (k : Message) → Allows Any k.command → (event_answer s now (Heard k)).server.opened ≡ s.opened
+opened_answer s now k h =
+    let g = checked Any s k h in
+    opened_if (fits s (apply s k now (check s k)).records) s (apply s k now (check s k)) (apply s k now (without_room (check s k)))
+    (opened_keep Any s k now (check s k) g) (opened_keep Any s k now (without_room (check s k)) (roomless Any (check s k) g))
+
+-- what holds behind the event alone holds behind it, since none expires
+module _ (R : Server → Type 0) (s : Server) (now : ℕ) (k : Message) (h : Allows Any k.command)
+    (alone : R (written_down (event_answer (with_deadlines s now) now (Heard k))).server) where
   abbrev u : Server
   u = with_deadlines s now
 
   abbrev Goal : Answer → Type 0
-  Goal A = length (written_down A).server.opens ≡ length s.opens → Same s (written_down A).server o
-
-  alone : Goal (event_answer u now (Heard k))
-  alone q = written s (event_answer u now (Heard k)) o (dated s (event_answer u now (Heard k)).server now o (answered u now o k h))
+  Goal A = length (written_down A).server.opens ≡ length s.opens → R (written_down A).server
 
   behind_one : (p : ℕ) → due u now ≡ Some p → (records : List Record)
       → Goal (record (apply (expire u p) k now (check (expire u p) k)) { records = records })
   behind_one p e records q =
       let fewer : length (without p s.opens) < length s.opens = out_of u.deadline s.opens now p e in
       let same : (apply (expire u p) k now (check (expire u p) k)).server.opens ≡ without p s.opens =
-      opens_keep Any (expire u p) k now (check (expire u p) k) (checked Any (expire u p) k (allowed_all (Elsewhere s o) k.command h))
-      ∙ expired_opens u p in
+      opens_keep Any (expire u p) k now (check (expire u p) k) (checked Any (expire u p) k h) ∙ expired_opens u p in
       let r : length (without p s.opens) ≡ length s.opens = sym (ap length same) ∙ q in absurd (omega (arith, fewer, r))
 
   by_two : (b c : Bool) (A : Answer) → Goal A → Goal (if b then event_answer u now (Heard k) else if c then A else event_answer u now (Heard k))
-  by_two true c A g = alone
+  by_two true c A g = λ q. alone
   by_two false true A g = g
-  by_two false false A g = alone
+  by_two false false A g = λ q. alone
 
   by_due : (x : Option ℕ) → due u now ≡ x → Goal (expiring u now (Heard k) x)
-  by_due None e = alone
+  by_due None e = λ q. alone
   by_due (Some p) e =
       let A : Answer = apply (expire u p) k now (check (expire u p) k) in
       let all : List Record = expire_records u (origin_at k.connection) p ++ A.records in
@@ -693,10 +739,61 @@ module _ (s : Server) (now o : ℕ) (k : Message) (h : Allows (Elsewhere s o) k.
 
 stepped : (s : Server) (now : ℕ) (e : ServerEvent) (o : ℕ) → length (step s now e).server.opens ≡ length s.opens
     → leaves_waiters s (s.opened o).file e ≡ true → Same s (step s now e).server o
-stepped s now (Heard k) o d h = by_due s now o k (allowed s o k.command h) (due (with_deadlines s now) now) refl d
+stepped s now (Heard k) o d h =
+    let u : Server = with_deadlines s now in let a : Allows (Elsewhere s o) k.command = allowed s o k.command h in
+    let P : Server → Type 0 = λ t. Same s t o in
+    by_due P s now k (allowed_all (Elsewhere s o) k.command a)
+    (written s (event_answer u now (Heard k)) o (dated s (event_answer u now (Heard k)).server now o (answered u now o k a)))
+    (due u now) refl d
 stepped s now _ o d h = absurd (cc)
+
+mild : (c : Command) → is_mild c ≡ true → Allows Any c
+mild (Unreadable status) h = tt
+mild (Aside status) h = tt
+mild (Flush p) h = tt
+mild (Read p at size minimum channel) h = tt
+mild (Write p at bytes channel) h = tt
+mild (Ioctl p code room) h = tt
+mild (ListDirectory p class restart single pattern room) h = tt
+mild (QueryFile p class room) h = tt
+mild (QueryVolume p class room) h = tt
+mild (SetInfo p setting) h = tt
+mild (Lock p index number es) h = tt
+mild _ h = absurd (cc)
+
+pub files_stay : FilesStay
+files_stay s now k d h =
+    let P : Server → Type 0 = λ t. t.opened ≡ s.opened in let u : Server = with_deadlines s now in
+    by_due P s now k (mild k.command h) (opened_answer u now k (mild k.command h)) (due u now) refl d
 
 pub untouched_stays : UntouchedStays
 untouched_stays s now e m o index number es q d h =
     let g : Same s (step s now e).server o = stepped s now e o d h in
     record { held = waits_so s (step s now e).server m o index number es q g; file = ap (λ (x : ℕ → Open). (x o).file) g.opened }
+
+-- ---- one that waits has its open
+
+chosen_so : (b : Bool) (x : Option Range) → is_some (if b then x else None) ≡ true → b ≡ true
+chosen_so true x h = refl
+chosen_so false x h = absurd (cc)
+
+first_of_all : (owed standing session under rest countable : Bool) → (owed && ((((standing && session) && under) && rest) && countable)) ≡ true
+    → standing ≡ true
+first_of_all true true session under rest countable h = refl
+first_of_all true false session under rest countable h = absurd (cc)
+first_of_all false standing session under rest countable h = absurd (cc)
+
+stands_by : (s : Server) (m : Message) (o index number : ℕ) (e : Element) → m.command ≡ Lock o index number (e ∷ [])
+    → is_some (would_wait s m) ≡ true → (b : Bool) → may_wait e.flags ≡ b → s.standing o ≡ true
+stands_by s m o index number e q h true f =
+    first_of_all (is_owed s m) (s.standing o) (is_at m.session_id (s.session_of_open o)) (s.tree_of_open o == m.tree_id)
+    (not (is_some (kept_lock s o index number)) && not (is_directory s (file_of s o))) (is_countable s o e)
+    (chosen_so (comes_to_ranges s m o index number e) (first_in_the_way (s.ranges (file_of s o)) (wanted_range o e))
+    (ap is_some (sym (waits_exactly s m o index number e q f)) ∙ h))
+stands_by s m o index number e q h false f =
+    absurd (let g : is_some (would_wait s m) ≡ false = ap is_some (nobody s m (ap awaited q ∙ flagged o e (may_wait e.flags) f)) in cc)
+
+pub waiter_stands : WaiterStands
+waiter_stands s m o index number [] q h = absurd (let g : is_some (would_wait s m) ≡ false = ap is_some (nobody s m (ap awaited q)) in cc)
+waiter_stands s m o index number (e ∷ []) q h = stands_by s m o index number e q h (may_wait e.flags) refl
+waiter_stands s m o index number (e ∷ d ∷ es) q h = absurd (let g : is_some (would_wait s m) ≡ false = ap is_some (nobody s m (ap awaited q)) in cc)

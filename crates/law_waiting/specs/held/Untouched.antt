@@ -1,5 +1,5 @@
--- Which events let nobody go who waits for a file: a request that takes no range of it, and no session, tree or open away.
-use Rattle.std.specs.Prelude.{◌≡◌, ℕ, ◌==◌, Bool, true, false, not, List, length}
+-- Some requests that let nobody go who waits for a file: those that look at an open or write, and a LOCK on another file.
+use Rattle.std.specs.Prelude.{◌≡◌, ℕ, ◌==◌, Bool, true, false, not, List, length, is_some}
 use Rattle.spec_exchange.specs.Commands.{Command, Unreadable, Aside, Flush, Read, Write, Lock, Ioctl, ListDirectory, QueryFile, QueryVolume, SetInfo}
 use Rattle.spec_exchange.specs.Commands.{Element}
 use Rattle.spec_exchange.specs.State.{Server, Message, ServerEvent, Heard}
@@ -36,3 +36,28 @@ abbrev pub UntouchedStays : Type 0
 UntouchedStays = (s : Server) (now : ℕ) (e : ServerEvent) (m : Message) (o index number : ℕ) (es : List Element)
     → m.command ≡ Lock o index number es → length (step s now e).server.opens ≡ length s.opens → leaves_waiters s (file_of s o) e ≡ true
     → StaysHeld s now e m o
+
+-- a request that makes no open and takes none away, by what it names
+abbrev pub is_mild : Command → Bool
+is_mild (Unreadable status) = true
+is_mild (Aside status) = true
+is_mild (Flush o) = true
+is_mild (Read o at size minimum channel) = true
+is_mild (Write o at bytes channel) = true
+is_mild (Ioctl o code room) = true
+is_mild (ListDirectory o class restart single pattern room) = true
+is_mild (QueryFile o class room) = true
+is_mild (QueryVolume o class room) = true
+is_mild (SetInfo o setting) = true
+is_mild (Lock o index number elements) = true
+is_mild _ = false
+
+-- behind it each open is of the same file
+abbrev pub FilesStay : Type 0
+FilesStay = (s : Server) (now : ℕ) (k : Message) → length (step s now (Heard k)).server.opens ≡ length s.opens → is_mild k.command ≡ true
+    → (step s now (Heard k)).server.opened ≡ s.opened
+
+-- the open of one that waits stands
+abbrev pub WaiterStands : Type 0
+WaiterStands = (s : Server) (m : Message) (o index number : ℕ) (es : List Element) → m.command ≡ Lock o index number es
+    → is_some (would_wait s m) ≡ true → s.standing o ≡ true

@@ -3,6 +3,7 @@ use Rattle.std.proofs.Common.{◌≡◌, ℕ, ◌==◌, ◌&&◌, ◌||◌, not,
 use Rattle.std.proofs.Common.{sym, ap, subst, ◌∙◌}
 use Rattle.std.proofs.Common.{Option, Some, None, is_some, Result, Ok, Err, IfOk}
 use Rattle.std.proofs.lemmas.List.{append-nil}
+use Rattle.law_snapshots.specs.snapshots.Pieces.{SnapshotPiece}
 use Rattle.server_core.specs.event_replies.Told.{IsBookTold, ProgressTold, SetupTold, refused_progress}
 use Rattle.server_core.specs.declared.event_replies.progress.Logon.{Logon}
 use Rattle.spec_commands.specs.ReplyBody.{reply_body, seals_in}
@@ -32,7 +33,7 @@ use Rattle.server_checks.specs.declared.event_heard.event.ServerEvent.{ServerEve
 use Rattle.server_checks.specs.declared.event_heard.event.ServerEvent.TheVariants as events
 use Rattle.server_core.specs.disk_server.Asked.{HasShape, BookLogonIs, IsBookLogon, signs_binding}
 use Rattle.server_core.specs.disk_server.Telling.{TellsAnswer, refusal}
-use Rattle.server_core.specs.Shown.{HoldsServer, config_of, state_of}
+use Rattle.server_core.specs.Shown.{HoldsServerOver, config_of, state_of}
 use Rattle.server_core.specs.declared.server.Server.{Server}
 use Rattle.server_effects.specs.declared.answering.Answer.{Answer}
 use Rattle.server_checks.specs.setups.Setups.{keys_behind, progress_of, request_of, setup_logons, setup_message, unless_fault}
@@ -40,7 +41,7 @@ use Rattle.server_checks.specs.declared.setups.error.EventError.{EventError}
 use Rattle.server_checks.specs.declared.setups.error.EventError.TheVariants.{Memory, DiskFault, Stopped}
 use Rattle.server_checks.specs.declared.setups.setup.SetupHeard.{SetupHeard}
 use Rattle.server_core.specs.journaled_tables.Beside.{BesideReply, SetupAnswers, logons_behind}
-use Rattle.server_core.specs.journaled_tables.Holds.{EventRefused, ExpiredAlone, JournaledHolds, StepAnswers}
+use Rattle.server_core.specs.journaled_tables.Holds.{EventRefused, ExpiredAlone, HoldsOver, StepAnswers}
 use Rattle.server_core.specs.declared.journaled_tables.state.ServerState.{ServerState}
 use Rattle.spec_crypto.specs.declared.sessions.material.Keys.{Keys}
 use Rattle.spec_crypto.specs.declared.sessions.material.Signer.{Signer}
@@ -152,7 +153,8 @@ by_tests interim done binds body =
 refused_live_as : (binds signed own_signed deleted : Bool) (algorithm : ℕ) (k : Signer) (own : Option Signer)
     → RefusesBy (if not binds then goes.Stays else if deleted then goes.Refused None
     else goes.Refused (if not signed || not (binds && own_signed) then None else Some (record k { algorithm = algorithm }))) own
-    (if binds then (if deleted then None else if not signed || not own_signed then None else Some (record k { algorithm = algorithm })) else own)
+    (if binds then (if deleted then None else if not signed || not own_signed then None else Some
+    (record k { algorithm = algorithm })) else own)
 refused_live_as false signed own_signed deleted algorithm k own = refl
 refused_live_as true signed own_signed true algorithm k own = refl
 refused_live_as true signed own_signed false algorithm k own = refl
@@ -170,7 +172,8 @@ refused_as : (users : Users) (s : model.Server) (L : Logons) (q : SetupHeard) (l
 refused_as users s L q l status true e known own =
     let k = (L.keys q.session_id).signing in
     let signer : l.signer ≡ Some k = known.signer ∙ ap (λ (b : Bool). if b then Some k else None) e in
-    let verified : l.verified ≡ (q.form.binding && has_own_signature L q) = known.verified ∙ ap (λ (o : Option Signer). signs_binding q o) signer in
+    let verified : l.verified ≡ (q.form.binding && has_own_signature L q) = known.verified
+    ∙ ap (λ (o : Option Signer). signs_binding q o) signer in
     let told : refused_progress l status ≡ refused_progress (record {
       binds = q.form.binding;
       signed = q.form.signed;
@@ -231,17 +234,17 @@ token_is users L q now logon.Stays token keys channel k = k.0
 token_is users L q now (logon.Interim binding) token keys channel k = k.0
 token_is users L q now (logon.Final binding number encrypts) token keys channel k = k.0
 
-module _ {D : Type 0} (told : Type 0) (seen : D → List ℕ) (may_leave : D → List ℕ → Type 0) where
+module _ {D : Type 0} (told : Type 0) (seen : D → List ℕ) (may_leave : D → List ℕ → Type 0) (base : List SnapshotPiece) where
   -- what `StepAnswers` says, of the users that the event is heard with and of those of the tables
   abbrev Mixed : Users → Users → ServerState D → model.Server → Logons → List model.Record → ℕ → ServerEvent → Answer → Type 0
   Mixed w v c s L records now e a =
       let A = step s now (heard_event v L s e) in
       let p = progress_of (heard_event w L s e) A.reply in
       (c.stopped ≡ None) × (reply_of a.reply ≡ A.reply) × (a.acted ≡ A.acted) × BesideReply w L e now p a.token a.keys a.channel
-      × JournaledHolds told seen may_leave c A.server (logons_behind w L e now p) (records ++ A.records)
+      × HoldsOver told seen may_leave base c A.server (logons_behind w L e now p) (records ++ A.records)
 
   abbrev Shows : Showing → ServerState D → Type 0
-  Shows shown c = (t : model.Server) (M : Logons) (rs : List model.Record) → JournaledHolds told seen may_leave c t M rs → shown t M rs
+  Shows shown c = (t : model.Server) (M : Logons) (rs : List model.Record) → HoldsOver told seen may_leave base c t M rs → shown t M rs
 
   replied : (shown : Showing) (c : ServerState D) → Shows shown c → (users : Users) (s : model.Server) (L : Logons)
       (records : List model.Record) (now : ℕ) (event : ServerEvent) (d : Command) (l : Option Logon) (a : Answer) (r : Reply)
@@ -272,7 +275,7 @@ module _ {D : Type 0} (told : Type 0) (seen : D → List ℕ) (may_leave : D →
         },
         subst (λ (o : Option Logon). ProgressTold o a r.progress) known t.progress,
         show A.server L (records ++ A.records)
-            (subst (λ (B : model.Answer). JournaledHolds told seen may_leave c B.server L (records ++ B.records)) same k.4),
+            (subst (λ (B : model.Answer). HoldsOver told seen may_leave base c B.server L (records ++ B.records)) same k.4),
       )
   replied shown c show users s L records now (events.Setup q) d None a r served shape known k t = absurd known
   replied shown c show users s L records now (events.Setup q) d (Some l) a r served shape known k t =
@@ -302,7 +305,7 @@ module _ {D : Type 0} (told : Type 0) (seen : D → List ℕ) (may_leave : D →
             A.reply.body (A.server.present q.session_id) A.reply.status known (ap (λ (R : model.Reply). R.body) reply)
             (ap (λ (R : model.Reply). R.status) reply) (λ e. present_kept s now m q.session_id refl (steady ∙ e)) beside own,
         show A.server (setup_logons users L q now p) (records ++ A.records)
-            (subst (λ (x : logon.Progress). JournaledHolds told seen may_leave c A.server (setup_logons users L q now x)
+            (subst (λ (x : logon.Progress). HoldsOver told seen may_leave base c A.server (setup_logons users L q now x)
             (records ++ A.records))
             steady k.4),
       )
@@ -323,7 +326,7 @@ module _ {D : Type 0} (told : Type 0) (seen : D → List ℕ) (may_leave : D →
       ∙ plain_answer s now m (command_of message.command) served in (
         same ∙ (k.2 ∙ ap (λ (B : model.Answer). B.acted) is),
         show A.server L (records ++ A.records)
-            (subst (λ (B : model.Answer). JournaledHolds told seen may_leave c B.server L (records ++ B.records)) is k.4),
+            (subst (λ (B : model.Answer). HoldsOver told seen may_leave base c B.server L (records ++ B.records)) is k.4),
       )
   lost shown c show users s L records now (events.Setup q) a acted served k same =
       let m = setup_message users L s q in
@@ -333,7 +336,7 @@ module _ {D : Type 0} (told : Type 0) (seen : D → List ℕ) (may_leave : D →
       same_by q.fault q.form.binding A.reply served (λ status e. denied s now m (request_of users L s q) status refl e) in (
         same ∙ k.2,
         show A.server (setup_logons users L q now p) (records ++ A.records)
-            (subst (λ (x : logon.Progress). JournaledHolds told seen may_leave c A.server (setup_logons users L q now x)
+            (subst (λ (x : logon.Progress). HoldsOver told seen may_leave base c A.server (setup_logons users L q now x)
             (records ++ A.records))
             steady k.4),
       )
@@ -349,20 +352,20 @@ module _ {D : Type 0} (told : Type 0) (seen : D → List ℕ) (may_leave : D →
   as_before users s L now (events.Setup q) served = inl (refl, refl)
 
   pub unchanged : (shown : Showing) (c : ServerState D) → Shows shown c → (users : Users) (s : model.Server) (L : Logons)
-      (records : List model.Record) (now : ℕ) (event : ServerEvent) → IsServerServed event → JournaledHolds told seen
-      may_leave c s L records
+      (records : List model.Record) (now : ℕ) (event : ServerEvent) → IsServerServed event → HoldsOver told seen
+      may_leave base c s L records
       → ServerServes shown users s L records now event (Err errors.Memory)
   unchanged shown c show users s L records now event served h = (
     s,
     [],
     as_before users s L now event served,
     show s L (records ++ [])
-        (subst (λ (rs : List model.Record). JournaledHolds told seen may_leave c s L rs) (sym (append-nil records)) h),
+        (subst (λ (rs : List model.Record). HoldsOver told seen may_leave base c s L rs) (sym (append-nil records)) h),
   )
 
   expired_alone : (shown : Showing) (c : ServerState D) → Shows shown c → (users : Users) (s : model.Server) (L : Logons)
       (records : List model.Record) (now : ℕ) (event : ServerEvent) → IsServerServed event
-      → ExpiredAlone told seen may_leave c s L records now (heard_event users L s event)
+      → ExpiredAlone told seen may_leave base c s L records now (heard_event users L s event)
       → ServerServes shown users s L records now event (Err errors.Memory)
   expired_alone shown c show users s L records now (events.Accept connection) served x = (
     x.1,
@@ -383,7 +386,7 @@ module _ {D : Type 0} (told : Type 0) (seen : D → List ℕ) (may_leave : D →
     show x.1 L (records ++ alone_records s now model.Stop x.0) x.3,
   )
   expired_alone shown c show users s L records now (events.Message message) served x =
-      let y = subst (λ (e : model.ServerEvent). ExpiredAlone told seen may_leave c s L records now e)
+      let y = subst (λ (e : model.ServerEvent). ExpiredAlone told seen may_leave base c s L records now e)
       (plain_event users L s message served) x in (
         y.1,
         alone_records s now (model.Heard (message_of message)) y.0,
@@ -399,7 +402,8 @@ module _ {D : Type 0} (told : Type 0) (seen : D → List ℕ) (may_leave : D →
 
   lacking : (shown : Showing) (c : ServerState D) → Shows shown c → (users : Users) (s : model.Server) (L : Logons)
       (records : List model.Record) (now : ℕ) (event : ServerEvent) → IsServerServed event
-      → JournaledHolds told seen may_leave c s L records ⊎ ExpiredAlone told seen may_leave c s L records now (heard_event users L s event)
+      → HoldsOver told seen may_leave base c s L records ⊎ ExpiredAlone told seen may_leave base c s L records now
+      (heard_event users L s event)
       → ServerServes shown users s L records now event (Err errors.Memory)
   lacking shown c show users s L records now event served (inl h) = unchanged shown c show users s L records now event served h
   lacking shown c show users s L records now event served (inr x) = expired_alone shown c show users s L records now event served x
@@ -407,7 +411,7 @@ module _ {D : Type 0} (told : Type 0) (seen : D → List ℕ) (may_leave : D →
   refusing_as : (faults : D → ℕ) (shown : Showing) (old c : ServerState D) → Shows shown c → (users : Users) (s : model.Server)
       (L : Logons) (records : List model.Record) (now : ℕ) (event : ServerEvent) (M : Logons) (x : EventError) (y : ServeError)
       → IsServerServed event → y ≡ refusal c.stopped
-      → EventRefused told seen may_leave faults x old c s L records now (heard_event users L s event) M
+      → EventRefused told seen may_leave base faults x old c s L records now (heard_event users L s event) M
       → ServerServes shown users s L records now event (Err y)
   refusing_as faults shown old c show users s L records now event M Memory y served is k =
       subst (λ (e : ServeError). ServerServes shown users s L records now event (Err e))
@@ -422,16 +426,16 @@ module _ {D : Type 0} (told : Type 0) (seen : D → List ℕ) (may_leave : D →
   pub refusing : (faults : D → ℕ) (shown : Showing) (old c : ServerState D) → Shows shown c → (users v : Users) (s : model.Server)
       (L : Logons) (records : List model.Record) (now : ℕ) (event : ServerEvent) (M : Logons) (x : EventError) (y : ServeError)
       → v ≡ users → IsServerServed event → y ≡ refusal c.stopped
-      → EventRefused told seen may_leave faults x old c s L records now (heard_event v L s event) M
+      → EventRefused told seen may_leave base faults x old c s L records now (heard_event v L s event) M
       → ServerServes shown users s L records now event (Err y)
   refusing faults shown old c show users v s L records now event M x y same served is k =
       refusing_as faults shown old c show users s L records now event M x y served is
-      (subst (λ (w : Users). EventRefused told seen may_leave faults x old c s L records now (heard_event w L s event) M) same k)
+      (subst (λ (w : Users). EventRefused told seen may_leave base faults x old c s L records now (heard_event w L s event) M) same k)
 
   pub answering : (shown : Showing) (c : ServerState D) → Shows shown c → (users v : Users) (s : model.Server) (L : Logons)
       (records : List model.Record) (now : ℕ) (event : ServerEvent) (d : Command) (l : Option Logon) (a : Answer)
       (x : Result Reply ServeError) → v ≡ users → c.tables.config.users ≡ users → IsServerServed event → HasShape event d
-      → BookLogonIs s L event l → StepAnswers told seen may_leave c s L records now event a (step s now (heard_event v L s event))
+      → BookLogonIs s L event l → StepAnswers told seen may_leave base c s L records now event a (step s now (heard_event v L s event))
       → TellsAnswer d l a x → ServerServes shown users s L records now event x
   answering shown c show users v s L records now event d l a (Ok r) same config served shape known k t =
       replied shown c show users s L records now event d l a r served shape known
@@ -445,14 +449,15 @@ module _ {D : Type 0} (told : Type 0) (seen : D → List ℕ) (may_leave : D →
   answering shown c show users v s L records now event d l a (Err (errors.Stopped count)) same config served shape known k t = absurd t
 
 -- what a server shows to its connections
-abbrev pub ShownBy : {D : Type 0} → Type 0 → (D → List ℕ) → (D → List ℕ → Type 0) → Server D → Users → model.Server → Logons
-    → List model.Record → Type 0
-ShownBy told seen may_leave x users t M rs = ((config_of x).users ≡ users) × HoldsServer told seen may_leave x t M rs
+abbrev pub ShownBy : {D : Type 0} → Type 0 → (D → List ℕ) → (D → List ℕ → Type 0) → List SnapshotPiece → Server D → Users
+    → model.Server → Logons → List model.Record → Type 0
+ShownBy told seen may_leave base x users t M rs = ((config_of x).users ≡ users) × HoldsServerOver told seen may_leave base x t M rs
 
-pub showing : {D : Type 0} (told : Type 0) (seen : D → List ℕ) (may_leave : D → List ℕ → Type 0) (x : Server D) (users : Users)
+pub showing : {D : Type 0} (told : Type 0) (seen : D → List ℕ) (may_leave : D → List ℕ → Type 0) (base : List SnapshotPiece)
+    (x : Server D) (users : Users)
     → (config_of x).users ≡ users → (t : model.Server) (M : Logons) (rs : List model.Record)
-    → JournaledHolds told seen may_leave (state_of x) t M rs → ShownBy told seen may_leave x users t M rs
-showing told seen may_leave x users e t M rs k = (e, k)
+    → HoldsOver told seen may_leave base (state_of x) t M rs → ShownBy told seen may_leave base x users t M rs
+showing told seen may_leave base x users e t M rs k = (e, k)
 
 -- ---- a reply is short
 
@@ -552,17 +557,18 @@ goes_not o count r new old e f = absurd (none_some o count (sym e) f)
 
 -- ---- the disk's count of faults where it stops
 
-pub refused_faults : {D : Type 0} (told : Type 0) (seen : D → List ℕ) (may_leave : D → List ℕ → Type 0) (faults : D → ℕ)
+pub refused_faults : {D : Type 0} (told : Type 0) (seen : D → List ℕ) (may_leave : D → List ℕ → Type 0) (base : List SnapshotPiece)
+    (faults : D → ℕ)
     (old new : ServerState D) (s : model.Server) (L : Logons) (records : List model.Record) (now : ℕ) (e : model.ServerEvent) (M : Logons)
     (why : EventError) (y : ServeError) (count : ℕ) (x : Result Reply ServeError) → old.stopped ≡ None
-    → EventRefused told seen may_leave faults why old new s L records now e M → y ≡ refusal new.stopped → x ≡ Err y
+    → EventRefused told seen may_leave base faults why old new s L records now e M → y ≡ refusal new.stopped → x ≡ Err y
     → x ≡ Err (errors.Stopped count) → StopsAtFault (faults old.journal.disk) (faults new.journal.disk) count
-refused_faults told seen may_leave faults old new s L records now e M Memory y count x goes k is made stop =
+refused_faults told seen may_leave base faults old new s L records now e M Memory y count x goes k is made stop =
     absurd (none_some new.stopped count k.0 (refused_stops new.stopped y count x is made stop))
-refused_faults told seen may_leave faults old new s L records now e M (DiskFault n) y count x goes k is made stop =
+refused_faults told seen may_leave base faults old new s L records now e M (DiskFault n) y count x goes k is made stop =
     let same : n ≡ count = one_count new.stopped n count (sym k.1) (refused_stops new.stopped y count x is made stop) in
     subst (λ (m : ℕ). StopsAtFault (faults old.journal.disk) (faults new.journal.disk) m) same (k.2, k.3)
-refused_faults told seen may_leave faults old new s L records now e M (Stopped n) y count x goes k is made stop =
+refused_faults told seen may_leave base faults old new s L records now e M (Stopped n) y count x goes k is made stop =
     absurd (none_some old.stopped n goes k.0)
 
 -- no event stops a server that was answered, nor one that found no room, nor one of a server that had stopped before
@@ -576,3 +582,29 @@ room_never count e = memory_apart count (ap (λ (r : Result Reply ServeError). e
 
 pub never_again : (o : Option ℕ) (n : ℕ) → Some n ≡ o → o ≡ None → ⊥
 never_again o n e f = none_some o n f (sym e)
+
+-- ---- what is shown in one way is shown in another
+
+module _ (P Q : Showing) (so : (t : model.Server) (M : Logons) (rs : List model.Record) → P t M rs → Q t M rs) where
+  replies_so : (users : Users) (s : model.Server) (L : Logons) (records : List model.Record) (now : ℕ) (event : ServerEvent) (r : Reply)
+      → ServerReplies P users s L records now event r → ServerReplies Q users s L records now event r
+  replies_so users s L records now (events.Message message) r h = (h.0, h.1, so _ _ _ h.2)
+  replies_so users s L records now (events.Setup setup) r h = (h.0, h.1, so _ _ _ h.2)
+  replies_so users s L records now (events.Accept connection) r h = (h.0, h.1, so _ _ _ h.2)
+  replies_so users s L records now (events.End connection) r h = (h.0, h.1, so _ _ _ h.2)
+  replies_so users s L records now events.Stop r h = (h.0, h.1, so _ _ _ h.2)
+
+  loses_so : (users : Users) (s : model.Server) (L : Logons) (records : List model.Record) (now : ℕ) (event : ServerEvent) (acted : Bool)
+      → ServerLoses P users s L records now event acted → ServerLoses Q users s L records now event acted
+  loses_so users s L records now (events.Message message) acted h = (h.0, so _ _ _ h.1)
+  loses_so users s L records now (events.Setup setup) acted h = (h.0, so _ _ _ h.1)
+  loses_so users s L records now (events.Accept connection) acted h = (h.0, so _ _ _ h.1)
+  loses_so users s L records now (events.End connection) acted h = (h.0, so _ _ _ h.1)
+  loses_so users s L records now events.Stop acted h = (h.0, so _ _ _ h.1)
+
+  pub serves_so : (users : Users) (s : model.Server) (L : Logons) (records : List model.Record) (now : ℕ) (event : ServerEvent)
+      (x : Result Reply ServeError) → ServerServes P users s L records now event x → ServerServes Q users s L records now event x
+  serves_so users s L records now event (Ok r) h = replies_so users s L records now event r h
+  serves_so users s L records now event (Err errors.Memory) h = (h.0, h.1, h.2, so h.0 L (records ++ h.1) h.3)
+  serves_so users s L records now event (Err (errors.Unanswered acted)) h = loses_so users s L records now event acted h
+  serves_so users s L records now event (Err (errors.Stopped count)) h = tt

@@ -3,6 +3,7 @@ use Rattle.std.proofs.Common.{◌≡◌, inl, ℕ, true, List, ◌++◌, Result,
 use Rattle.spec_exchange.specs.Records.{fits}
 use Rattle.spec_exchange.specs.State as model
 use Rattle.spec_exchange.specs.Step.{Ruling, carried_out, expire, ruling, step, with_deadlines, written_down}
+use Rattle.law_snapshots.specs.snapshots.Pieces.{SnapshotPiece}
 use Rattle.server_core.proofs.journaled_tables.Answered.{Comes}
 use Rattle.server_core.proofs.journaled_tables.Behind.{held_still}
 use Rattle.server_core.proofs.journaled_tables.Laws.{Bodies, Steps}
@@ -77,22 +78,25 @@ pub body_at : OutLaws → (s y : model.Server) (now o : ℕ) (ev x : model.Serve
 body_at law s y now o ev x body out said may b f =
     subst (λ (A : model.Answer). IsBodyOf body A.records) (sym (said ∙ step_at law s y now o x out may f)) b
 
-pub carried_apart : {D : Type 0} (told : Type 0) (seen : D → List ℕ) (may_leave : D → List ℕ → Type 0) (faults : D → ℕ)
+pub carried_apart : {D : Type 0} (told : Type 0) (seen : D → List ℕ) (may_leave : D → List ℕ → Type 0)
+    (base : List SnapshotPiece) (faults : D → ℕ)
     (old mid new : ServerState D) (users : Users) (s y : model.Server) (L : Logons) (records : List model.Record) (now : ℕ)
     (e : ServerEvent) (a : Asked) (o : ℕ) (x : Expired) (both : Both) (result : Result Answer EventError) → Bodies → Steps → OutLaws
     → Committing told seen may_leave faults mid new a both.prepared both.body now result
-    → ServerApart told seen may_leave old users s y L records now e a o x both → MayExpire s now o → AbleToRule y (ruling y (event_of a))
+    → ServerApart told seen may_leave base old users s y L records now e a o x both → MayExpire s now o
+    → AbleToRule y (ruling y (event_of a))
     → OnlyRoom old.journal mid.journal → mid.stopped ≡ old.stopped → mid.tables.config ≡ old.tables.config
     → mid.tables.sessions ≡ old.tables.sessions → IsPrepared mid.tables y now (event_of a) both.prepared
-    → EventAnswers told seen may_leave faults old new users s L records now e result
-carried_apart {D} told seen may_leave faults old mid new users s y L records now e a o x both result bodies steps law k
+    → EventAnswers told seen may_leave base faults old new users s L records now e result
+carried_apart {D} told seen may_leave base faults old mid new users s y L records now e a o x both result bodies steps law k
     f may able room stops
     config sessions prepared =
-    event_carried told seen may_leave faults old mid new users s y L records now e a both.prepared both.body (all_of s y now (event_of a) o)
+    event_carried told seen may_leave base faults old mid new users s y L records now e a both.prepared both.body
+    (all_of s y now (event_of a) o)
     result bodies steps k (record {
       none = f.held.goes_on;
       room = room;
-      held = held_still told seen may_leave old mid s records room stops f.held;
+      held = held_still told seen may_leave base old mid s records room stops f.held;
       users_are = f.users_are ∙ sym (ap (λ (z : Config). z.users) config);
       heard = heard_at users L s y o e a f.out f.heard;
       same = same_at users L s y o e f.out;

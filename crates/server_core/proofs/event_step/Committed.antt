@@ -4,6 +4,7 @@ use Rattle.std.proofs.Common.{OnOk, None, refl, sym, ap, subst, ◌∙◌}
 use Rattle.spec_exchange.specs.Records.{fits}
 use Rattle.spec_exchange.specs.State as model
 use Rattle.spec_exchange.specs.Step.{Ruling, carried_out, event_answer, ruling, ruling_without_room, step, with_deadlines, written_down}
+use Rattle.law_snapshots.specs.snapshots.Pieces.{SnapshotPiece}
 use Rattle.server_core.proofs.journaled_tables.Answered.{Comes, answered, faulted}
 use Rattle.server_core.proofs.journaled_tables.Laws.{Bodies, Steps}
 use Rattle.journal.specs.disk_journal.Journal.{JournalState, OnlyRoom, JournalSettled}
@@ -33,25 +34,26 @@ use Rattle.server_checks.specs.session_table.Logons.{LogonsShown}
 use Rattle.spec_crypto.specs.tokens.Tokens.{Users}
 use Rattle.spec_world.specs.Ends.{Logons}
 
-committed_own : {D : Type 0} (told : Type 0) (seen : D → List ℕ) (may_leave : D → List ℕ → Type 0) (faults : D → ℕ)
+committed_own : {D : Type 0} (told : Type 0) (seen : D → List ℕ) (may_leave : D → List ℕ → Type 0)
+    (base : List SnapshotPiece) (faults : D → ℕ)
     (old mid new : ServerState D) (s y : model.Server) (L : Logons) (records : List model.Record) (now : ℕ) (e : ServerEvent)
     (B : model.Answer) (all : List model.Record) (body : List ℕ) (result : Result Answer EventError) → Bodies → Steps
-    → old.stopped ≡ None → faults mid.journal.disk ≡ faults old.journal.disk → JournaledHeld told seen may_leave mid s records
+    → old.stopped ≡ None → faults mid.journal.disk ≡ faults old.journal.disk → JournaledHeld told seen may_leave base mid s records
     → Comes s now (heard_event new.tables.config.users L s e) (record B { records = all }) body → y.journal ≡ s.journal
     → Commits y B body result new
     → BesideCommitted new new.tables.config.users L e now (progress_of (heard_event new.tables.config.users L s e) B.reply) result
     → WritesBut faults mid body result new
     → (told → (bodies : List (List ℕ)) → JournalSettled seen may_leave mid.journal bodies
     → OnOk result (JournalSettled seen may_leave new.journal (bodies ++ bodies_of body)))
-    → EventAnswers told seen may_leave faults old new new.tables.config.users s L records now e result
-committed_own told seen may_leave faults old mid new s y L records now e B all body (Ok r) law steps none same h k j c b w g =
-    answered told seen may_leave mid new s L records now e (record B { records = all }) body r law steps h k c.0 c.1
+    → EventAnswers told seen may_leave base faults old new new.tables.config.users s L records now e result
+committed_own told seen may_leave base faults old mid new s y L records now e B all body (Ok r) law steps none same h k j c b w g =
+    answered told seen may_leave base mid new s L records now e (record B { records = all }) body r law steps h k c.0 c.1
     (subst (λ (n : ℕ). TablesShown new.tables (counting B.server (n + added_by body))) j c.2) b
     (record { same = w.0; journal_same = w.1; used = w.2; settled = g })
-committed_own told seen may_leave faults old mid new s y L records now e B all body (Err x) law steps none same h k j c b w g =
+committed_own told seen may_leave base faults old mid new s y L records now e B all body (Err x) law steps none same h k j c b w g =
     let users = new.tables.config.users in
     let ev = heard_event users L s e in
-    faulted told seen may_leave faults old mid new s L records now ev (record B { records = all }) body
+    faulted told seen may_leave base faults old mid new s L records now ev (record B { records = all }) body
     (logons_behind users L e now (progress_of ev (step s now ev).reply)) x none same k
     (subst (λ (n : ℕ). TablesShown new.tables (counting B.server n)) j c)
     (subst (λ (r : model.Reply). LogonsShown new.tables.sessions (logons_behind users L e now (progress_of ev r)).keys
@@ -74,12 +76,13 @@ pub record Committing {D : Type 0} (told : Type 0) (seen : D → List ℕ) (may_
   pub config : new.tables.config ≡ mid.tables.config
 
 -- the event is prepared on a state, from which it is carried out: that before it, or the one without an open that expired
-pub record Carrying {D : Type 0} (told : Type 0) (seen : D → List ℕ) (may_leave : D → List ℕ → Type 0) (old mid : ServerState D)
+pub record Carrying {D : Type 0} (told : Type 0) (seen : D → List ℕ) (may_leave : D → List ℕ → Type 0)
+    (base : List SnapshotPiece) (old mid : ServerState D)
     (users : Users) (s y : model.Server) (L : Logons) (records : List model.Record) (now : ℕ) (e : ServerEvent) (a : Asked)
     (p : Prepared) (body : List ℕ) (all : List model.Record) : Type 0 where
   pub none : old.stopped ≡ None
   pub room : OnlyRoom old.journal mid.journal
-  pub held : JournaledHeld told seen may_leave mid s records
+  pub held : JournaledHeld told seen may_leave base mid s records
   pub users_are : users ≡ mid.tables.config.users
   pub heard : IsJournaledHeard users L y e a
   pub same : heard_event users L y e ≡ heard_event users L s e
@@ -93,20 +96,21 @@ pub record Carrying {D : Type 0} (told : Type 0) (seen : D → List ℕ) (may_le
   pub comes : Comes s now (heard_event users L s e)
       (record (carried_out (with_deadlines y now) now (prepared_ruling (event_of a) p)) { records = all }) body
 
-pub event_carried : {D : Type 0} (told : Type 0) (seen : D → List ℕ) (may_leave : D → List ℕ → Type 0) (faults : D → ℕ)
+pub event_carried : {D : Type 0} (told : Type 0) (seen : D → List ℕ) (may_leave : D → List ℕ → Type 0)
+    (base : List SnapshotPiece) (faults : D → ℕ)
     (old mid new : ServerState D) (users : Users) (s y : model.Server) (L : Logons) (records : List model.Record) (now : ℕ)
     (e : ServerEvent) (a : Asked) (p : Prepared) (body : List ℕ) (all : List model.Record)
     (result : Result Answer EventError) → Bodies → Steps
     → Committing told seen may_leave faults mid new a p body now result
-    → Carrying told seen may_leave old mid users s y L records now e a p body all
-    → EventAnswers told seen may_leave faults old new users s L records now e result
-event_carried {D} told seen may_leave faults old mid new users s y L records now e a p body all result law steps k f =
+    → Carrying told seen may_leave base old mid users s y L records now e a p body all
+    → EventAnswers told seen may_leave base faults old new users s L records now e result
+event_carried {D} told seen may_leave base faults old mid new users s y L records now e a p body all result law steps k f =
     let B = carried_out (with_deadlines y now) now (prepared_ruling (event_of a) p) in
     subst (λ (us : Users). Comes s now (heard_event us L s e) (record B { records = all }) body
     → BesideCommitted new us L e now (progress_of (heard_event us L s e) B.reply) result
-    → EventAnswers told seen may_leave faults old new us s L records now e result)
+    → EventAnswers told seen may_leave base faults old new us s L records now e result)
     (ap (λ (z : Config). z.users) k.config ∙ sym f.users_are)
-    (λ comes beside. committed_own told seen may_leave faults old mid new s y L records now e B all body result law steps f.none
+    (λ comes beside. committed_own told seen may_leave base faults old mid new s y L records now e B all body result law steps f.none
     (ap (λ (j : JournalState D). faults j.disk) f.room.0) f.held comes f.count (k.shown y f.fits f.prepared f.able)
     beside k.writes k.acknowledged)
     f.comes

@@ -6,6 +6,7 @@ use Rattle.spec_exchange.specs.State as model
 use Rattle.spec_exchange.specs.Step.{step}
 use Rattle.store_files.specs.file_tree.Shown.{ShowsFiles}
 use Rattle.store_files.specs.declared.file_tree.tree.Tree.{Tree}
+use Rattle.law_snapshots.specs.snapshots.Pieces.{SnapshotPiece}
 use Rattle.server_core.proofs.journaled_tables.Behind.{held, held_still, holds_shown}
 use Rattle.spec_journal.specs.Forms.{StandsFor}
 use Rattle.spec_wire.specs.journal.Moments.{LeavesOnly}
@@ -28,7 +29,7 @@ use Rattle.server_checks.specs.declared.setups.error.EventError.{EventError}
 use Rattle.server_checks.specs.declared.setups.error.EventError.TheVariants.{Memory, DiskFault, Stopped}
 use Rattle.server_core.specs.journaled_tables.Beside.{logons_behind}
 use Rattle.server_core.specs.journaled_tables.Holds.{EventAnswers, EventLeavesBodies, EventRefused, JournaledHeld}
-use Rattle.server_core.specs.journaled_tables.Holds.{JournaledHolds, JournaledStands}
+use Rattle.server_core.specs.journaled_tables.Holds.{HoldsOver, JournaledStands}
 use Rattle.server_core.specs.declared.journaled_tables.state.ServerState.{ServerState}
 use Rattle.server_core.specs.body_writing.Bodies.{IsLack}
 use Rattle.base_outside.specs.streams.Faults.{Rose}
@@ -40,14 +41,15 @@ use Rattle.spec_world.specs.Ends.{Logons}
 pub none_some : (n : ℕ) (o : Option ℕ) → o ≡ None → o ≡ Some n → ⊥
 none_some n o e h = let k : None ≡ Some n = sym e ∙ h in cc
 
-pub lacked : {D : Type 0} (told : Type 0) (seen : D → List ℕ) (may_leave : D → List ℕ → Type 0) (faults : D → ℕ) (old new : ServerState D)
+pub lacked : {D : Type 0} (told : Type 0) (seen : D → List ℕ) (may_leave : D → List ℕ → Type 0)
+    (base : List SnapshotPiece) (faults : D → ℕ) (old new : ServerState D)
     (s : model.Server) (L : Logons) (records : List model.Record) (now : ℕ) (ev : model.ServerEvent) (M : Logons) (x : EventError)
-    → JournaledHolds told seen may_leave new s L records → old.stopped ≡ None → old.stopped ≡ old.journal.stopped
+    → HoldsOver told seen may_leave base new s L records → old.stopped ≡ None → old.stopped ≡ old.journal.stopped
     → new.stopped ≡ old.stopped
-    → IsLack old.journal x → EventRefused told seen may_leave faults x old new s L records now ev M
-lacked told seen may_leave faults old new s L records now ev M Memory h none is same lack = (same ∙ none, inl h)
-lacked told seen may_leave faults old new s L records now ev M (DiskFault n) h none is same lack = absurd lack
-lacked told seen may_leave faults old new s L records now ev M (Stopped n) h none is same lack =
+    → IsLack old.journal x → EventRefused told seen may_leave base faults x old new s L records now ev M
+lacked told seen may_leave base faults old new s L records now ev M Memory h none is same lack = (same ∙ none, inl h)
+lacked told seen may_leave base faults old new s L records now ev M (DiskFault n) h none is same lack = absurd lack
+lacked told seen may_leave base faults old new s L records now ev M (Stopped n) h none is same lack =
     absurd (none_some n old.stopped none (is ∙ lack))
 
 abbrev stopped_by : (A : Type 0) → ℕ → Result A EventError
@@ -68,38 +70,41 @@ lack_still {D} i j (Stopped n) o l = ap (λ (k : JournalState D). k.stopped) o.0
 
 -- ---- a part of an event: what it answers counts from the event's begin
 
-refused_from : {D : Type 0} (told : Type 0) (seen : D → List ℕ) (may_leave : D → List ℕ → Type 0) (faults : D → ℕ)
+refused_from : {D : Type 0} (told : Type 0) (seen : D → List ℕ) (may_leave : D → List ℕ → Type 0)
+    (base : List SnapshotPiece) (faults : D → ℕ)
     (old mid new : ServerState D) (s : model.Server) (L : Logons) (records : List model.Record) (now : ℕ) (ev : model.ServerEvent)
     (M : Logons) (x : EventError) → old.stopped ≡ None → mid.stopped ≡ old.stopped → faults mid.journal.disk ≡ faults old.journal.disk
-    → EventRefused told seen may_leave faults x mid new s L records now ev M
-    → EventRefused told seen may_leave faults x old new s L records now ev M
-refused_from told seen may_leave faults old mid new s L records now ev M Memory none same e h = h
-refused_from told seen may_leave faults old mid new s L records now ev M (DiskFault n) none same e h =
+    → EventRefused told seen may_leave base faults x mid new s L records now ev M
+    → EventRefused told seen may_leave base faults x old new s L records now ev M
+refused_from told seen may_leave base faults old mid new s L records now ev M Memory none same e h = h
+refused_from told seen may_leave base faults old mid new s L records now ev M (DiskFault n) none same e h =
     (none, h.1, subst (λ (f : ℕ). Rose f n) e h.2, h.3, h.4)
-refused_from told seen may_leave faults old mid new s L records now ev M (Stopped n) none same e h =
+refused_from told seen may_leave base faults old mid new s L records now ev M (Stopped n) none same e h =
     absurd (none_some n mid.stopped (same ∙ none) h.0)
 
-pub answers_from : {D : Type 0} (told : Type 0) (seen : D → List ℕ) (may_leave : D → List ℕ → Type 0) (faults : D → ℕ)
+pub answers_from : {D : Type 0} (told : Type 0) (seen : D → List ℕ) (may_leave : D → List ℕ → Type 0)
+    (base : List SnapshotPiece) (faults : D → ℕ)
     (old mid new : ServerState D) (users : Users) (s : model.Server) (L : Logons) (records : List model.Record) (now : ℕ)
     (e : ServerEvent) (r : Result Answer EventError) → old.stopped ≡ None → mid.stopped ≡ old.stopped
-    → faults mid.journal.disk ≡ faults old.journal.disk → EventAnswers told seen may_leave faults mid new users s L records now e r
-    → EventAnswers told seen may_leave faults old new users s L records now e r
-answers_from told seen may_leave faults old mid new users s L records now e (Ok r) none same d h = h
-answers_from told seen may_leave faults old mid new users s L records now e (Err x) none same d h =
+    → faults mid.journal.disk ≡ faults old.journal.disk → EventAnswers told seen may_leave base faults mid new users s L records now e r
+    → EventAnswers told seen may_leave base faults old new users s L records now e r
+answers_from told seen may_leave base faults old mid new users s L records now e (Ok r) none same d h = h
+answers_from told seen may_leave base faults old mid new users s L records now e (Err x) none same d h =
     let ev = heard_event users L s e in
-    refused_from told seen may_leave faults old mid new s L records now ev
+    refused_from told seen may_leave base faults old mid new s L records now ev
     (logons_behind users L e now (progress_of ev (step s now ev).reply)) x
     none same d h
 
-pub ends_from : {D : Type 0} (told : Type 0) (seen : D → List ℕ) (may_leave : D → List ℕ → Type 0) (faults : D → ℕ)
+pub ends_from : {D : Type 0} (told : Type 0) (seen : D → List ℕ) (may_leave : D → List ℕ → Type 0)
+    (base : List SnapshotPiece) (faults : D → ℕ)
     (old mid new : ServerState D) (users : Users) (s : model.Server) (L : Logons) (records : List model.Record) (now : ℕ)
     (e : ServerEvent) (a : Asked) (r : Result Behind EventError) → old.stopped ≡ None → mid.stopped ≡ old.stopped
-    → faults mid.journal.disk ≡ faults old.journal.disk → BehindEnds told seen may_leave faults mid new users s L records now e a r
-    → BehindEnds told seen may_leave faults old new users s L records now e a r
-ends_from told seen may_leave faults old mid new users s L records now e a (Ok b) none same d h = h
-ends_from told seen may_leave faults old mid new users s L records now e a (Err x) none same d h =
+    → faults mid.journal.disk ≡ faults old.journal.disk → BehindEnds told seen may_leave base faults mid new users s L records now e a r
+    → BehindEnds told seen may_leave base faults old new users s L records now e a r
+ends_from told seen may_leave base faults old mid new users s L records now e a (Ok b) none same d h = h
+ends_from told seen may_leave base faults old mid new users s L records now e a (Err x) none same d h =
     let ev = heard_event users L s e in
-    refused_from told seen may_leave faults old mid new s L records now ev
+    refused_from told seen may_leave base faults old mid new s L records now ev
     (logons_behind users L e now (progress_of ev (step s now ev).reply)) x
     none same d h
 
@@ -132,12 +137,12 @@ stands_for seen may_leave j bodies s c left = inr (record {
   fit = s.fit;
 })
 
-pub none_leaves : {D : Type 0} (seen : D → List ℕ) (may_leave : D → List ℕ → Type 0) (moment : D → ℕ)
+pub none_leaves : {D : Type 0} (seen : D → List ℕ) (may_leave : D → List ℕ → Type 0) (base : List SnapshotPiece) (moment : D → ℕ)
     (left_since : D → ℕ → List ℕ → Type 0) (only_now : (d : D) (c : List ℕ) → left_since d (moment d) c → may_leave d c)
     (i j : JournalState D) (s : model.Server) (records : List model.Record) (now : ℕ) (ev : model.ServerEvent) (bodies : List (List ℕ))
-    → j.disk ≡ i.disk → JournaledStands seen may_leave i s records bodies
+    → j.disk ≡ i.disk → JournaledStands seen may_leave base i s records bodies
     → LeavesOnly moment left_since i.disk j.disk (EventLeavesBodies s now ev bodies)
-none_leaves {D} seen may_leave moment left_since only_now i j s records now ev bodies e h =
+none_leaves {D} seen may_leave base moment left_since only_now i j s records now ev bodies e h =
     subst (λ (d : D). LeavesOnly moment left_since i.disk d (EventLeavesBodies s now ev bodies)) (sym e) (record {
       later = omega arith;
       each = λ c left. inl (stands_for seen may_leave i bodies h.settled c (only_now i.disk c left));
@@ -146,14 +151,15 @@ none_leaves {D} seen may_leave moment left_since only_now i j s records now ev b
 
 -- ---- the server goes on hearing the event where room was made, or the tables show the state in another way
 
-pub asks_room : {D : Type 0} (told : Type 0) (seen : D → List ℕ) (may_leave : D → List ℕ → Type 0) (c : ServerState D) (j : JournalState D)
+pub asks_room : {D : Type 0} (told : Type 0) (seen : D → List ℕ) (may_leave : D → List ℕ → Type 0)
+    (base : List SnapshotPiece) (c : ServerState D) (j : JournalState D)
     (users : Users) (s : model.Server) (L : Logons) (records : List model.Record) (now : ℕ) (e : ServerEvent) (a : Asked)
-    → OnlyRoom c.journal j → ExpiryAsks told seen may_leave c users s L records now e a
-    → ExpiryAsks told seen may_leave (record c { journal = j }) users s L records now e a
-asks_room told seen may_leave c j users s L records now e a o h = record {
-  holds = holds_shown told seen may_leave (record c { journal = j }) s L records
-      (held_still told seen may_leave c (record c { journal = j }) s records o refl
-      (held told seen may_leave c s L records h.holds h.goes_on)) h.holds.shown;
+    → OnlyRoom c.journal j → ExpiryAsks told seen may_leave base c users s L records now e a
+    → ExpiryAsks told seen may_leave base (record c { journal = j }) users s L records now e a
+asks_room told seen may_leave base c j users s L records now e a o h = record {
+  holds = holds_shown told seen may_leave base (record c { journal = j }) s L records
+      (held_still told seen may_leave base c (record c { journal = j }) s records o refl
+      (held told seen may_leave base c s L records h.holds h.goes_on)) h.holds.shown;
   goes_on = h.goes_on;
   users_are = h.users_are;
   heard = h.heard;
@@ -161,10 +167,11 @@ asks_room told seen may_leave c j users s L records now e a o h = record {
 }
 
 -- a hold speaks of the tables by what they show alone
-pub held_tables : {D : Type 0} (told : Type 0) (seen : D → List ℕ) (may_leave : D → List ℕ → Type 0) (c : ServerState D) (t : Tables)
-    (s : model.Server) (records : List model.Record) → JournaledHeld told seen may_leave c s records
-    → JournaledHeld told seen may_leave (record c { tables = t }) s records
-held_tables told seen may_leave c t s records h = record {
+pub held_tables : {D : Type 0} (told : Type 0) (seen : D → List ℕ) (may_leave : D → List ℕ → Type 0)
+    (base : List SnapshotPiece) (c : ServerState D) (t : Tables)
+    (s : model.Server) (records : List model.Record) → JournaledHeld told seen may_leave base c s records
+    → JournaledHeld told seen may_leave base (record c { tables = t }) s records
+held_tables told seen may_leave base c t s records h = record {
   fits = h.fits;
   version = h.version;
   sound = h.sound;
@@ -187,14 +194,15 @@ shown_opens t u s h o = record {
   journal_is = h.journal_is;
 }
 
-pub asks_opens : {D : Type 0} (told : Type 0) (seen : D → List ℕ) (may_leave : D → List ℕ → Type 0) (c : ServerState D) (u : Opens)
+pub asks_opens : {D : Type 0} (told : Type 0) (seen : D → List ℕ) (may_leave : D → List ℕ → Type 0)
+    (base : List SnapshotPiece) (c : ServerState D) (u : Opens)
     (users : Users) (s : model.Server) (L : Logons) (records : List model.Record) (now : ℕ) (e : ServerEvent) (a : Asked)
-    → ShowsOpens u s → ExpiryAsks told seen may_leave c users s L records now e a
-    → ExpiryAsks told seen may_leave (record c { tables = record c.tables { opens = u } }) users s L records now e a
-asks_opens told seen may_leave c u users s L records now e a o h =
+    → ShowsOpens u s → ExpiryAsks told seen may_leave base c users s L records now e a
+    → ExpiryAsks told seen may_leave base (record c { tables = record c.tables { opens = u } }) users s L records now e a
+asks_opens told seen may_leave base c u users s L records now e a o h =
     let t = record c.tables { opens = u } in record {
-      holds = holds_shown told seen may_leave (record c { tables = t }) s L records
-          (held_tables told seen may_leave c t s records (held told seen may_leave c s L records h.holds h.goes_on))
+      holds = holds_shown told seen may_leave base (record c { tables = t }) s L records
+          (held_tables told seen may_leave base c t s records (held told seen may_leave base c s L records h.holds h.goes_on))
           (record { tables = shown_opens c.tables u s h.holds.shown.tables o; logons = h.holds.shown.logons });
       goes_on = h.goes_on;
       users_are = h.users_are;
@@ -216,24 +224,26 @@ shown_both t u f s h o k = record {
   journal_is = h.journal_is;
 }
 
-pub holds_both : {D : Type 0} (told : Type 0) (seen : D → List ℕ) (may_leave : D → List ℕ → Type 0) (c : ServerState D)
+pub holds_both : {D : Type 0} (told : Type 0) (seen : D → List ℕ) (may_leave : D → List ℕ → Type 0)
+    (base : List SnapshotPiece) (c : ServerState D)
     (u : Opens) (f : Tree)
-    (s : model.Server) (L : Logons) (records : List model.Record) → JournaledHolds told seen may_leave c s L records → c.stopped ≡ None
+    (s : model.Server) (L : Logons) (records : List model.Record) → HoldsOver told seen may_leave base c s L records → c.stopped ≡ None
     → ShowsOpens u s → ShowsFiles f s
-    → JournaledHolds told seen may_leave (record c { tables = record c.tables { opens = u; tree = f } }) s L records
-holds_both told seen may_leave c u f s L records h none o k =
+    → HoldsOver told seen may_leave base (record c { tables = record c.tables { opens = u; tree = f } }) s L records
+holds_both told seen may_leave base c u f s L records h none o k =
     let t = record c.tables { opens = u; tree = f } in
-    holds_shown told seen may_leave (record c { tables = t }) s L records
-    (held_tables told seen may_leave c t s records (held told seen may_leave c s L records h none))
+    holds_shown told seen may_leave base (record c { tables = t }) s L records
+    (held_tables told seen may_leave base c t s records (held told seen may_leave base c s L records h none))
     (record { tables = shown_both c.tables u f s h.shown.tables o k; logons = h.shown.logons })
 
 -- behind a part that left the disk as it was
-pub asks_on : {D : Type 0} (told : Type 0) (seen : D → List ℕ) (may_leave : D → List ℕ → Type 0) (old new : ServerState D)
+pub asks_on : {D : Type 0} (told : Type 0) (seen : D → List ℕ) (may_leave : D → List ℕ → Type 0)
+    (base : List SnapshotPiece) (old new : ServerState D)
     (users : Users) (s : model.Server) (L : Logons) (records : List model.Record) (now : ℕ) (e : ServerEvent) (a : Asked)
-    → ExpiryAsks told seen may_leave old users s L records now e a → JournaledHolds told seen may_leave new s L records
+    → ExpiryAsks told seen may_leave base old users s L records now e a → HoldsOver told seen may_leave base new s L records
     → new.stopped ≡ old.stopped
-    → new.tables.config ≡ old.tables.config → ExpiryAsks told seen may_leave new users s L records now e a
-asks_on told seen may_leave old new users s L records now e a h holds same config = record {
+    → new.tables.config ≡ old.tables.config → ExpiryAsks told seen may_leave base new users s L records now e a
+asks_on told seen may_leave base old new users s L records now e a h holds same config = record {
   holds = holds;
   goes_on = same ∙ h.goes_on;
   users_are = h.users_are ∙ sym (ap (λ (z : Config). z.users) config);

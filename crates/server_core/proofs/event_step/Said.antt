@@ -11,10 +11,11 @@ use Rattle.server_checks.specs.event_heard.Heard.{AskedAgrees, LogonFor, event_o
 use Rattle.server_checks.specs.declared.event_heard.asked.Asked.{Asked}
 use Rattle.server_checks.specs.declared.event_heard.event.ServerEvent.{ServerEvent}
 use Rattle.server_checks.specs.declared.event_heard.event.ServerEvent.TheVariants.{Accept, End, Message, Setup, Stop}
+use Rattle.law_snapshots.specs.snapshots.Pieces.{SnapshotPiece}
 use Rattle.server_core.specs.event_step.Behind.{ExpiryAsks}
 use Rattle.server_checks.specs.setups.Setups.{in_the_making, setup_message}
 use Rattle.server_core.specs.journaled_tables.Heard.{IsJournaledHeard}
-use Rattle.server_core.specs.journaled_tables.Holds.{JournaledHolds}
+use Rattle.server_core.specs.journaled_tables.Holds.{HoldsOver}
 use Rattle.server_core.specs.declared.journaled_tables.state.ServerState.{ServerState}
 use Rattle.server_checks.specs.declared.setups.setup.SetupHeard.{SetupHeard}
 use Rattle.spec_crypto.specs.tokens.Tokens.{Users}
@@ -116,15 +117,16 @@ heard_still users L s o e a h =
 
 -- ---- the server that goes on, as it took the event in
 
-pub asks_by : {D : Type 0} (told : Type 0) (seen : D → List ℕ) (may_leave : D → List ℕ → Type 0) (c : ServerState D) (s : model.Server)
-    (L : Logons) (records : List model.Record) (now : ℕ) (e : ServerEvent) (a : Asked) → JournaledHolds told seen may_leave c s L records
+pub asks_by : {D : Type 0} (told : Type 0) (seen : D → List ℕ) (may_leave : D → List ℕ → Type 0)
+    (base : List SnapshotPiece) (c : ServerState D) (s : model.Server)
+    (L : Logons) (records : List model.Record) (now : ℕ) (e : ServerEvent) (a : Asked) → HoldsOver told seen may_leave base c s L records
     → c.stopped ≡ None
     → ((h : SetupHeard) → step s now (model.Heard (setup_message c.tables.config.users (in_the_making s L) s h))
     ≡ step s now (model.Heard (setup_message c.tables.config.users L s h)))
     → AskedAgrees a
     → (event_of a ≡ heard_event c.tables.config.users (in_the_making s L) s e) × LogonFor c.tables.config.users (in_the_making s L) e a
-    → ExpiryAsks told seen may_leave c c.tables.config.users s L records now e a
-asks_by told seen may_leave c s L records now e a h none law agrees k = record {
+    → ExpiryAsks told seen may_leave base c c.tables.config.users s L records now e a
+asks_by told seen may_leave base c s L records now e a h none law agrees k = record {
   holds = h;
   goes_on = none;
   users_are = refl;

@@ -14,6 +14,7 @@ use Rattle.store_opens.specs.declared.open_table.table.Opens.{Opens}
 use Rattle.server_checks.specs.event_heard.Heard.{event_of}
 use Rattle.server_checks.specs.declared.event_heard.asked.Asked.{Asked}
 use Rattle.server_checks.specs.declared.event_heard.event.ServerEvent.{ServerEvent}
+use Rattle.law_snapshots.specs.snapshots.Pieces.{SnapshotPiece}
 use Rattle.server_core.specs.behind_expiry.Behind.{BothReady}
 use Rattle.server_core.specs.declared.behind_expiry.behind.Both.{Both}
 use Rattle.server_checks.specs.Shown.{TablesShown}
@@ -141,16 +142,18 @@ shown_without t u f s o h p q =
       journal_is = k.journal_is;
     }
 
-pub without : {D : Type 0} (told : Type 0) (seen : D → List ℕ) (may_leave : D → List ℕ → Type 0) (c : ServerState D) (u : Opens) (f : Tree)
+pub without : {D : Type 0} (told : Type 0) (seen : D → List ℕ) (may_leave : D → List ℕ → Type 0)
+    (base : List SnapshotPiece) (c : ServerState D) (u : Opens) (f : Tree)
     (users : Users) (s : model.Server) (L : Logons) (records : List model.Record) (now : ℕ) (e : ServerEvent) (a : Asked) (o : ℕ)
-    (x : Expired) → ExpiryAsks told seen may_leave c users s L records now e a → ShowsOpens u (expire s o) → ShowsFiles f (expire s o)
+    (x : Expired) → ExpiryAsks told seen may_leave base c users s L records now e a → ShowsOpens u (expire s o) → ShowsFiles f (expire s o)
     → IsExpired u x s o
-    → Without told seen may_leave (record c { tables = record c.tables { opens = u; tree = f } }) users s L records now e a o x (expire s o)
-without told seen may_leave c u f users s L records now e a o x h p q out = record {
+    → Without told seen may_leave base (record c { tables = record c.tables { opens = u; tree = f } }) users s L records now e a o x
+    (expire s o)
+without told seen may_leave base c u f users s L records now e a o x h p q out = record {
   apart = record {
     logons = h.holds.shown.logons;
-    held = held_tables told seen may_leave c (record c.tables { opens = u; tree = f }) s records
-        (held told seen may_leave c s L records h.holds h.goes_on);
+    held = held_tables told seen may_leave base c (record c.tables { opens = u; tree = f }) s records
+        (held told seen may_leave base c s L records h.holds h.goes_on);
     users_are = h.users_are;
     heard = h.heard;
     said = h.said;
@@ -161,13 +164,15 @@ without told seen may_leave c u f users s L records now e a o x h p q out = reco
 }
 
 -- behind the making of room, which leaves all but that as it was
-pub apart_still : {D : Type 0} (told : Type 0) (seen : D → List ℕ) (may_leave : D → List ℕ → Type 0) (old mid : ServerState D)
+pub apart_still : {D : Type 0} (told : Type 0) (seen : D → List ℕ) (may_leave : D → List ℕ → Type 0)
+    (base : List SnapshotPiece) (old mid : ServerState D)
     (users : Users) (s : model.Server) (L : Logons) (records : List model.Record) (now : ℕ) (e : ServerEvent) (a : Asked) (o : ℕ)
-    (x : Expired) (y : model.Server) → TakenOut told seen may_leave old users s L records now e a o x y → OnlyRoom old.journal mid.journal
-    → mid.stopped ≡ old.stopped → TablesKeep old.tables mid.tables → TakenOut told seen may_leave mid users s L records now e a o x y
-apart_still told seen may_leave old mid users s L records now e a o x y h room stops kept = record {
+    (x : Expired) (y : model.Server) → TakenOut told seen may_leave base old users s L records now e a o x y
+    → OnlyRoom old.journal mid.journal
+    → mid.stopped ≡ old.stopped → TablesKeep old.tables mid.tables → TakenOut told seen may_leave base mid users s L records now e a o x y
+apart_still told seen may_leave base old mid users s L records now e a o x y h room stops kept = record {
   logons = kept.logons L.keys L.pending h.logons;
-  held = held_still told seen may_leave old mid s records room stops h.held;
+  held = held_still told seen may_leave base old mid s records room stops h.held;
   users_are = h.users_are ∙ sym (ap (λ (z : Config). z.users) kept.config);
   heard = h.heard;
   said = h.said;
@@ -176,12 +181,13 @@ apart_still told seen may_leave old mid users s L records now e a o x y h room s
 }
 
 -- the event is ready there, behind the expiry
-pub both_apart : {D : Type 0} (told : Type 0) (seen : D → List ℕ) (may_leave : D → List ℕ → Type 0) (c : ServerState D)
+pub both_apart : {D : Type 0} (told : Type 0) (seen : D → List ℕ) (may_leave : D → List ℕ → Type 0)
+    (base : List SnapshotPiece) (c : ServerState D)
     (users : Users) (s y : model.Server) (L : Logons) (records : List model.Record) (now : ℕ) (e : ServerEvent) (a : Asked) (o : ℕ)
-    (x : Expired) (both : Both) → TakenOut told seen may_leave c users s L records now e a o x y → Fits y
+    (x : Expired) (both : Both) → TakenOut told seen may_leave base c users s L records now e a o x y → Fits y
     → BothReady c y now (event_of a) (front_of s (event_of a) o) (Some both) → PreparedStep L a now both.prepared
-    → ServerApart told seen may_leave c users s y L records now e a o x both
-both_apart told seen may_leave c users s y L records now e a o x both h fits ready stepped = record {
+    → ServerApart told seen may_leave base c users s y L records now e a o x both
+both_apart told seen may_leave base c users s y L records now e a o x both h fits ready stepped = record {
   held = h.held;
   logons = h.logons;
   users_are = h.users_are;

@@ -3,17 +3,19 @@ use Rattle.std.proofs.Common.{◌≡◌, ℕ, ◌+◌, List, ◌++◌, None, sym
 use Rattle.spec_exchange.specs.State as model
 use Rattle.journal.specs.disk_journal.Journal.{JournalState, OnlyRoom, JournalSettled}
 use Rattle.journal_bytes.specs.record_bodies.Body.{IsBodyOf, added_by, bodies_of}
-use Rattle.server_core.specs.journaled_tables.Holds.{JournaledHeld, JournaledHolds, JournaledStands}
+use Rattle.law_snapshots.specs.snapshots.Pieces.{SnapshotPiece}
+use Rattle.server_core.specs.journaled_tables.Holds.{JournaledHeld, HoldsOver, JournaledStands}
 use Rattle.server_core.specs.journaled_tables.Shown.{ServerShown}
 use Rattle.server_core.specs.declared.journaled_tables.state.ServerState.{ServerState}
 use Rattle.law_server.proofs.tables.Folded.{sound_more}
 use Rattle.server_core.proofs.journaled_tables.Laws.{Bodies, Follows}
 use Rattle.spec_world.specs.Ends.{Logons}
 
-pub held : {D : Type 0} (told : Type 0) (seen : D → List ℕ) (may_leave : D → List ℕ → Type 0) (c : ServerState D) (s : model.Server)
-    (L : Logons) (records : List model.Record) → JournaledHolds told seen may_leave c s L records → c.stopped ≡ None
-    → JournaledHeld told seen may_leave c s records
-held told seen may_leave c s L records h none = record {
+pub held : {D : Type 0} (told : Type 0) (seen : D → List ℕ) (may_leave : D → List ℕ → Type 0)
+    (base : List SnapshotPiece) (c : ServerState D) (s : model.Server)
+    (L : Logons) (records : List model.Record) → HoldsOver told seen may_leave base c s L records → c.stopped ≡ None
+    → JournaledHeld told seen may_leave base c s records
+held told seen may_leave base c s L records h none = record {
   fits = h.fits;
   version = h.version;
   sound = h.sound;
@@ -48,33 +50,37 @@ pub settled_still : {D : Type 0} (seen : D → List ℕ) (may_leave : D → List
 settled_still {D} seen may_leave j k bodies o h = subst (λ (i : JournalState D). JournalSettled seen may_leave i bodies) (sym o.0)
     (settled_room seen may_leave j k.room bodies h)
 
-pub stands_still : {D : Type 0} (seen : D → List ℕ) (may_leave : D → List ℕ → Type 0) (j k : JournalState D) (s : model.Server)
-    (records : List model.Record) (bodies : List (List ℕ)) → OnlyRoom j k → JournaledStands seen may_leave j s records bodies
-    → JournaledStands seen may_leave k s records bodies
-stands_still {D} seen may_leave j k s records bodies o h = record {
+pub stands_still : {D : Type 0} (seen : D → List ℕ) (may_leave : D → List ℕ → Type 0)
+    (base : List SnapshotPiece) (j k : JournalState D) (s : model.Server)
+    (records : List model.Record) (bodies : List (List ℕ)) → OnlyRoom j k → JournaledStands seen may_leave base j s records bodies
+    → JournaledStands seen may_leave base k s records bodies
+stands_still {D} seen may_leave base j k s records bodies o h = record {
   settled = settled_still seen may_leave j k bodies o h.settled;
   spelled = h.spelled;
   for_state = h.for_state;
+  plain = h.plain;
   used = h.used ∙ sym (ap (λ (i : JournalState D). i.used) o.0);
 }
 
-pub held_still : {D : Type 0} (told : Type 0) (seen : D → List ℕ) (may_leave : D → List ℕ → Type 0) (old new : ServerState D)
+pub held_still : {D : Type 0} (told : Type 0) (seen : D → List ℕ) (may_leave : D → List ℕ → Type 0)
+    (base : List SnapshotPiece) (old new : ServerState D)
     (s : model.Server) (records : List model.Record) → OnlyRoom old.journal new.journal → new.stopped ≡ old.stopped
-    → JournaledHeld told seen may_leave old s records → JournaledHeld told seen may_leave new s records
-held_still {D} told seen may_leave old new s records o same h = record {
+    → JournaledHeld told seen may_leave base old s records → JournaledHeld told seen may_leave base new s records
+held_still {D} told seen may_leave base old new s records o same h = record {
   fits = h.fits;
   version = h.version;
   sound = h.sound;
   goes_on = same ∙ h.goes_on;
   stopped_is = same ∙ (h.stopped_is ∙ sym (ap (λ (i : JournalState D). i.stopped) o.0));
   used = h.used ∙ sym (ap (λ (i : JournalState D). i.used) o.0);
-  stands = λ t. let b = h.stands t in (b.0, stands_still seen may_leave old.journal new.journal s records b.0 o b.1);
+  stands = λ t. let b = h.stands t in (b.0, stands_still seen may_leave base old.journal new.journal s records b.0 o b.1);
 }
 
-pub holds_shown : {D : Type 0} (told : Type 0) (seen : D → List ℕ) (may_leave : D → List ℕ → Type 0) (c : ServerState D) (s : model.Server)
-    (L : Logons) (records : List model.Record) → JournaledHeld told seen may_leave c s records → ServerShown c.tables s L
-    → JournaledHolds told seen may_leave c s L records
-holds_shown told seen may_leave c s L records h shown = record {
+pub holds_shown : {D : Type 0} (told : Type 0) (seen : D → List ℕ) (may_leave : D → List ℕ → Type 0)
+    (base : List SnapshotPiece) (c : ServerState D) (s : model.Server)
+    (L : Logons) (records : List model.Record) → JournaledHeld told seen may_leave base c s records → ServerShown c.tables s L
+    → HoldsOver told seen may_leave base c s L records
+holds_shown told seen may_leave base c s L records h shown = record {
   shown = shown;
   fits = h.fits;
   version = h.version;
@@ -95,12 +101,13 @@ pub record Written {D : Type 0} (told : Type 0) (seen : D → List ℕ) (may_lea
   pub settled : told → (bodies : List (List ℕ)) → JournalSettled seen may_leave old.journal bodies
       → JournalSettled seen may_leave new.journal (bodies ++ bodies_of body)
 
-pub holds_more : {D : Type 0} (told : Type 0) (seen : D → List ℕ) (may_leave : D → List ℕ → Type 0) (old new : ServerState D)
+pub holds_more : {D : Type 0} (told : Type 0) (seen : D → List ℕ) (may_leave : D → List ℕ → Type 0)
+    (base : List SnapshotPiece) (old new : ServerState D)
     (s t : model.Server) (M : Logons) (records more : List model.Record) (body : List ℕ) → Bodies
-    → JournaledHeld told seen may_leave old s records
+    → JournaledHeld told seen may_leave base old s records
     → Follows s t more → IsBodyOf body more → t.journal ≡ s.journal + added_by body → Written told seen may_leave old new body
-    → ServerShown new.tables t M → JournaledHolds told seen may_leave new t M (records ++ more)
-holds_more told seen may_leave old new s t M records more body law h f b count w shown = record {
+    → ServerShown new.tables t M → HoldsOver told seen may_leave base new t M (records ++ more)
+holds_more told seen may_leave base old new s t M records more body law h f b count w shown = record {
   shown = shown;
   fits = f.fits;
   version = f.version ∙ h.version;
@@ -112,8 +119,9 @@ holds_more told seen may_leave old new s t M records more body law h f b count w
         c.0 ++ bodies_of body,
         record {
           settled = w.settled tells c.0 c.1.settled;
-          spelled = law.spelled c.0 records more body c.1.spelled (c.1.for_state.2.version ∙ h.version) b;
-          for_state = f.stands records c.1.for_state;
+          spelled = law.spelled base c.0 records more body c.1.spelled (c.1.for_state.counts.version ∙ h.version) b;
+          for_state = f.over base records c.1.for_state;
+          plain = λ none. f.stands records (c.1.plain none);
           used = count ∙ (ap (λ (n : ℕ). n + added_by body) c.1.used ∙ sym w.used);
         },
       );

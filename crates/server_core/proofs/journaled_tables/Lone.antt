@@ -9,6 +9,7 @@ use Rattle.journal_bytes.specs.record_bodies.Body.{IsBodyOf, added_by, bodies_of
 use Rattle.server_checks.specs.Shown.{TablesShown}
 use Rattle.server_checks.specs.declared.setups.error.EventError.{EventError}
 use Rattle.server_checks.specs.declared.setups.error.EventError.TheVariants.{Memory, DiskFault, Stopped}
+use Rattle.law_snapshots.specs.snapshots.Pieces.{SnapshotPiece}
 use Rattle.server_core.specs.journaled_tables.Counted.{counting, front_of}
 use Rattle.server_core.specs.journaled_tables.Holds.{EventRefused, JournaledHeld}
 use Rattle.server_core.specs.declared.journaled_tables.state.ServerState.{ServerState}
@@ -45,21 +46,22 @@ counted law s now ev o front d =
     ap (λ (rs : List model.Record). s.journal + entry_bytes rs) d.front_is
     ∙ ap (λ (n : ℕ). s.journal + n) (sym (law.added front (front_of s ev o) d.body))
 
-pub lone : {D : Type 0} (told : Type 0) (seen : D → List ℕ) (may_leave : D → List ℕ → Type 0) (faults : D → ℕ) (old mid new : ServerState D)
+pub lone : {D : Type 0} (told : Type 0) (seen : D → List ℕ) (may_leave : D → List ℕ → Type 0)
+    (base : List SnapshotPiece) (faults : D → ℕ) (old mid new : ServerState D)
     (s : model.Server) (L M : Logons) (records : List model.Record) (now : ℕ) (ev : model.ServerEvent) (o : ℕ) (front : List ℕ)
     (x : EventError) → Bodies → Expiries → old.stopped ≡ None → faults mid.journal.disk ≡ faults old.journal.disk
-    → JournaledHeld told seen may_leave mid s records → Due s now ev o front → LogonsShown new.tables.sessions L.keys L.pending
+    → JournaledHeld told seen may_leave base mid s records → Due s now ev o front → LogonsShown new.tables.sessions L.keys L.pending
     → AloneShown s now o front x new → WritesBut faults mid front (written_as x) new
     → (told → (bodies : List (List ℕ)) → JournalSettled seen may_leave mid.journal bodies → x ≡ Memory
     → JournalSettled seen may_leave new.journal (bodies ++ bodies_of front))
-    → EventRefused told seen may_leave faults x old new s L records now ev M
-lone told seen may_leave faults old mid new s L M records now ev o front Memory law more none same h d logons shown w settled = (
+    → EventRefused told seen may_leave base faults x old new s L records now ev M
+lone told seen may_leave base faults old mid new s L M records now ev o front Memory law more none same h d logons shown w settled = (
   w.0 ∙ h.goes_on,
   inr (
     o,
     expired_alone s now ev o,
     expires s now ev o front d,
-    holds_more told seen may_leave mid new s (expired_alone s now ev o) L records (alone_records s now ev o) front law h
+    holds_more told seen may_leave base mid new s (expired_alone s now ev o) L records (alone_records s now ev o) front law h
         (follows_alone more s now ev (expired_alone s now ev o) o h.fits (expires s now ev o front d)
         (more.version_alone (with_deadlines s now) o))
         (subst (λ (rs : List model.Record). IsBodyOf front rs) (sym d.front_is) d.body) (counted law s now ev o front d) (record {
@@ -74,17 +76,18 @@ lone told seen may_leave faults old mid new s L M records now ev o front Memory 
         }),
   ),
 )
-lone told seen may_leave faults old mid new s L M records now ev o front (DiskFault n) law more none same h d logons shown w settled = (
-  none,
-  w.0,
-  subst (λ (f : ℕ). Rose f n) same w.2,
-  w.3,
-  inr (
-    o,
-    expired_alone s now ev o,
-    expires s now ev o front d,
-    record { tables = shown; logons = logons },
-  ),
-)
-lone told seen may_leave faults old mid new s L M records now ev o front (Stopped n) law more none same h d logons shown
+lone told seen may_leave base faults old mid new s L M records now ev o front
+    (DiskFault n) law more none same h d logons shown w settled = (
+      none,
+      w.0,
+      subst (λ (f : ℕ). Rose f n) same w.2,
+      w.3,
+      inr (
+        o,
+        expired_alone s now ev o,
+        expires s now ev o front d,
+        record { tables = shown; logons = logons },
+      ),
+    )
+lone told seen may_leave base faults old mid new s L M records now ev o front (Stopped n) law more none same h d logons shown
     w settled = absurd w

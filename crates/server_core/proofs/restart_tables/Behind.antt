@@ -4,7 +4,7 @@ use Rattle.std.proofs.Common.{List, [], ◌∷◌, ◌++◌, length, length-appe
 use Rattle.std.specs.Prelude.{Result, Ok, Err, IfErr, IfOk}
 use Rattle.std.proofs.lemmas.List.{drop-map, length-map}
 use Rattle.std.proofs.Math.Seq.{drop-append_seam}
-use Rattle.spec_exchange.specs.Fold.{nothing_yet, fold, fold_from, full_room, epoch_records, unmark_records, opening_records, recovery_records}
+use Rattle.spec_exchange.specs.Fold.{Configuration, nothing_yet, fold_from, full_room, epoch_records, unmark_records, opening_records}
 use Rattle.spec_exchange.specs.Records.{entry_bytes}
 use Rattle.spec_exchange.specs.State as model
 use Rattle.spec_exchange.specs.State.{Server, VersionRecord, EpochRecord}
@@ -31,12 +31,16 @@ use Rattle.server_core.specs.declared.durable_state.durable.Durable.{Durable}
 use Rattle.law_server.specs.tables.Fits.{Fits, all_sound}
 use Rattle.law_server.proofs.tables.Folded.{folded_keeps, sound_epoch, sound_unmarked}
 use Rattle.law_records.proofs.recovery.Leaves.{fold_append}
-use Rattle.server_core.specs.Reading.{BodiesSpell, FoldRefused, HandedOut, IsNothing, IsReadFrom, ReadRefused}
-use Rattle.server_core.proofs.Bodies.{spell_more}
-use Rattle.server_core.specs.restart_tables.Found.{Found, IsOf, IsRead, with_recovery_records}
+use Rattle.law_snapshots.specs.snapshots.Pieces.{SnapshotPiece}
+use Rattle.server_core.specs.Over.{found_over, opening_over, opened_over}
+use Rattle.server_core.specs.Reading.{FoldRefused, HandedOut, IsNothing, IsReadOver, ReadRefused, SpellOver}
+use Rattle.server_core.proofs.SnapshotBodies.{over_more}
+use Rattle.server_core.specs.restart_tables.Found.{Found, IsOf, IsRead}
 use Rattle.server_core.specs.restart_tables.Restart.{IsServerBegun, IsFull, IsNoBody, KeepsBodies, RestartLeaves, RestartRefused}
 use Rattle.server_core.specs.restart_tables.Restart.{ServerRestarts, StandsBegun, StartRefused, UnlessFailed, configuration_of, configured}
-use Rattle.server_core.proofs.restart_tables.OfFold.{all_begun, all_fit, all_recover, all_version, behind, of_fold, sound_all}
+use Rattle.server_core.proofs.restart_tables.OfBase.{begun_fits, begun_plain, begun_stands, behind_opening, of_over, opening_begun}
+use Rattle.server_core.proofs.restart_tables.OfBase.{opening_sound, opening_version}
+use Rattle.server_core.proofs.restart_tables.OfFold.{IsOfFold}
 use Rattle.server_checks.specs.session_table.Logons.{LogonsShown}
 use Rattle.base_outside.specs.streams.Faults.{Rose}
 use Rattle.spec_world.specs.Ends.{no_logons}
@@ -166,29 +170,30 @@ opened_with old new all (Err x) is opened = tt
 module _ {D : Type 0} (told : Type 0) (seen : D → List ℕ) (may_leave : D → List ℕ → Type 0) (faults : D → ℕ) where
   -- what a fold of all its bodies gives
   abbrev Folds : JournalState D → Durable → Durable → Type 0
-  Folds j before d = (s : Server) → IsNothing s → DurableShown before s → (bodies : List (List ℕ)) × (records : List model.Record)
-      × IsReadFrom d s bodies records × HandedOut told seen may_leave j bodies
+  Folds j before d = (s : Server) → IsNothing s → DurableShown before s → (bodies : List (List ℕ)) × (base : List SnapshotPiece)
+      × (records : List model.Record) × IsReadOver d base bodies records × HandedOut told seen may_leave j bodies
 
   -- its bodies stay
   abbrev Stays : JournalState D → JournalState D → Type 0
   Stays old new = told → (all : List (List ℕ)) → JournalSettled seen may_leave old all → JournalSettled seen may_leave new all
 
-  read_all : (first j : JournalState D) (d : Durable) (bodies : List (List ℕ)) (records : List model.Record) (rs : List Record)
-      (body : List ℕ) → IsReadFrom d nothing_yet bodies records → HandedOut told seen may_leave first bodies → Stays first j
-      → records_of rs ≡ recovery_records records → IsBody body rs
-      → told → (all : List (List ℕ)) → JournalSettled seen may_leave first all → IsRead seen may_leave j all bodies records body
-  read_all first j d bodies records rs body was handed stays e is t all settled =
+  read_all : (first j : JournalState D) (d : Durable) (bodies : List (List ℕ)) (base : List SnapshotPiece) (records : List model.Record)
+      (rs : List Record) (body : List ℕ) → IsReadOver d base bodies records → HandedOut told seen may_leave first bodies → Stays first j
+      → records_of rs ≡ opening_over base records → IsBody body rs
+      → told → (all : List (List ℕ)) → JournalSettled seen may_leave first all → IsRead seen may_leave j all bodies base records body
+  read_all first j d bodies base records rs body was handed stays e is t all settled =
       let same : bodies ≡ all = handed t all settled in
-      let spelled : BodiesSpell all records = subst (λ (bs : List (List ℕ)). BodiesSpell bs records) same was.spelled in
-      let b = fold_from (fold records) (epoch_records (fold records)) in
+      let spelled : SpellOver base all records = subst (λ (bs : List (List ℕ)). SpellOver base bs records) same was.spelled in
+      let u = found_over base records in
+      let b = fold_from u (epoch_records u) in
       record {
         same = same;
         spelled = spelled;
         settled = stays t all settled;
-        more = subst (λ (xs : List model.Record). BodiesSpell (all ++ body ∷ []) (records ++ xs)) e
-            (spell_more nothing_yet all records body rs spelled
-            (spells_opening (fold records).version rs ((fold records).epoch + 1) (unmark_records b b.entries) body
-            (of_fold records).version_is e is));
+        more = subst (λ (xs : List model.Record). SpellOver base (all ++ body ∷ []) (records ++ xs)) e
+            (over_more base all records body rs spelled
+            (spells_opening u.version rs (u.epoch + 1) (unmark_records b b.entries) body
+            (of_over base bodies records was.spelled).version_is e is));
       }
 
   pub found : (first j : JournalState D) (d0 d1 d2 : Durable) (body : List ℕ) → DurableShown d0 nothing_yet
@@ -197,17 +202,22 @@ module _ {D : Type 0} (told : Type 0) (seen : D → List ℕ) (may_leave : D →
       → Found told seen may_leave faults first j d2 body
   found first j d0 d1 d2 body new read folds stays opened =
       let e = folds nothing_yet refl new in
-      let was : IsReadFrom d1 nothing_yet e.0 e.1 = e.2 in
-      let o = opened (fold e.1) was.fits was.shown in
+      let was : IsReadOver d1 e.1 e.0 e.2 = e.3 in
+      let u = found_over e.1 e.2 in
+      let o = opened u was.fits was.shown in
       record {
         bodies = e.0;
-        records = e.1;
+        base = e.1;
+        records = e.2;
         goes_on = read.0;
         no_fault = read.1;
+        taken = was.spelled;
         sound = was.sound;
-        shown = subst (λ (x : Server). DurableShown d2 x) (behind e.1) o.3;
-        adds = opening_adds body (fold e.1) (added body (recovery_records e.1) (o.0, o.2, o.1));
-        read = read_all first j d1 e.0 e.1 o.0 body was e.3 stays o.2 o.1;
+        fits = was.fits;
+        shown = subst (λ (x : Server). DurableShown d2 x)
+            (sym (behind_opening e.1 e.2 was.fits (of_over e.1 e.0 e.2 was.spelled))) o.3;
+        adds = opening_adds body u (added body (opening_over e.1 e.2) (o.0, o.2, o.1));
+        read = read_all first j d1 e.0 e.1 e.2 o.0 body was e.4 stays o.2 o.1;
       }
 
   -- ---- the answers
@@ -225,20 +235,24 @@ module _ {D : Type 0} (told : Type 0) (seen : D → List ℕ) (may_leave : D →
   restarted disk first j new d used number body m z t i f same written a u tables logons =
       let long : length m ≡ length body = ap length same in
       let adds : new.used ≡ j.used + 5 + length m = a.3 in
-      let more : entry_bytes (recovery_records f.records) ≡ 5 + length body = f.adds in
-      let counts : j.used + entry_bytes (recovery_records f.records) ≡ used = omega (arith, long, adds, more, u) in (
+      let more : entry_bytes (opening_over f.base f.records) ≡ 5 + length body = f.adds in
+      let counts : j.used + entry_bytes (opening_over f.base f.records) ≡ used = omega (arith, long, adds, more, u) in
+      let own : IsOfFold (found_over f.base f.records) = of_over f.base f.bodies f.records f.taken in
+      let z_is : Configuration = configuration_of z in (
         a.4,
         a.5 ∙ (f.no_fault ∙ i.0.0),
         j.used,
         f.records,
+        f.base,
         record {
-          shown = subst (λ (n : ℕ). TablesShown t (configured (fold (with_recovery_records f.records)) (configuration_of z) n)) (sym counts)
-              (tables (fold (with_recovery_records f.records)) f.shown (all_begun f.records));
+          shown = subst (λ (n : ℕ). TablesShown t (configured (found_over f.base (opened_over f.base f.records)) z_is n)) (sym counts)
+              (tables (found_over f.base (opened_over f.base f.records)) f.shown (opening_begun f.base f.records f.fits own));
           logons = logons;
-          fits = all_fit (configuration_of z) j.used f.records (small_room z) f.sound;
-          version = all_version f.records;
-          sound = sound_all f.records f.sound;
-          for_state = all_recover (configuration_of z) j.used f.records (small_room z) f.sound;
+          fits = begun_fits f.base f.records f.fits own z_is j.used (small_room z);
+          version = opening_version f.base f.records f.fits own;
+          sound = opening_sound f.base f.records f.fits own f.sound;
+          for_state = begun_stands f.base f.records f.fits own z_is j.used (small_room z);
+          plain = begun_plain z_is j.used f.base f.records (small_room z) f.sound;
         },
         counts ∙ u,
         λ y.
@@ -274,7 +288,7 @@ module _ {D : Type 0} (told : Type 0) (seen : D → List ℕ) (may_leave : D →
   no_body disk first d0 at i new refused t =
       let b = i.0.3 t in
       let f = refused t nothing_yet refl new b.0 (i.1 t b.0 b.1) in
-      (b.0, f.0, f.1, f.2, b.1, f.3, (first.form, b.4, f.4), f.5, f.6, f.7)
+      (b.0, f.0, f.1, f.2, f.3, b.1, f.4, (first.form, b.4, f.5), f.6, f.7, f.8)
 
   pub unfolded : (disk : D) (first j : JournalState D) (d0 : Durable) (x : JournalError)
       → IsOf told seen may_leave faults disk first → DurableShown d0 nothing_yet → ReadRefused faults first.disk x j
@@ -295,10 +309,10 @@ module _ {D : Type 0} (told : Type 0) (seen : D → List ℕ) (may_leave : D →
       let q = f.read t s.0 (i.1 t s.0 s.1) in
       let long : length m ≡ length body = ap length same in
       let uses : j.used ≡ length (front s.0) + 1 = q.settled.used in
-      let more : entry_bytes (recovery_records f.records) ≡ 5 + length body = f.adds in
-      let size : j.used + 5 + length m ≡ length (front s.0) + 1 + entry_bytes (recovery_records f.records) =
+      let more : entry_bytes (opening_over f.base f.records) ≡ 5 + length body = f.adds in
+      let size : j.used + 5 + length m ≡ length (front s.0) + 1 + entry_bytes (opening_over f.base f.records) =
       omega (arith, long, uses, more) in
-      (s.0, f.records, s.1, q.spelled, f.sound, a.1 ∙ ap (λ (n : ℕ). journal_capped n) size, a.2, a.3)
+      (s.0, f.base, f.records, s.1, q.spelled, f.sound, a.1 ∙ ap (λ (n : ℕ). journal_capped n) size, a.2, a.3)
 
   pub unwritten : (disk : D) (first j new : JournalState D) (d : Durable) (body m : List ℕ) (x : JournalError)
       → IsOf told seen may_leave faults disk first → Found told seen may_leave faults first j d body → m ≡ body
@@ -357,10 +371,11 @@ module _ {D : Type 0} (told : Type 0) (seen : D → List ℕ) (may_leave : D →
   settled_leaves j all c s left =
       inr (record { form = j.form; gate = s.gate; rest = s.rest; spelled = s.durable c left ∙ s.file; closed = s.closed; fit = s.fit })
 
-  of_append : (disk : D) (all bodies : List (List ℕ)) (j : JournalState D) (records : List model.Record) (body c : List ℕ)
-      → IsRead seen may_leave j all bodies records body → BeforeOrAfter all body c → RestartLeaves (may_leave disk) all c
-  of_append disk all bodies j records body c q (inl here) = inr (inl here)
-  of_append disk all bodies j records body c q (inr here) = inr (inr (body, records, q.spelled, q.more, here))
+  of_append : (disk : D) (all bodies : List (List ℕ)) (j : JournalState D) (base : List SnapshotPiece) (records : List model.Record)
+      (body c : List ℕ)
+      → IsRead seen may_leave j all bodies base records body → BeforeOrAfter all body c → RestartLeaves (may_leave disk) all c
+  of_append disk all bodies j base records body c q (inl here) = inr (inl here)
+  of_append disk all bodies j base records body c q (inr here) = inr (inr (body, base, records, q.spelled, q.more, here))
 
   -- of a journal that was recovered
   pub leaves_read : (first j new : JournalState D) (d : Durable) (body : List ℕ)
@@ -373,7 +388,7 @@ module _ {D : Type 0} (told : Type 0) (seen : D → List ℕ) (may_leave : D →
       let q = f.read t all settled in
       in_a_row first.disk j.disk new.disk (may_leave first.disk) (BeforeOrAfter all body) (RestartLeaves (may_leave first.disk) all)
       quiet.any_moment (appended t all q.settled) (λ c was. inl was)
-      (λ c here. of_append first.disk all f.bodies j f.records body c q here)
+      (λ c here. of_append first.disk all f.bodies j f.base f.records body c q here)
 
   -- where it was only read
   pub quiet_leaves : (old new : D) (all : List (List ℕ)) → Quiet told seen may_leave moment left_since old new
@@ -422,10 +437,11 @@ module _ {D : Type 0} (told : Type 0) (seen : D → List ℕ) (may_leave : D →
       → told → (all : List (List ℕ)) → JournalSettled seen may_leave first all → StandsBegun all (seen new)
   quiet_stands first new quiet t all s = inl (settled_stands first new all (quiet.same t) s)
 
-  of_append_now : (all bodies : List (List ℕ)) (j : JournalState D) (records : List model.Record) (body c : List ℕ)
-      → IsRead seen may_leave j all bodies records body → BeforeOrAfter all body c → StandsBegun all c
-  of_append_now all bodies j records body c q (inl here) = inl here
-  of_append_now all bodies j records body c q (inr here) = inr (body, records, q.spelled, q.more, here)
+  of_append_now : (all bodies : List (List ℕ)) (j : JournalState D) (base : List SnapshotPiece) (records : List model.Record)
+      (body c : List ℕ)
+      → IsRead seen may_leave j all bodies base records body → BeforeOrAfter all body c → StandsBegun all c
+  of_append_now all bodies j base records body c q (inl here) = inl here
+  of_append_now all bodies j base records body c q (inr here) = inr (body, base, records, q.spelled, q.more, here)
 
   -- where a body was written, or not
   pub written_stands : (first j new : JournalState D) (d : Durable) (body : List ℕ) → Found told seen may_leave faults first j d body
@@ -433,7 +449,7 @@ module _ {D : Type 0} (told : Type 0) (seen : D → List ℕ) (may_leave : D →
       → told → (all : List (List ℕ)) → JournalSettled seen may_leave first all → StandsBegun all (seen new.disk)
   written_stands first j new d body f appended t all settled =
       let q = f.read t all settled in
-      of_append_now all f.bodies j f.records body (seen new.disk) q (appended t all q.settled)
+      of_append_now all f.bodies j f.base f.records body (seen new.disk) q (appended t all q.settled)
 
   pub unwritten_quiet : {A : Type 0} (old mid new : D) (r : Result A JournalError)
       → Quiet told seen may_leave moment left_since old mid → IfErr r (λ x. UnlessFailed x (new ≡ mid))

@@ -1,6 +1,6 @@
 -- What every fold of records has: a version of the journal, the whole room, and persistent opens alone.
 use Rattle.std.proofs.Common.{◌≡◌, ◌⊎◌, inl, inr, ℕ, ◌+◌, ◌≤◌, ◌==◌, nat_lt, nat_le, Bool, true, false, not, ◌&&◌, ◌||◌, if◌then◌else◌}
-use Rattle.std.proofs.Common.{List, [], ◌∷◌, length, refl, arith, sym, subst, ◌∙◌, ap, Option, Some, None, slice_get, suc}
+use Rattle.std.proofs.Common.{List, [], ◌∷◌, ◌++◌, length, refl, arith, sym, subst, ◌∙◌, ap, Option, Some, None, slice_get, suc}
 use Rattle.spec_exchange.specs.Table.{put, put2, has}
 use Rattle.spec_exchange.specs.Status.{success}
 use Rattle.spec_exchange.specs.Content.{written, ended, is_empty}
@@ -21,16 +21,12 @@ use Rattle.spec_exchange.specs.Fold.{lock_granted, lock_recorded, shut_recorded,
 use Rattle.spec_exchange.specs.Fold.{recovered, persistent_in}
 use Rattle.law_server.specs.tables.Fits.{Fits, all_sound}
 use Rattle.law_server.proofs.tables.Logic.{either, both}
-use Rattle.law_server.proofs.tables.Folded.{folded_keeps, recovered_fits, sound_more, sound_recovery}
+use Rattle.law_server.proofs.tables.Folded.{folded_keeps, sound_more, sound_recovery}
 use Rattle.law_records.specs.recovery.Recovers.{RecordOpens, RecordRecovers, staying, kept_guid, kept_ranges}
-use Rattle.law_records.specs.recovery.Restarted.{Bare}
-use Rattle.law_records.proofs.recovery.Leaves.{fold_append}
 use Rattle.law_records.proofs.recovery.Lists.{in_tail, at_head}
 use Rattle.law_records.proofs.recovery.Marks.{opened_same}
-use Rattle.law_records.proofs.recovery.Restarts.{bare_fold}
 use Rattle.server_core.proofs.durable_state.Choice.{eq_on}
 use Rattle.server_core.proofs.Nothing.{nothing_fits}
-use Rattle.server_core.specs.restart_tables.Found.{with_recovery_records}
 
 pub record OfFold (version room : ℕ) (standing : ℕ → Bool) (opened : ℕ → Open) : Type 0 where
   pub version_is : (version ≡ 1) ⊎ (version ≡ 2)
@@ -42,7 +38,7 @@ IsOfFold s = OfFold s.version s.room s.standing s.opened
 
 -- ---- no record makes another open
 
-put_persistent : (standing : ℕ → Bool) (opened : ℕ → Open) (k : ℕ) (row : Open) → row.persistent ≡ true
+pub put_persistent : (standing : ℕ → Bool) (opened : ℕ → Open) (k : ℕ) (row : Open) → row.persistent ≡ true
     → ((o : ℕ) → standing o ≡ true → (opened o).persistent ≡ true) → (o : ℕ) → put standing k true o ≡ true
     → (put opened k row o).persistent ≡ true
 put_persistent standing opened k row p h o = by (o == k)
@@ -105,7 +101,7 @@ of_expired : (s : Server) (client : ℕ) (guid : Option ℕ) → IsOfFold s → 
 of_expired s client None h = h
 of_expired s client (Some g) h = h
 
-of_slot : (s : Server) (o index number status : ℕ) → IsOfFold s → IsOfFold (keep_slot s o index number status)
+pub of_slot : (s : Server) (o index number status : ℕ) → IsOfFold s → IsOfFold (keep_slot s o index number status)
 of_slot s o index number status h = either (λ x. IsOfFold x) (is_slot index) (record s {
   lock_sequences = put2 s.lock_sequences o index (Some (record { number = number; status = status }));
 }) s (λ _. h)
@@ -151,7 +147,7 @@ of_record s (ExpireRecord origin o) h =
     (add_expired_guid (shut_recorded s o) (s.opened o).client_guid (s.opened o).create_guid) s
     (λ _. of_expired (shut_recorded s o) (s.opened o).client_guid (s.opened o).create_guid (of_shut s o h)) (λ _. h)
 
-of_from : (s : Server) (rs : List Record) → IsOfFold s → IsOfFold (fold_from s rs)
+pub of_from : (s : Server) (rs : List Record) → IsOfFold s → IsOfFold (fold_from s rs)
 unfolding fold_from
 of_from s [] h = h
 of_from s (r ∷ rs) h = of_from (with_record s r) rs (of_record s r h)
@@ -161,7 +157,7 @@ of_fold rs = of_from nothing_yet rs (record { version_is = inl refl; full = refl
 
 -- ---- so a fold's opens are its own
 
-all_persistent : (opened : ℕ → Open) (os : List ℕ) → ((o : ℕ) → has o os ≡ true → (opened o).persistent ≡ true)
+pub all_persistent : (opened : ℕ → Open) (os : List ℕ) → ((o : ℕ) → has o os ≡ true → (opened o).persistent ≡ true)
     → os ≡ persistent_in opened os
 unfolding persistent_in
 all_persistent opened [] h = refl
@@ -169,7 +165,7 @@ all_persistent opened (o ∷ os) h =
     ap (λ (xs : List ℕ). o ∷ xs) (all_persistent opened os (λ p t. h p (in_tail p o os t)))
     ∙ ap (λ (b : Bool). if b then o ∷ persistent_in opened os else persistent_in opened os) (sym (h o (at_head o os)))
 
-stays_so : (stands persistent : Bool) → (stands ≡ true → persistent ≡ true) → stands ≡ (stands && persistent)
+pub stays_so : (stands persistent : Bool) → (stands ≡ true → persistent ≡ true) → stands ≡ (stands && persistent)
 stays_so true persistent h = sym (h refl)
 stays_so false persistent h = refl
 
@@ -254,34 +250,17 @@ no_session d =
 
 -- ---- of all records
 
-pub behind : (rs : List Record) → fold_from (fold rs) (opening_records (fold rs)) ≡ fold (with_recovery_records rs)
-behind rs = sym (fold_append nothing_yet rs (recovery_records rs))
-
-pub all_begun : (rs : List Record) → Bare (fold (with_recovery_records rs)) × (fold (with_recovery_records rs)).session_ids_given ≡ 0
-all_begun rs = (bare_fold (with_recovery_records rs), subst (λ (s : Server). s.session_ids_given ≡ 0) (behind rs) (no_session (fold rs)))
-
-pub all_version : (rs : List Record) → (fold (with_recovery_records rs)).version ≡ 2
-all_version rs = subst (λ (s : Server). s.version ≡ 2) (behind rs) (version_2 (fold rs) (of_fold rs))
-
-pub sound_all : (rs : List Record) → all_sound rs ≡ true → all_sound (with_recovery_records rs) ≡ true
-sound_all rs sound = sound_more rs (recovery_records rs) sound (sound_recovery (fold rs))
-
-pub all_fit : (z : Configuration) (bytes : ℕ) (rs : List Record) → z.room ≤ full_room → all_sound rs ≡ true → Fits (recovered z bytes rs)
-all_fit z bytes rs small sound = recovered_fits (record nothing_yet {
-  share = z.share;
-  room = z.room;
-  encrypts = z.encrypts;
-  address = z.address;
-  journal = bytes;
-}) rs small sound
+abbrev with_recovery : List Record → List Record
+with_recovery rs = rs ++ recovery_records rs
 
 pub all_recover : (z : Configuration) (bytes : ℕ) (rs : List Record) → z.room ≤ full_room → all_sound rs ≡ true
-    → RecordRecovers (with_recovery_records rs) (recovered z bytes rs)
+    → RecordRecovers (with_recovery rs) (recovered z bytes rs)
 all_recover z bytes rs small sound =
-    let d = fold (with_recovery_records rs) in
-    let f = of_fold (with_recovery_records rs) in (
+    let d = fold (with_recovery rs) in
+    let f = of_fold (with_recovery rs) in
+    let sound_all = sound_more rs (recovery_records rs) sound (sound_recovery (fold rs)) in (
       record { entries = refl; next_file = refl; directory = refl; delete_pending = refl; basic = refl; content = refl },
-      own d (folded_keeps nothing_yet (with_recovery_records rs) (sound_all rs sound) nothing_fits) f,
+      own d (folded_keeps nothing_yet (with_recovery rs) sound_all nothing_fits) f,
       record {
         version = refl;
         epoch = refl;

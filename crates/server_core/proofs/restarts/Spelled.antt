@@ -28,7 +28,8 @@ clash b e f = cc
 -- ---- one list of records
 
 module _ (one : SpellsOne) where
-  spell_once : (s : Server) (bodies : List (List ℕ)) (rs ss : List model.Record) → SpellFrom s bodies rs → SpellFrom s bodies ss → rs ≡ ss
+  pub spell_once : (s : Server) (bodies : List (List ℕ)) (rs ss : List model.Record) → SpellFrom s bodies rs → SpellFrom s bodies ss
+      → rs ≡ ss
   spell_once s [] rs ss a b = a ∙ sym b
   spell_once s (body ∷ bodies) rs ss a b =
       let front : a.0 ≡ b.0 = one s.version body a.0 b.0 a.2 b.2 in
@@ -37,7 +38,7 @@ module _ (one : SpellsOne) where
       a.3 ∙ ap (λ (f : List Record). records_of f ++ a.1) front ∙ ap (λ (r : List model.Record). records_of b.0 ++ r) rest ∙ sym b.3
 
   -- the body behind the first ones is a part of the records, in the version that those before it have reached
-  spell_at : (s : Server) (k : ℕ) (bodies : List (List ℕ)) (body : List ℕ) (rs fs : List model.Record) → SpellFrom s bodies rs
+  pub spell_at : (s : Server) (k : ℕ) (bodies : List (List ℕ)) (body : List ℕ) (rs fs : List model.Record) → SpellFrom s bodies rs
       → slice_get bodies k ≡ Some body → SpellFrom s (take k bodies) fs
       → (mine : List Record) × (more : List model.Record) × SpellsRecords (fold_from s fs).version body mine
       × (rs ≡ fs ++ (records_of mine ++ more))
@@ -74,25 +75,9 @@ module _ (one : SpellsOne) where
       spell_once nothing_yet others records more
       (subst (λ (bs : List (List ℕ)). BodiesSpell bs records) (meaning bytes bodies others stands so) spelled) told
 
-  not_foreign : SpellsWhole → (version : ℕ) (body : List ℕ) (mine : List Record) → SpellsRecords version body mine
+  pub not_foreign : SpellsWhole → (version : ℕ) (body : List ℕ) (mine : List Record) → SpellsRecords version body mine
       → all_sound (records_of mine) ≡ true → NoServerWrites version body → ⊥
   not_foreign whole version body mine spells ok (inl broken) = whole version body broken.0 mine broken.1 spells
   not_foreign whole version body mine spells ok (inr other) =
       clash (all_sound (records_of mine))
       (ap (λ (xs : List Record). all_sound (records_of xs)) (one version body mine other.0 spells other.1) ∙ other.2) ok
-
-  some_body : SpellsWhole → MeansOne → (bytes : List ℕ) (bodies : List (List ℕ)) (records : List model.Record) (at : ℕ)
-      → StandsFor bytes bodies → BodiesSpell bodies records → all_sound records ≡ true → IsNoBody bytes at → ⊥
-  some_body whole meaning bytes bodies records at stands spelled ok n =
-      let same : bodies ≡ n.0 = meaning bytes bodies n.0 stands n.4 in
-      let p = spell_at nothing_yet n.1 n.0 n.2 records n.3
-      (subst (λ (bs : List (List ℕ)). BodiesSpell bs records) same spelled) n.5 n.7 in
-      let back = sound_back n.3 (records_of p.0 ++ p.1) (subst (λ (xs : List model.Record). all_sound xs ≡ true) p.3 ok) in
-      not_foreign whole (fold_from nothing_yet n.3).version n.2 p.0 p.2 (sound_front (records_of p.0) p.1 back) n.9
-
-  pub never_refused : SpellsWhole → MeansOne → ((bytes : List ℕ) (bodies : List (List ℕ)) (at : ℕ) → StandsFor bytes bodies
-      → BreaksAt bytes at → ⊥) → (bytes : List ℕ) (bodies : List (List ℕ)) (records : List model.Record) (at : ℕ)
-      → StandsFor bytes bodies → BodiesSpell bodies records → all_sound records ≡ true
-      → (BreaksAt bytes at → ⊥) × (IsNoBody bytes at → ⊥)
-  never_refused whole meaning none bytes bodies records at stands spelled ok =
-      (none bytes bodies at stands, some_body whole meaning bytes bodies records at stands spelled ok)

@@ -1,12 +1,12 @@
 -- A server that begins, from what a restart answers.
 use Rattle.std.proofs.Common.{◌≡◌, ℕ, Bool, true, false, List, ◌++◌, ◌∷◌, [], Option, Some, None, nat_eq, refl, sym, ◌∙◌}
 use Rattle.std.specs.HashMap.{get}
-use Rattle.spec_exchange.specs.Fold.{recovered, recovery_records}
 use Rattle.spec_exchange.specs.State as model
 use Rattle.journal.specs.disk_journal.Journal.{JournalState}
-use Rattle.law_records.proofs.recovery.Restarts.{bare_fold}
+use Rattle.law_snapshots.proofs.restarts.Sessionless.{bare_found}
 use Rattle.server_checks.specs.declared.tables.Config.{Config}
 use Rattle.server_checks.specs.declared.tables.Tables.{Tables}
+use Rattle.server_core.specs.Over.{begun_over, opened_over}
 use Rattle.server_core.specs.server_start.Begun.{ServerBegins}
 use Rattle.server_core.specs.restart_tables.Restart.{ServerRestarts, configuration_of}
 use Rattle.server_checks.specs.session_table.Logons.{KeysShown, LinkPending, LogonsShown, PendingShown}
@@ -48,27 +48,28 @@ pub begun : {D : Type 0} (told : Type 0) (seen : D → List ℕ) (may_leave : D 
     (j : JournalState D) (t : Tables) → ServerRestarts told seen may_leave faults z disk j t
     → ServerBegins told seen may_leave faults z disk (record { journal = j; tables = t; stopped = None })
 begun told seen may_leave faults z disk j t r =
-    let s = r.4 in
-    let bare = bare_fold (r.3 ++ recovery_records r.3) in (
+    let s = r.5 in
+    let bare = bare_found r.4 (λ f. []) (opened_over r.4 r.3) in (
       refl,
       r.1,
       r.2,
       r.3,
+      r.4,
       λ L. record {
         shown = record {
           tables = s.shown;
-          logons = free_logons t.sessions (recovered (configuration_of z) r.2 r.3) s.shown.sessions bare.absent bare.unmade L;
+          logons = free_logons t.sessions (begun_over (configuration_of z) r.2 r.4 r.3) s.shown.sessions bare.absent bare.unmade L;
         };
         fits = s.fits;
         version = s.version;
         sound = s.sound;
         stopped_is = sym r.0;
-        used = λ none. r.5;
-        stands = λ none tells. let b = r.6 tells in (
+        used = λ none. r.6;
+        stands = λ none tells. let b = r.7 tells in (
           b.bodies ++ b.body ∷ [],
-          record { settled = b.settled; spelled = b.more; for_state = s.for_state; used = r.5 },
+          record { settled = b.settled; spelled = b.more; for_state = s.for_state; plain = s.plain; used = r.6 },
         );
       },
-      λ tells. let b = r.6 tells in (b.bodies, b.stood, b.spelled, b.bytes_are),
-      r.7,
+      λ tells. let b = r.7 tells in (b.bodies, b.stood, b.spelled, b.bytes_are),
+      r.8,
     )

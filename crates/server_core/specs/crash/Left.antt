@@ -6,8 +6,11 @@ use Rattle.spec_exchange.specs.Step.{step}
 use Rattle.spec_journal.specs.Forms.{StandsFor}
 use Rattle.law_records.specs.recovery.Recovers.{RecordRecovers}
 use Rattle.law_records.specs.recovery.Restarted.{EntriesLeft, Restarted}
+use Rattle.law_snapshots.specs.restarts.Reopened.{RestartKept}
+use Rattle.law_snapshots.specs.snapshots.Pieces.{SnapshotPiece}
 use Rattle.law_server.specs.tables.Fits.{Fits, all_sound}
-use Rattle.server_core.specs.Reading.{BodiesSpell}
+use Rattle.server_core.specs.Over.{StandsOver, begun_over}
+use Rattle.server_core.specs.Reading.{BodiesSpell, SpellOver}
 use Rattle.spec_world.specs.Lacking.{Expires, alone_records}
 
 -- these bodies spell the records of a server, and their fold agrees with it
@@ -39,3 +42,37 @@ pub record AgainOf (s : Server) (now : ℕ) (e : ServerEvent) (records kept : Li
   pub beside : IsBeside s now e records state kept
   pub stands : Restarted state (recovered z count kept)
   pub entries : EntriesLeft state (recovered z count kept)
+
+-- ---- the same over a snapshot
+
+-- these bodies are a base and records behind it, which stand for a server
+pub record IsRecordedOver (base : List SnapshotPiece) (s : Server) (records : List Record) (bodies : List (List ℕ)) : Type 0 where
+  pub fits : Fits s
+  pub version : s.version ≡ 2
+  pub sound : all_sound records ≡ true
+  pub spelled : SpellOver base bodies records
+  pub for_state : StandsOver base records s
+
+-- bytes stand for a server by them
+abbrev pub BytesStand : List ℕ → List SnapshotPiece → List Record → Server → Type 0
+BytesStand bytes base records s = (bodies : List (List ℕ)) × StandsFor bytes bodies × IsRecordedOver base s records bodies
+
+-- the bytes stand for a state beside an event, by the same base and its records
+pub record LeftOver (base : List SnapshotPiece) (s : Server) (now : ℕ) (e : ServerEvent) (records : List Record) (bytes : List ℕ)
+    : Type 0 where
+  pub state : Server
+  pub kept : List Record
+  pub beside : IsBeside s now e records state kept
+  pub stands : BytesStand bytes base kept state
+
+-- a start over what stands for a server stands where it stood
+pub record StartsAgain (s : Server) (base : List SnapshotPiece) (records : List Record) (z : Configuration) (count : ℕ) : Type 0 where
+  pub stands : RestartKept s (begun_over z count base records)
+  pub entries : EntriesLeft s (begun_over z count base records)
+
+-- and over a state beside an event
+pub record AgainOver (base : List SnapshotPiece) (s : Server) (now : ℕ) (e : ServerEvent) (records kept : List Record)
+    (z : Configuration) (count : ℕ) : Type 0 where
+  pub state : Server
+  pub beside : IsBeside s now e records state kept
+  pub again : StartsAgain state base kept z count

@@ -13,6 +13,10 @@ use Rattle.spec_exchange.specs.declared.values.Origin.{Origin}
 use Rattle.store_opens.specs.open_table.Shown.{ShowsOpens}
 use Rattle.store_files.specs.file_tree.Shown.{ShowsFiles}
 use Rattle.law_records.specs.fold.Order.{FilesAscend}
+use Rattle.law_snapshots.specs.snapshots.Pieces.{SnapshotPiece, with_piece}
+use Rattle.law_snapshots.specs.snapshots.Taken.{takes_piece}
+use Rattle.journal_bytes.specs.declared.piece_bytes.value.OpenFront.{OpenFront}
+use Rattle.store_opens.specs.declared.open_table.row.OpenParts.{OpenParts}
 use Rattle.server_core.specs.declared.durable_state.durable.Durable.{Durable}
 use Rattle.server_core.specs.declared.durable_state.creates.Made.{Made}
 
@@ -55,3 +59,26 @@ is_granted (Denied status) = false
 abbrev pub ranges_behind : model.Server → ℕ → RangeAnswer → model.Server
 ranges_behind s o (Stands ranges) = set_ranges s (file_of s o) ranges
 ranges_behind s o (Denied status) = s
+
+-- ---- pieces of a snapshot
+
+-- whether the piece is one that may come there, and if so what it makes of the state
+abbrev pub TookPiece : Durable → model.Server → SnapshotPiece → Bool → Type 0
+TookPiece d s p b = (b ≡ takes_piece s p) × (b ≡ true → DurableShown d (with_piece s p))
+
+-- an open that has no session yet
+abbrev pub front_parts : OpenFront → OpenParts
+front_parts o = record {
+  file = o.file;
+  access = o.access;
+  share = o.share;
+  options = o.options;
+  action = o.action;
+  persistent = true;
+  client = o.client;
+  guid = Some o.guid;
+  session = None;
+  tree = 0;
+  sequence = 0;
+  timeout = o.timeout;
+}

@@ -2,6 +2,7 @@
 use Rattle.std.specs.Prelude.{◌≡◌, ℕ, List, Some}
 use Rattle.spec_exchange.specs.State as model
 use Rattle.spec_exchange.specs.Step.{expire, step}
+use Rattle.law_snapshots.specs.snapshots.Pieces.{SnapshotPiece}
 use Rattle.server_checks.specs.event_heard.Heard.{event_of, heard_event}
 use Rattle.server_checks.specs.declared.event_heard.asked.Asked.{Asked}
 use Rattle.server_checks.specs.declared.event_heard.event.ServerEvent.{ServerEvent}
@@ -19,10 +20,11 @@ use Rattle.spec_crypto.specs.tokens.Tokens.{Users}
 use Rattle.spec_world.specs.Ends.{Logons}
 
 -- y is the state s without the open o
-pub record ServerApart {D : Type 0} (told : Type 0) (seen : D → List ℕ) (may_leave : D → List ℕ → Type 0) (c : ServerState D)
+pub record ServerApart {D : Type 0} (told : Type 0) (seen : D → List ℕ) (may_leave : D → List ℕ → Type 0) (base : List SnapshotPiece)
+    (c : ServerState D)
     (users : Users) (s y : model.Server) (L : Logons) (records : List model.Record) (now : ℕ) (e : ServerEvent) (a : Asked) (o : ℕ)
     (x : Expired) (both : Both) : Type 0 where
-  pub held : JournaledHeld told seen may_leave c s records
+  pub held : JournaledHeld told seen may_leave base c s records
   pub logons : LogonsShown c.tables.sessions L.keys L.pending
   pub users_are : users ≡ c.tables.config.users
   pub heard : IsJournaledHeard users L s e a

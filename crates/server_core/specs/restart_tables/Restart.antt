@@ -3,7 +3,7 @@ use Rattle.std.specs.Prelude.{◌≡◌, ◌⊎◌, ℕ, ◌+◌, ◌<◌, ◌�
 use Rattle.std.specs.Prelude.{None}
 use Rattle.base_outside.specs.streams.Disk.{Only}
 use Rattle.wire_commands.specs.values.Meaning.{address_of}
-use Rattle.spec_exchange.specs.Fold.{Configuration, fold, full_room, recovered, recovery_records}
+use Rattle.spec_exchange.specs.Fold.{Configuration, full_room}
 use Rattle.spec_exchange.specs.Records.{entry_bytes}
 use Rattle.spec_exchange.specs.State as model
 use Rattle.spec_wire.specs.journal.Grammar.{front}
@@ -14,11 +14,13 @@ use Rattle.journal.specs.declared.disk_journal.journal.JournalError.{JournalErro
 use Rattle.journal.specs.declared.disk_journal.journal.JournalError.TheVariants as causes
 use Rattle.law_records.specs.recovery.Recovers.{RecordRecovers}
 use Rattle.law_records.specs.recovery.Restarted.{Bare}
+use Rattle.law_snapshots.specs.snapshots.Pieces.{SnapshotPiece}
 use Rattle.server_checks.specs.Shown.{TablesShown}
 use Rattle.server_checks.specs.declared.tables.Config.{Config}
 use Rattle.server_checks.specs.declared.tables.Tables.{Tables}
 use Rattle.law_server.specs.tables.Fits.{Fits, all_sound}
-use Rattle.server_core.specs.Reading.{BodiesSpell, NoServerWrites}
+use Rattle.server_core.specs.Over.{StandsOver, begun_over, opening_over, opened_over}
+use Rattle.server_core.specs.Reading.{NoServerAdds, SpellOver}
 use Rattle.server_checks.specs.session_table.Logons.{LogonsShown}
 use Rattle.spec_world.specs.Ends.{no_logons}
 
@@ -41,55 +43,58 @@ configured s z journal = record s { share = z.share; room = z.room; encrypts = z
 abbrev pub IsServerBegun : model.Server → Type 0
 IsServerBegun s = Bare s × s.session_ids_given ≡ 0
 
--- the tables show the state that recovery makes of these records, which fits together and for which all records stand
-pub record IsRecovered (z : Config) (t : Tables) (bytes : ℕ) (records : List model.Record) : Type 0 where
-  pub shown : TablesShown t (recovered (configuration_of z) bytes records)
+-- the tables show the state that a start makes of a base and these records, which fits together and for which both stand with what it adds
+pub record IsRecovered (z : Config) (t : Tables) (bytes : ℕ) (base : List SnapshotPiece) (records : List model.Record) : Type 0 where
+  pub shown : TablesShown t (begun_over (configuration_of z) bytes base records)
   pub logons : LogonsShown t.sessions no_logons.keys no_logons.pending
-  pub fits : Fits (recovered (configuration_of z) bytes records)
-  pub version : (recovered (configuration_of z) bytes records).version ≡ 2
-  pub sound : all_sound (records ++ recovery_records records) ≡ true
-  pub for_state : RecordRecovers (records ++ recovery_records records) (recovered (configuration_of z) bytes records)
+  pub fits : Fits (begun_over (configuration_of z) bytes base records)
+  pub version : (begun_over (configuration_of z) bytes base records).version ≡ 2
+  pub sound : all_sound (opened_over base records) ≡ true
+  pub for_state : StandsOver base (opened_over base records) (begun_over (configuration_of z) bytes base records)
+  pub plain : base ≡ [] → RecordRecovers (opened_over base records) (begun_over (configuration_of z) bytes base records)
 
 -- ---- the disk
 
--- the disk stood for these records, and the journal stands for these and what the recovery adds, in one body
+-- the disk stood for this base and these records, and the journal stands for these and what the recovery adds, in one body
 pub record StandsBehind {D : Type 0} (seen : D → List ℕ) (may_leave : D → List ℕ → Type 0) (disk : D) (journal : JournalState D)
-    (bytes : ℕ) (records : List model.Record) : Type 0 where
+    (bytes : ℕ) (base : List SnapshotPiece) (records : List model.Record) : Type 0 where
   pub bodies : List (List ℕ)
   pub body : List ℕ
   pub stood : StandsFor (seen disk) bodies
-  pub spelled : BodiesSpell bodies records
+  pub spelled : SpellOver base bodies records
   pub sound : all_sound records ≡ true
   pub bytes_are : bytes ≡ length (front bodies) + 1
   pub settled : JournalSettled seen may_leave journal (bodies ++ body ∷ [])
-  pub more : BodiesSpell (bodies ++ body ∷ []) (records ++ recovery_records records)
+  pub more : SpellOver base (bodies ++ body ∷ []) (opened_over base records)
 
 -- ---- the answers
 
 -- behind so many bytes a journal has room for what a recovery adds
-abbrev pub HasEpochRoom : ℕ → List model.Record → Type 0
-HasEpochRoom bytes records = bytes + entry_bytes (recovery_records records) ≤ 1073741824
+abbrev pub HasEpochRoom : ℕ → List SnapshotPiece → List model.Record → Type 0
+HasEpochRoom bytes base records = bytes + entry_bytes (opening_over base records) ≤ 1073741824
 
 -- No call of the disk has failed: its count of faults is what it was. So the records that the recovery adds stand on it, and the
--- journal uses their bytes behind those that it used, within its upper limit. Where the disk tells its bytes, the records are all of its
--- records.
+-- journal uses their bytes behind those that it used, within its upper limit. Where the disk tells its bytes, base and records are all that
+-- it stood for.
 abbrev pub ServerRestarts : {D : Type 0} → Type 0 → (D → List ℕ) → (D → List ℕ → Type 0) → (D → ℕ) → Config → D → JournalState D → Tables
     → Type 0
 ServerRestarts told seen may_leave faults z disk journal t = (journal.stopped ≡ None) × (faults journal.disk ≡ faults disk)
-    × (bytes : ℕ) × (records : List model.Record) × IsRecovered z t bytes records
-    × (bytes + entry_bytes (recovery_records records) ≡ journal.used)
-    × (told → StandsBehind seen may_leave disk journal bytes records) × HasEpochRoom bytes records
+    × (bytes : ℕ) × (records : List model.Record) × (base : List SnapshotPiece) × IsRecovered z t bytes base records
+    × (bytes + entry_bytes (opening_over base records) ≡ journal.used)
+    × (told → StandsBehind seen may_leave disk journal bytes base records) × HasEpochRoom bytes base records
 
 -- the body that begins at this gate is the first that no server writes
 abbrev pub IsNoBody : List ℕ → ℕ → Type 0
-IsNoBody bytes gate = (bodies : List (List ℕ)) × (k : ℕ) × (body : List ℕ) × (records : List model.Record)
+IsNoBody bytes gate = (bodies : List (List ℕ)) × (k : ℕ) × (body : List ℕ) × (base : List SnapshotPiece) × (records : List model.Record)
     × StandsFor bytes bodies × (slice_get bodies k ≡ Some body) × GateStands bytes bodies k gate
-    × BodiesSpell (take k bodies) records × (all_sound records ≡ true) × NoServerWrites (fold records).version body
+    × (spelled : SpellOver base (take k bodies) records) × (all_sound records ≡ true) × NoServerAdds base spelled.back records body
 
 -- A journal, all of whose bodies a server writes, would pass its upper limit by the records that a recovery adds.
 abbrev pub IsFull : List ℕ → ℕ → ℕ → Type 0
-IsFull bytes would limit = (bodies : List (List ℕ)) × (records : List model.Record) × StandsFor bytes bodies × BodiesSpell bodies records
-    × (all_sound records ≡ true) × (would ≡ journal_capped (length (front bodies) + 1 + entry_bytes (recovery_records records))) × (limit ≡ 1073741824) × (limit < would)
+IsFull bytes would limit = (bodies : List (List ℕ)) × (base : List SnapshotPiece) × (records : List model.Record) × StandsFor bytes bodies
+    × SpellOver base bodies records × (all_sound records ≡ true)
+    × (would ≡ journal_capped (length (front bodies) + 1 + entry_bytes (opening_over base records))) × (limit ≡ 1073741824)
+    × (limit < would)
 
 -- Why it is refused. A count of faults that is told rose, and is that of the disk as it was left; with another cause the count stays.
 abbrev pub RestartRefused : {D : Type 0} → Type 0 → (D → List ℕ) → (D → ℕ) → (disk left : D) → JournalError → Type 0
@@ -110,8 +115,8 @@ BeginAnswers told seen may_leave faults z disk journal (Err x) = RestartRefused 
 -- bytes stand for the bodies as they were, or with the one that a recovery adds
 abbrev pub StandsBegun : List (List ℕ) → List ℕ → Type 0
 StandsBegun bodies bytes = StandsFor bytes bodies
-    ⊎ ((body : List ℕ) × (records : List model.Record) × BodiesSpell bodies records
-    × BodiesSpell (bodies ++ body ∷ []) (records ++ recovery_records records) × StandsFor bytes (bodies ++ body ∷ []))
+    ⊎ ((body : List ℕ) × (base : List SnapshotPiece) × (records : List model.Record) × SpellOver base bodies records
+    × SpellOver base (bodies ++ body ∷ []) (opened_over base records) × StandsFor bytes (bodies ++ body ∷ []))
 
 -- it leaves what it could leave before, or such bytes
 abbrev pub RestartLeaves : (List ℕ → Type 0) → List (List ℕ) → List ℕ → Type 0

@@ -2,8 +2,9 @@
 ghost use Rattle.std.specs.Prelude.{◌≡◌, ◌<◌, ◌^◌, ◌&&◌, nat_le, length, IfOk, List, Some};
 ghost use Rattle.spec_crypto.specs.sessions.Signing.{verifies};
 ghost use Rattle.spec_exchange.specs.State as model;
+ghost use Rattle.law_snapshots.specs.snapshots.Pieces.{SnapshotPiece};
 ghost use Rattle.server_core.specs.disk_server.Asked.{HasShape, BookLogonIs, IsBookLogon, signs_binding};
-ghost use Rattle.server_core.specs.Shown.{HoldsServer};
+ghost use Rattle.server_core.specs.Shown.{HoldsServerOver};
 ghost use Rattle.spec_world.specs.Ends.{Logons};
 
 use crate::event_replies::Logon;
@@ -65,8 +66,8 @@ fn is_verified(setup: &SetupHeard<'_>, signer: &Option<Signer>) -> Result<bool, 
 }
 
 fn setup_logon<D: Disk>(server: &Server<D>, setup: &SetupHeard<'_>) -> Result<Logon, AllocError>
-    ensures { IfOk result (λ l. (s : model.Server) (L : Logons) (records : List model.Record)
-        → HoldsServer D.told D.seen D.may_leave server.now s L records → IsBookLogon s L setup.now l) }
+    ensures { IfOk result (λ l. (base : List SnapshotPiece) (s : model.Server) (L : Logons) (records : List model.Record)
+        → HoldsServerOver D.told D.seen D.may_leave base server.now s L records → IsBookLogon s L setup.now l) }
 {
     let signer = server.signer(setup.session_id);
     let verified = is_verified(setup, &signer)?;
@@ -84,8 +85,8 @@ pub(crate) fn logon_in<D: Disk>(
     server: &Server<D>,
     event: &ServerEvent<'_>,
 ) -> Result<Option<Logon>, AllocError>
-    ensures { IfOk result (λ o. (s : model.Server) (L : Logons) (records : List model.Record)
-        → HoldsServer D.told D.seen D.may_leave server.now s L records → BookLogonIs s L event.now o) }
+    ensures { IfOk result (λ o. (base : List SnapshotPiece) (s : model.Server) (L : Logons) (records : List model.Record)
+        → HoldsServerOver D.told D.seen D.may_leave base server.now s L records → BookLogonIs s L event.now o) }
 {
     match event {
         ServerEvent::Setup { setup } => {

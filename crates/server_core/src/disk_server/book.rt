@@ -55,8 +55,9 @@ impl<D: Disk> Book<D> {
     ghost use Rattle.conn_core.specs.served.Serving.{Halts, IsServerServed, IsServerShort, ServerServes, StopsAtFault};
     ghost use Rattle.conn_core.specs.declared.served.error.ServeError.TheVariants as errors;
     ghost use Rattle.spec_exchange.specs.State as model;
+    ghost use Rattle.law_snapshots.specs.snapshots.Pieces.{SnapshotPiece};
     ghost use Rattle.server_core.specs.disk_server.Asked.{HasShape, BookLogonIs};
-    ghost use Rattle.server_core.specs.disk_server.Shown.{ShowsBook};
+    ghost use Rattle.server_core.specs.disk_server.Shown.{ShowsOver};
     ghost use Rattle.server_core.specs.Shown.{disk_of, stopped_of};
     ghost use Rattle.spec_crypto.specs.tokens.Tokens.{Users};
     ghost use Rattle.spec_world.specs.Ends.{Logons};
@@ -72,15 +73,15 @@ impl<D: Disk> Book<D> {
     ) -> Result<Reply, ServeError>
         requires { stopped_of self.old.server ≡ None }
         ensures short { IfOk result (λ r. IsServerShort r) }
-        ensures serves { (users : Users) (s : model.Server) (L : Logons) (records : List model.Record)
-            → ShowsBook D.told D.seen D.may_leave self.old users s L records → IsServerServed event.entry
+        ensures serves { (base : List SnapshotPiece) (users : Users) (s : model.Server) (L : Logons) (records : List model.Record)
+            → ShowsOver D.told D.seen D.may_leave base self.old users s L records → IsServerServed event.entry
             → HasShape event.entry command.now → BookLogonIs s L event.entry logon.now
-            → ServerServes (ShowsBook D.told D.seen D.may_leave self.new users) users s L records now event.entry result }
-        ensures halts { (users : Users) (s : model.Server) (L : Logons) (records : List model.Record)
-            → ShowsBook D.told D.seen D.may_leave self.old users s L records
+            → ServerServes (ShowsOver D.told D.seen D.may_leave base self.new users) users s L records now event.entry result }
+        ensures halts { (base : List SnapshotPiece) (users : Users) (s : model.Server) (L : Logons) (records : List model.Record)
+            → ShowsOver D.told D.seen D.may_leave base self.old users s L records
             → Halts (stopped_of self.old.server) (stopped_of self.new.server) result }
-        ensures fault { (users : Users) (s : model.Server) (L : Logons) (records : List model.Record)
-            → ShowsBook D.told D.seen D.may_leave self.old users s L records → (count : ℕ) → result ≡ Err (errors.Stopped count)
+        ensures fault { (base : List SnapshotPiece) (users : Users) (s : model.Server) (L : Logons) (records : List model.Record)
+            → ShowsOver D.told D.seen D.may_leave base self.old users s L records → (count : ℕ) → result ≡ Err (errors.Stopped count)
             → StopsAtFault (D.faults (disk_of self.old.server)) (D.faults (disk_of self.new.server)) count }
         ensures stops { (count : ℕ) → result ≡ Err (errors.Stopped count) → stopped_of self.new.server ≡ Some count }
     {
@@ -102,15 +103,15 @@ impl<D: Disk> Book<D> {
     ) -> Result<Reply, ServeError>
         requires { stopped_of self.old.server ≡ None }
         ensures short { IfOk result (λ r. IsServerShort r) }
-        ensures serves { (users : Users) (s : model.Server) (L : Logons) (records : List model.Record)
-            → ShowsBook D.told D.seen D.may_leave self.old users s L records → IsServerServed event.entry
+        ensures serves { (base : List SnapshotPiece) (users : Users) (s : model.Server) (L : Logons) (records : List model.Record)
+            → ShowsOver D.told D.seen D.may_leave base self.old users s L records → IsServerServed event.entry
             → BookLogonIs s L event.entry logon.now
-            → ServerServes (ShowsBook D.told D.seen D.may_leave self.new users) users s L records now event.entry result }
-        ensures halts { (users : Users) (s : model.Server) (L : Logons) (records : List model.Record)
-            → ShowsBook D.told D.seen D.may_leave self.old users s L records
+            → ServerServes (ShowsOver D.told D.seen D.may_leave base self.new users) users s L records now event.entry result }
+        ensures halts { (base : List SnapshotPiece) (users : Users) (s : model.Server) (L : Logons) (records : List model.Record)
+            → ShowsOver D.told D.seen D.may_leave base self.old users s L records
             → Halts (stopped_of self.old.server) (stopped_of self.new.server) result }
-        ensures fault { (users : Users) (s : model.Server) (L : Logons) (records : List model.Record)
-            → ShowsBook D.told D.seen D.may_leave self.old users s L records → (count : ℕ) → result ≡ Err (errors.Stopped count)
+        ensures fault { (base : List SnapshotPiece) (users : Users) (s : model.Server) (L : Logons) (records : List model.Record)
+            → ShowsOver D.told D.seen D.may_leave base self.old users s L records → (count : ℕ) → result ≡ Err (errors.Stopped count)
             → StopsAtFault (D.faults (disk_of self.old.server)) (D.faults (disk_of self.new.server)) count }
         ensures stops { (count : ℕ) → result ≡ Err (errors.Stopped count) → stopped_of self.new.server ≡ Some count }
     {
@@ -124,14 +125,14 @@ impl<D: Disk> Book<D> {
     fn go_on(&mut self, now: u64, event: ServerEvent<'_>) -> Result<Reply, ServeError>
         requires { stopped_of self.old.server ≡ None }
         ensures short { IfOk result (λ r. IsServerShort r) }
-        ensures serves { (users : Users) (s : model.Server) (L : Logons) (records : List model.Record)
-            → ShowsBook D.told D.seen D.may_leave self.old users s L records → IsServerServed event.entry
-            → ServerServes (ShowsBook D.told D.seen D.may_leave self.new users) users s L records now event.entry result }
-        ensures halts { (users : Users) (s : model.Server) (L : Logons) (records : List model.Record)
-            → ShowsBook D.told D.seen D.may_leave self.old users s L records
+        ensures serves { (base : List SnapshotPiece) (users : Users) (s : model.Server) (L : Logons) (records : List model.Record)
+            → ShowsOver D.told D.seen D.may_leave base self.old users s L records → IsServerServed event.entry
+            → ServerServes (ShowsOver D.told D.seen D.may_leave base self.new users) users s L records now event.entry result }
+        ensures halts { (base : List SnapshotPiece) (users : Users) (s : model.Server) (L : Logons) (records : List model.Record)
+            → ShowsOver D.told D.seen D.may_leave base self.old users s L records
             → Halts (stopped_of self.old.server) (stopped_of self.new.server) result }
-        ensures fault { (users : Users) (s : model.Server) (L : Logons) (records : List model.Record)
-            → ShowsBook D.told D.seen D.may_leave self.old users s L records → (count : ℕ) → result ≡ Err (errors.Stopped count)
+        ensures fault { (base : List SnapshotPiece) (users : Users) (s : model.Server) (L : Logons) (records : List model.Record)
+            → ShowsOver D.told D.seen D.may_leave base self.old users s L records → (count : ℕ) → result ≡ Err (errors.Stopped count)
             → StopsAtFault (D.faults (disk_of self.old.server)) (D.faults (disk_of self.new.server)) count }
         ensures stops { (count : ℕ) → result ≡ Err (errors.Stopped count) → stopped_of self.new.server ≡ Some count }
     {
@@ -165,5 +166,37 @@ impl<D: Disk> Serve for Book<D> {
 
     fn standing(&self, connection: u32) -> Standing {
         self.server.standing(connection)
+    }
+}
+
+/// The same over a disk whose journal may have been written anew: what it shows stands on the disk over a snapshot, or over none.
+#[derive(Drop)]
+pub struct DiskBook<D: Disk> {
+    pub book: Book<D>,
+}
+
+impl<D: Disk> Serve for DiskBook<D> {
+    ghost use Rattle.server_core.specs.disk_server.Shown.{ShowsDisk};
+    ghost use Rattle.server_core.specs.Shown.{disk_of, stopped_of};
+
+    ghost shows = { λ b users s L records. ShowsDisk D.told D.seen D.may_leave b.book users s L records };
+
+    ghost stopped = { λ b. stopped_of b.book.server };
+
+    ghost faults = { λ b. D.faults (disk_of b.book.server) };
+
+    fn event(&mut self, now: u64, event: ServerEvent<'_>) -> Result<Reply, ServeError> {
+        match self.book.server.stopped() {
+            Some(count) => Err(ServeError::Stopped(count)),
+            None => self.book.go_on(now, event),
+        }
+    }
+
+    fn stop_count(&self) -> Option<u64> {
+        self.book.server.stopped()
+    }
+
+    fn standing(&self, connection: u32) -> Standing {
+        self.book.server.standing(connection)
     }
 }

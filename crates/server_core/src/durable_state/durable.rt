@@ -131,7 +131,7 @@ impl Durable {
     }
 
     // A file that is marked is looked at by the next sweep.
-    fn note(&mut self, file: u64, marked: bool) -> Result<(), AllocError>
+    pub(crate) fn note(&mut self, file: u64, marked: bool) -> Result<(), AllocError>
         ensures rest { self.new ≡ record self.old { pending = self.new.pending } }
         ensures before { OnOk result ((f : ℕ) → contains nat_cmp self.old.pending f ≡ true → contains nat_cmp self.new.pending f ≡ true) }
         ensures noted { OnOk result (marked ≡ true → contains nat_cmp self.new.pending file ≡ true) }

@@ -7,6 +7,7 @@ ghost use Rattle.server_checks.specs.event_heard.Heard.{event_of, heard_event};
 ghost use Rattle.server_checks.specs.declared.event_heard.event.ServerEvent.{ServerEvent};
 ghost use Rattle.journal_bytes.specs.record_bodies.Body.{fits_by};
 ghost use Rattle.server_checks.specs.Shown.{TablesShown};
+ghost use Rattle.law_snapshots.specs.snapshots.Pieces.{SnapshotPiece};
 ghost use Rattle.server_core.specs.event_step.Behind.{ExpiryAsks};
 ghost use Rattle.server_core.specs.event_step.Early.{HasMemory, is_refused_early};
 ghost use Rattle.server_core.specs.journaled_tables.Holds.{EventAnswers, EventLeavesBodies, JournaledGoesOn};
@@ -34,15 +35,17 @@ pub(crate) fn event_alone<D: Disk>(
     asked: &Asked<'_>,
     now: u64,
 ) -> Result<Answer, EventError>
-    ensures step { (users : Users) (s : model.Server) (L : Logons) (records : List model.Record) (e : ServerEvent)
-        → ExpiryAsks D.told D.seen D.may_leave server.old users s L records now e asked.now
+    ensures step { (base : List SnapshotPiece) (users : Users) (s : model.Server) (L : Logons) (records : List model.Record)
+        (e : ServerEvent)
+        → ExpiryAsks D.told D.seen D.may_leave base server.old users s L records now e asked.now
         → step s now (heard_event users L s e) ≡ written_down (event_answer (with_deadlines s now) now (event_of asked.now))
-        → EventAnswers D.told D.seen D.may_leave D.faults server.old server.new users s L records now e result }
+        → EventAnswers D.told D.seen D.may_leave base D.faults server.old server.new users s L records now e result }
     ensures any_moment { D.told
-        → (users : Users) (s : model.Server) (L : Logons) (records : List model.Record) (bodies : List (List ℕ)) (e : ServerEvent)
-        → ExpiryAsks D.told D.seen D.may_leave server.old users s L records now e asked.now
+        → (base : List SnapshotPiece) (users : Users) (s : model.Server) (L : Logons) (records : List model.Record) (bodies : List
+        (List ℕ)) (e : ServerEvent)
+        → ExpiryAsks D.told D.seen D.may_leave base server.old users s L records now e asked.now
         → step s now (heard_event users L s e) ≡ written_down (event_answer (with_deadlines s now) now (event_of asked.now))
-        → JournaledGoesOn D.seen D.may_leave server.old s records bodies
+        → JournaledGoesOn D.seen D.may_leave base server.old s records bodies
         → LeavesOnly D.moment D.left_since server.old.journal.disk server.new.journal.disk
         (EventLeavesBodies s now (heard_event users L s e) bodies) }
     ensures config { server.new.tables.config ≡ server.old.tables.config }
@@ -63,15 +66,17 @@ fn carry_plan<D: Disk>(
     now: u64,
 ) -> Result<Answer, EventError>
     requires { fits_by server.old.tables.journal (length plan.body) ≡ true }
-    ensures step { (users : Users) (s : model.Server) (L : Logons) (records : List model.Record) (e : ServerEvent)
-        → ExpiryAsks D.told D.seen D.may_leave server.old users s L records now e asked.now → PlanFor plan s now (event_of asked.now)
+    ensures step { (base : List SnapshotPiece) (users : Users) (s : model.Server) (L : Logons) (records : List model.Record)
+        (e : ServerEvent)
+        → ExpiryAsks D.told D.seen D.may_leave base server.old users s L records now e asked.now → PlanFor plan s now (event_of asked.now)
         → step s now (heard_event users L s e) ≡ written_down (event_answer (with_deadlines s now) now (event_of asked.now))
-        → EventAnswers D.told D.seen D.may_leave D.faults server.old server.new users s L records now e result }
+        → EventAnswers D.told D.seen D.may_leave base D.faults server.old server.new users s L records now e result }
     ensures any_moment { D.told
-        → (users : Users) (s : model.Server) (L : Logons) (records : List model.Record) (bodies : List (List ℕ)) (e : ServerEvent)
-        → ExpiryAsks D.told D.seen D.may_leave server.old users s L records now e asked.now → PlanFor plan s now (event_of asked.now)
+        → (base : List SnapshotPiece) (users : Users) (s : model.Server) (L : Logons) (records : List model.Record) (bodies : List
+        (List ℕ)) (e : ServerEvent)
+        → ExpiryAsks D.told D.seen D.may_leave base server.old users s L records now e asked.now → PlanFor plan s now (event_of asked.now)
         → step s now (heard_event users L s e) ≡ written_down (event_answer (with_deadlines s now) now (event_of asked.now))
-        → JournaledGoesOn D.seen D.may_leave server.old s records bodies
+        → JournaledGoesOn D.seen D.may_leave base server.old s records bodies
         → LeavesOnly D.moment D.left_since server.old.journal.disk server.new.journal.disk
         (EventLeavesBodies s now (heard_event users L s e) bodies) }
     ensures config { server.new.tables.config ≡ server.old.tables.config }

@@ -6,6 +6,7 @@ ghost use Rattle.spec_wire.specs.journal.Moments.{LeavesOnly};
 ghost use Rattle.store_opens.specs.open_table.Shown.{HasOpensRoom};
 ghost use Rattle.server_checks.specs.event_heard.Heard.{event_of, heard_event};
 ghost use Rattle.server_checks.specs.declared.event_heard.event.ServerEvent.{ServerEvent};
+ghost use Rattle.law_snapshots.specs.snapshots.Pieces.{SnapshotPiece};
 ghost use Rattle.server_core.specs.event_step.Apart.{ServerApart};
 ghost use Rattle.server_core.specs.event_step.Behind.{BehindEnds, HasFront, MayExpire, StaysWhereNone, Without, both_from};
 ghost use Rattle.server_core.specs.journaled_tables.Holds.{EventLeavesBodies, JournaledGoesOn};
@@ -36,13 +37,16 @@ pub(crate) fn carry_behind<D: Disk>(
     both: Both,
 ) -> Result<Behind, EventError>
     requires { RoomToCarry server.old.tables asked.now both.prepared × HasRoomToWrite server.old both.body }
-    ensures step { (users : Users) (s y : model.Server) (L : Logons) (records : List model.Record) (e : ServerEvent) (o : ℕ)
-        → ServerApart D.told D.seen D.may_leave server.old users s y L records now e asked.now o expired both → MayExpire s now o
-        → BehindEnds D.told D.seen D.may_leave D.faults server.old server.new users s L records now e asked.now result }
+    ensures step { (base : List SnapshotPiece) (users : Users) (s y : model.Server) (L : Logons) (records : List model.Record)
+        (e : ServerEvent) (o : ℕ)
+        → ServerApart D.told D.seen D.may_leave base server.old users s y L records now e asked.now o expired both → MayExpire s now o
+        → BehindEnds D.told D.seen D.may_leave base D.faults server.old server.new users s L records now e asked.now result }
     ensures any_moment { D.told
-        → (users : Users) (s y : model.Server) (L : Logons) (records : List model.Record) (bodies : List (List ℕ)) (e : ServerEvent)
-        (o : ℕ) → ServerApart D.told D.seen D.may_leave server.old users s y L records now e asked.now o expired both → MayExpire s now o
-        → JournaledGoesOn D.seen D.may_leave server.old s records bodies
+        → (base : List SnapshotPiece) (users : Users) (s y : model.Server) (L : Logons) (records : List model.Record) (bodies : List
+        (List ℕ)) (e : ServerEvent)
+        (o : ℕ) → ServerApart D.told D.seen D.may_leave base server.old users s y L records now e asked.now o expired both
+        → MayExpire s now o
+        → JournaledGoesOn D.seen D.may_leave base server.old s records bodies
         → LeavesOnly D.moment D.left_since server.old.journal.disk server.new.journal.disk
         (EventLeavesBodies s now (heard_event users L s e) bodies) }
     ensures none { IfOk result (λ b. StaysWhereNone server.old server.new b) }
@@ -63,17 +67,19 @@ pub(crate) fn none_behind<D: Disk>(
     front: &[u8],
 ) -> Result<Behind, EventError>
     requires { HasOpensRoom server.old.tables.opens × HasRoomToWrite server.old front.now }
-    ensures step { (users : Users) (s : model.Server) (L : Logons) (records : List model.Record) (e : ServerEvent) (o : ℕ)
+    ensures step { (base : List SnapshotPiece) (users : Users) (s : model.Server) (L : Logons) (records : List model.Record)
+        (e : ServerEvent) (o : ℕ)
         (y : model.Server)
-        → Without D.told D.seen D.may_leave server.old users s L records now e asked.now o expired y → MayExpire s now o
+        → Without D.told D.seen D.may_leave base server.old users s L records now e asked.now o expired y → MayExpire s now o
         → HasFront s asked.now o front.now
         → fits y (both_from s y now (event_of asked.now) o) ≡ false
-        → BehindEnds D.told D.seen D.may_leave D.faults server.old server.new users s L records now e asked.now result }
+        → BehindEnds D.told D.seen D.may_leave base D.faults server.old server.new users s L records now e asked.now result }
     ensures any_moment { D.told
-        → (users : Users) (s : model.Server) (L : Logons) (records : List model.Record) (bodies : List (List ℕ)) (e : ServerEvent)
+        → (base : List SnapshotPiece) (users : Users) (s : model.Server) (L : Logons) (records : List model.Record) (bodies : List
+        (List ℕ)) (e : ServerEvent)
         (o : ℕ) (y : model.Server)
-        → Without D.told D.seen D.may_leave server.old users s L records now e asked.now o expired y → MayExpire s now o
-        → HasFront s asked.now o front.now → JournaledGoesOn D.seen D.may_leave server.old s records bodies
+        → Without D.told D.seen D.may_leave base server.old users s L records now e asked.now o expired y → MayExpire s now o
+        → HasFront s asked.now o front.now → JournaledGoesOn D.seen D.may_leave base server.old s records bodies
         → LeavesOnly D.moment D.left_since server.old.journal.disk server.new.journal.disk
         (EventLeavesBodies s now (heard_event users L s e) bodies) }
     ensures none { IfOk result (λ b. StaysWhereNone server.old server.new b) }
@@ -101,17 +107,19 @@ pub(crate) fn lack_behind<D: Disk>(
     lack: EventError,
 ) -> Result<Behind, EventError>
     requires { HasOpensRoom server.old.tables.opens × HasRoomToWrite server.old front.now }
-    ensures step { (users : Users) (s : model.Server) (L : Logons) (records : List model.Record) (e : ServerEvent) (o : ℕ)
+    ensures step { (base : List SnapshotPiece) (users : Users) (s : model.Server) (L : Logons) (records : List model.Record)
+        (e : ServerEvent) (o : ℕ)
         (y : model.Server)
-        → Without D.told D.seen D.may_leave server.old users s L records now e asked.now o expired y → MayExpire s now o
+        → Without D.told D.seen D.may_leave base server.old users s L records now e asked.now o expired y → MayExpire s now o
         → HasFront s asked.now o front.now
         → IsLack server.old.journal lack
-        → BehindEnds D.told D.seen D.may_leave D.faults server.old server.new users s L records now e asked.now result }
+        → BehindEnds D.told D.seen D.may_leave base D.faults server.old server.new users s L records now e asked.now result }
     ensures any_moment { D.told
-        → (users : Users) (s : model.Server) (L : Logons) (records : List model.Record) (bodies : List (List ℕ)) (e : ServerEvent)
+        → (base : List SnapshotPiece) (users : Users) (s : model.Server) (L : Logons) (records : List model.Record) (bodies : List
+        (List ℕ)) (e : ServerEvent)
         (o : ℕ) (y : model.Server)
-        → Without D.told D.seen D.may_leave server.old users s L records now e asked.now o expired y → MayExpire s now o
-        → HasFront s asked.now o front.now → JournaledGoesOn D.seen D.may_leave server.old s records bodies
+        → Without D.told D.seen D.may_leave base server.old users s L records now e asked.now o expired y → MayExpire s now o
+        → HasFront s asked.now o front.now → JournaledGoesOn D.seen D.may_leave base server.old s records bodies
         → LeavesOnly D.moment D.left_since server.old.journal.disk server.new.journal.disk
         (EventLeavesBodies s now (heard_event users L s e) bodies) }
     ensures none { IfOk result (λ b. StaysWhereNone server.old server.new b) }

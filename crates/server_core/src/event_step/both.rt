@@ -4,6 +4,7 @@ ghost use Rattle.spec_exchange.specs.State as model;
 ghost use Rattle.spec_wire.specs.journal.Moments.{LeavesOnly};
 ghost use Rattle.server_checks.specs.event_heard.Heard.{heard_event};
 ghost use Rattle.server_checks.specs.declared.event_heard.event.ServerEvent.{ServerEvent};
+ghost use Rattle.law_snapshots.specs.snapshots.Pieces.{SnapshotPiece};
 ghost use Rattle.server_core.specs.event_step.Apart.{ServerApart};
 ghost use Rattle.server_core.specs.event_step.Behind.{MayExpire};
 ghost use Rattle.server_core.specs.journaled_tables.Holds.{EventAnswers, EventLeavesBodies, JournaledGoesOn};
@@ -32,13 +33,16 @@ pub(crate) fn carry_both<D: Disk>(
     both: Both,
 ) -> Result<Answer, EventError>
     requires { RoomToCarry server.old.tables asked.now both.prepared × HasRoomToWrite server.old both.body }
-    ensures step { (users : Users) (s y : model.Server) (L : Logons) (records : List model.Record) (e : ServerEvent) (o : ℕ)
-        → ServerApart D.told D.seen D.may_leave server.old users s y L records now e asked.now o expired both → MayExpire s now o
-        → EventAnswers D.told D.seen D.may_leave D.faults server.old server.new users s L records now e result }
+    ensures step { (base : List SnapshotPiece) (users : Users) (s y : model.Server) (L : Logons) (records : List model.Record)
+        (e : ServerEvent) (o : ℕ)
+        → ServerApart D.told D.seen D.may_leave base server.old users s y L records now e asked.now o expired both → MayExpire s now o
+        → EventAnswers D.told D.seen D.may_leave base D.faults server.old server.new users s L records now e result }
     ensures any_moment { D.told
-        → (users : Users) (s y : model.Server) (L : Logons) (records : List model.Record) (bodies : List (List ℕ)) (e : ServerEvent)
-        (o : ℕ) → ServerApart D.told D.seen D.may_leave server.old users s y L records now e asked.now o expired both → MayExpire s now o
-        → JournaledGoesOn D.seen D.may_leave server.old s records bodies
+        → (base : List SnapshotPiece) (users : Users) (s y : model.Server) (L : Logons) (records : List model.Record) (bodies : List
+        (List ℕ)) (e : ServerEvent)
+        (o : ℕ) → ServerApart D.told D.seen D.may_leave base server.old users s y L records now e asked.now o expired both
+        → MayExpire s now o
+        → JournaledGoesOn D.seen D.may_leave base server.old s records bodies
         → LeavesOnly D.moment D.left_since server.old.journal.disk server.new.journal.disk
         (EventLeavesBodies s now (heard_event users L s e) bodies) }
     ensures config { server.new.tables.config ≡ server.old.tables.config }

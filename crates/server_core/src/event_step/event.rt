@@ -7,9 +7,10 @@ ghost use Rattle.server_checks.specs.event_heard.Heard.{event_of, heard_event, i
 ghost use Rattle.server_checks.specs.declared.setups.error.EventError.TheVariants as errors;
 ghost use Rattle.server_checks.specs.declared.event_heard.event.ServerEvent.{ServerEvent};
 ghost use Rattle.server_checks.specs.Shown.{TablesShown};
+ghost use Rattle.law_snapshots.specs.snapshots.Pieces.{SnapshotPiece};
 ghost use Rattle.server_core.specs.event_step.Behind.{ExpiryAsks, MayExpire};
 ghost use Rattle.server_core.specs.event_step.Early.{HasMemory, is_refused_early};
-ghost use Rattle.server_core.specs.journaled_tables.Holds.{EventAnswers, EventLeavesBodies, JournaledGoesOn, JournaledHolds};
+ghost use Rattle.server_core.specs.journaled_tables.Holds.{EventAnswers, EventLeavesBodies, JournaledGoesOn, HoldsOver};
 ghost use Rattle.law_server.specs.tables.Fits.{Fits};
 ghost use Rattle.spec_crypto.specs.tokens.Tokens.{Users};
 ghost use Rattle.spec_world.specs.Ends.{Logons};
@@ -36,19 +37,21 @@ pub fn answer_event<D: Disk>(
     now: u64,
     event: ServerEvent<'_>,
 ) -> Result<Answer, EventError>
-    ensures step { (s : model.Server) (L : Logons) (records : List model.Record)
-        → JournaledHolds D.told D.seen D.may_leave server.old s L records
-        → EventAnswers D.told D.seen D.may_leave D.faults server.old server.new server.old.tables.config.users s L records now event.entry result }
+    ensures step { (base : List SnapshotPiece) (s : model.Server) (L : Logons) (records : List model.Record)
+        → HoldsOver D.told D.seen D.may_leave base server.old s L records
+        → EventAnswers D.told D.seen D.may_leave base D.faults server.old server.new server.old.tables.config.users s L records now
+        event.entry result }
     ensures any_moment { D.told
-        → (s : model.Server) (L : Logons) (records : List model.Record) (bodies : List (List ℕ))
-        → JournaledHolds D.told D.seen D.may_leave server.old s L records → JournaledGoesOn D.seen D.may_leave server.old s records bodies
+        → (base : List SnapshotPiece) (s : model.Server) (L : Logons) (records : List model.Record) (bodies : List (List ℕ))
+        → HoldsOver D.told D.seen D.may_leave base server.old s L records
+        → JournaledGoesOn D.seen D.may_leave base server.old s records bodies
         → LeavesOnly D.moment D.left_since server.old.journal.disk server.new.journal.disk
         (EventLeavesBodies s now (heard_event server.old.tables.config.users L s event.entry) bodies) }
     ensures stopped { (count : ℕ) → server.old.stopped ≡ Some count
         → (result ≡ Err (errors.Stopped count)) × (server.new ≡ server.old) }
     ensures config { server.new.tables.config ≡ server.old.tables.config }
-    ensures early { (s : model.Server) (L : Logons) (records : List model.Record)
-        → JournaledHolds D.told D.seen D.may_leave server.old s L records → is_setup_heard event.entry ≡ false
+    ensures early { (base : List SnapshotPiece) (s : model.Server) (L : Logons) (records : List model.Record)
+        → HoldsOver D.told D.seen D.may_leave base server.old s L records → is_setup_heard event.entry ≡ false
         → due (with_deadlines s now) now ≡ None
         → is_refused_early s (heard_event server.old.tables.config.users L s event.entry) ≡ true → HasMemory result }
 {
@@ -64,17 +67,19 @@ fn answer_heard<D: Disk>(
     now: u64,
     event: ServerEvent<'_>,
 ) -> Result<Answer, EventError>
-    ensures step { (s : model.Server) (L : Logons) (records : List model.Record)
-        → JournaledHolds D.told D.seen D.may_leave server.old s L records → server.old.stopped ≡ None
-        → EventAnswers D.told D.seen D.may_leave D.faults server.old server.new server.old.tables.config.users s L records now event.entry result }
+    ensures step { (base : List SnapshotPiece) (s : model.Server) (L : Logons) (records : List model.Record)
+        → HoldsOver D.told D.seen D.may_leave base server.old s L records → server.old.stopped ≡ None
+        → EventAnswers D.told D.seen D.may_leave base D.faults server.old server.new server.old.tables.config.users s L records now
+        event.entry result }
     ensures any_moment { D.told
-        → (s : model.Server) (L : Logons) (records : List model.Record) (bodies : List (List ℕ))
-        → JournaledHolds D.told D.seen D.may_leave server.old s L records → JournaledGoesOn D.seen D.may_leave server.old s records bodies
+        → (base : List SnapshotPiece) (s : model.Server) (L : Logons) (records : List model.Record) (bodies : List (List ℕ))
+        → HoldsOver D.told D.seen D.may_leave base server.old s L records
+        → JournaledGoesOn D.seen D.may_leave base server.old s records bodies
         → LeavesOnly D.moment D.left_since server.old.journal.disk server.new.journal.disk
         (EventLeavesBodies s now (heard_event server.old.tables.config.users L s event.entry) bodies) }
     ensures config { server.new.tables.config ≡ server.old.tables.config }
-    ensures early { (s : model.Server) (L : Logons) (records : List model.Record)
-        → JournaledHolds D.told D.seen D.may_leave server.old s L records → is_setup_heard event.entry ≡ false
+    ensures early { (base : List SnapshotPiece) (s : model.Server) (L : Logons) (records : List model.Record)
+        → HoldsOver D.told D.seen D.may_leave base server.old s L records → is_setup_heard event.entry ≡ false
         → due (with_deadlines s now) now ≡ None
         → is_refused_early s (heard_event server.old.tables.config.users L s event.entry) ≡ true → HasMemory result }
 {
@@ -92,13 +97,15 @@ fn answer_asked<D: Disk>(
     asked: &Asked<'_>,
     now: u64,
 ) -> Result<Answer, EventError>
-    ensures step { (users : Users) (s : model.Server) (L : Logons) (records : List model.Record) (e : ServerEvent)
-        → ExpiryAsks D.told D.seen D.may_leave server.old users s L records now e asked.now
-        → EventAnswers D.told D.seen D.may_leave D.faults server.old server.new users s L records now e result }
+    ensures step { (base : List SnapshotPiece) (users : Users) (s : model.Server) (L : Logons) (records : List model.Record)
+        (e : ServerEvent)
+        → ExpiryAsks D.told D.seen D.may_leave base server.old users s L records now e asked.now
+        → EventAnswers D.told D.seen D.may_leave base D.faults server.old server.new users s L records now e result }
     ensures any_moment { D.told
-        → (users : Users) (s : model.Server) (L : Logons) (records : List model.Record) (bodies : List (List ℕ)) (e : ServerEvent)
-        → ExpiryAsks D.told D.seen D.may_leave server.old users s L records now e asked.now
-        → JournaledGoesOn D.seen D.may_leave server.old s records bodies
+        → (base : List SnapshotPiece) (users : Users) (s : model.Server) (L : Logons) (records : List model.Record) (bodies : List
+        (List ℕ)) (e : ServerEvent)
+        → ExpiryAsks D.told D.seen D.may_leave base server.old users s L records now e asked.now
+        → JournaledGoesOn D.seen D.may_leave base server.old s records bodies
         → LeavesOnly D.moment D.left_since server.old.journal.disk server.new.journal.disk
         (EventLeavesBodies s now (heard_event users L s e) bodies) }
     ensures config { server.new.tables.config ≡ server.old.tables.config }
@@ -119,13 +126,15 @@ fn expire_first<D: Disk>(
     now: u64,
     id: u64,
 ) -> Result<Answer, EventError>
-    ensures step { (users : Users) (s : model.Server) (L : Logons) (records : List model.Record) (e : ServerEvent)
-        → ExpiryAsks D.told D.seen D.may_leave server.old users s L records now e asked.now → MayExpire s now id
-        → EventAnswers D.told D.seen D.may_leave D.faults server.old server.new users s L records now e result }
+    ensures step { (base : List SnapshotPiece) (users : Users) (s : model.Server) (L : Logons) (records : List model.Record)
+        (e : ServerEvent)
+        → ExpiryAsks D.told D.seen D.may_leave base server.old users s L records now e asked.now → MayExpire s now id
+        → EventAnswers D.told D.seen D.may_leave base D.faults server.old server.new users s L records now e result }
     ensures any_moment { D.told
-        → (users : Users) (s : model.Server) (L : Logons) (records : List model.Record) (bodies : List (List ℕ)) (e : ServerEvent)
-        → ExpiryAsks D.told D.seen D.may_leave server.old users s L records now e asked.now → MayExpire s now id
-        → JournaledGoesOn D.seen D.may_leave server.old s records bodies
+        → (base : List SnapshotPiece) (users : Users) (s : model.Server) (L : Logons) (records : List model.Record) (bodies : List
+        (List ℕ)) (e : ServerEvent)
+        → ExpiryAsks D.told D.seen D.may_leave base server.old users s L records now e asked.now → MayExpire s now id
+        → JournaledGoesOn D.seen D.may_leave base server.old s records bodies
         → LeavesOnly D.moment D.left_since server.old.journal.disk server.new.journal.disk
         (EventLeavesBodies s now (heard_event users L s e) bodies) }
     ensures config { server.new.tables.config ≡ server.old.tables.config }

@@ -5,6 +5,7 @@ ghost use Rattle.spec_wire.specs.journal.Moments.{LeavesOnly};
 ghost use Rattle.store_opens.specs.open_table.Shown.{HasOpensRoom};
 ghost use Rattle.server_checks.specs.event_heard.Heard.{heard_event};
 ghost use Rattle.server_checks.specs.declared.event_heard.event.ServerEvent.{ServerEvent};
+ghost use Rattle.law_snapshots.specs.snapshots.Pieces.{SnapshotPiece};
 ghost use Rattle.server_core.specs.event_step.Behind.{ExpiryAsks, BehindEnds, HasFront, IsExpiryFront, MayExpire, StaysWhereNone, Without};
 ghost use Rattle.server_core.specs.journaled_tables.Holds.{EventLeavesBodies, JournaledGoesOn};
 ghost use Rattle.server_core.specs.journaled_tables.Rooms.{HasRoomToWrite};
@@ -37,13 +38,15 @@ pub(crate) fn event_behind_expiry<D: Disk>(
     now: u64,
     id: u64,
 ) -> Result<Behind, EventError>
-    ensures step { (users : Users) (s : model.Server) (L : Logons) (records : List model.Record) (e : ServerEvent)
-        → ExpiryAsks D.told D.seen D.may_leave server.old users s L records now e asked.now → MayExpire s now id
-        → BehindEnds D.told D.seen D.may_leave D.faults server.old server.new users s L records now e asked.now result }
+    ensures step { (base : List SnapshotPiece) (users : Users) (s : model.Server) (L : Logons) (records : List model.Record)
+        (e : ServerEvent)
+        → ExpiryAsks D.told D.seen D.may_leave base server.old users s L records now e asked.now → MayExpire s now id
+        → BehindEnds D.told D.seen D.may_leave base D.faults server.old server.new users s L records now e asked.now result }
     ensures any_moment { D.told
-        → (users : Users) (s : model.Server) (L : Logons) (records : List model.Record) (bodies : List (List ℕ)) (e : ServerEvent)
-        → ExpiryAsks D.told D.seen D.may_leave server.old users s L records now e asked.now → MayExpire s now id
-        → JournaledGoesOn D.seen D.may_leave server.old s records bodies
+        → (base : List SnapshotPiece) (users : Users) (s : model.Server) (L : Logons) (records : List model.Record) (bodies : List
+        (List ℕ)) (e : ServerEvent)
+        → ExpiryAsks D.told D.seen D.may_leave base server.old users s L records now e asked.now → MayExpire s now id
+        → JournaledGoesOn D.seen D.may_leave base server.old s records bodies
         → LeavesOnly D.moment D.left_since server.old.journal.disk server.new.journal.disk
         (EventLeavesBodies s now (heard_event users L s e) bodies) }
     ensures none { IfOk result (λ b. StaysWhereNone server.old server.new b) }
@@ -64,14 +67,16 @@ fn behind_front<D: Disk>(
     id: u64,
     front: &[u8],
 ) -> Result<Behind, EventError>
-    ensures step { (users : Users) (s : model.Server) (L : Logons) (records : List model.Record) (e : ServerEvent)
-        → ExpiryAsks D.told D.seen D.may_leave server.old users s L records now e asked.now → MayExpire s now id
+    ensures step { (base : List SnapshotPiece) (users : Users) (s : model.Server) (L : Logons) (records : List model.Record)
+        (e : ServerEvent)
+        → ExpiryAsks D.told D.seen D.may_leave base server.old users s L records now e asked.now → MayExpire s now id
         → IsExpiryFront s asked.now id front.now
-        → BehindEnds D.told D.seen D.may_leave D.faults server.old server.new users s L records now e asked.now result }
+        → BehindEnds D.told D.seen D.may_leave base D.faults server.old server.new users s L records now e asked.now result }
     ensures any_moment { D.told
-        → (users : Users) (s : model.Server) (L : Logons) (records : List model.Record) (bodies : List (List ℕ)) (e : ServerEvent)
-        → ExpiryAsks D.told D.seen D.may_leave server.old users s L records now e asked.now → MayExpire s now id
-        → IsExpiryFront s asked.now id front.now → JournaledGoesOn D.seen D.may_leave server.old s records bodies
+        → (base : List SnapshotPiece) (users : Users) (s : model.Server) (L : Logons) (records : List model.Record) (bodies : List
+        (List ℕ)) (e : ServerEvent)
+        → ExpiryAsks D.told D.seen D.may_leave base server.old users s L records now e asked.now → MayExpire s now id
+        → IsExpiryFront s asked.now id front.now → JournaledGoesOn D.seen D.may_leave base server.old s records bodies
         → LeavesOnly D.moment D.left_since server.old.journal.disk server.new.journal.disk
         (EventLeavesBodies s now (heard_event users L s e) bodies) }
     ensures none { IfOk result (λ b. StaysWhereNone server.old server.new b) }
@@ -99,14 +104,16 @@ fn take_out<D: Disk>(
     front: &[u8],
 ) -> Result<Behind, EventError>
     requires { HasRoomToWrite server.old front.now }
-    ensures step { (users : Users) (s : model.Server) (L : Logons) (records : List model.Record) (e : ServerEvent)
-        → ExpiryAsks D.told D.seen D.may_leave server.old users s L records now e asked.now → MayExpire s now id
+    ensures step { (base : List SnapshotPiece) (users : Users) (s : model.Server) (L : Logons) (records : List model.Record)
+        (e : ServerEvent)
+        → ExpiryAsks D.told D.seen D.may_leave base server.old users s L records now e asked.now → MayExpire s now id
         → HasFront s asked.now id front.now
-        → BehindEnds D.told D.seen D.may_leave D.faults server.old server.new users s L records now e asked.now result }
+        → BehindEnds D.told D.seen D.may_leave base D.faults server.old server.new users s L records now e asked.now result }
     ensures any_moment { D.told
-        → (users : Users) (s : model.Server) (L : Logons) (records : List model.Record) (bodies : List (List ℕ)) (e : ServerEvent)
-        → ExpiryAsks D.told D.seen D.may_leave server.old users s L records now e asked.now → MayExpire s now id
-        → HasFront s asked.now id front.now → JournaledGoesOn D.seen D.may_leave server.old s records bodies
+        → (base : List SnapshotPiece) (users : Users) (s : model.Server) (L : Logons) (records : List model.Record) (bodies : List
+        (List ℕ)) (e : ServerEvent)
+        → ExpiryAsks D.told D.seen D.may_leave base server.old users s L records now e asked.now → MayExpire s now id
+        → HasFront s asked.now id front.now → JournaledGoesOn D.seen D.may_leave base server.old s records bodies
         → LeavesOnly D.moment D.left_since server.old.journal.disk server.new.journal.disk
         (EventLeavesBodies s now (heard_event users L s e) bodies) }
     ensures none { IfOk result (λ b. StaysWhereNone server.old server.new b) }
@@ -129,16 +136,18 @@ fn event_without<D: Disk>(
     front: &[u8],
 ) -> Result<Behind, EventError>
     requires { HasOpensRoom server.old.tables.opens × HasRoomToWrite server.old front.now }
-    ensures step { (users : Users) (s : model.Server) (L : Logons) (records : List model.Record) (e : ServerEvent) (o : ℕ)
+    ensures step { (base : List SnapshotPiece) (users : Users) (s : model.Server) (L : Logons) (records : List model.Record)
+        (e : ServerEvent) (o : ℕ)
         (y : model.Server)
-        → Without D.told D.seen D.may_leave server.old users s L records now e asked.now o expired y → MayExpire s now o
+        → Without D.told D.seen D.may_leave base server.old users s L records now e asked.now o expired y → MayExpire s now o
         → HasFront s asked.now o front.now
-        → BehindEnds D.told D.seen D.may_leave D.faults server.old server.new users s L records now e asked.now result }
+        → BehindEnds D.told D.seen D.may_leave base D.faults server.old server.new users s L records now e asked.now result }
     ensures any_moment { D.told
-        → (users : Users) (s : model.Server) (L : Logons) (records : List model.Record) (bodies : List (List ℕ)) (e : ServerEvent)
+        → (base : List SnapshotPiece) (users : Users) (s : model.Server) (L : Logons) (records : List model.Record) (bodies : List
+        (List ℕ)) (e : ServerEvent)
         (o : ℕ) (y : model.Server)
-        → Without D.told D.seen D.may_leave server.old users s L records now e asked.now o expired y → MayExpire s now o
-        → HasFront s asked.now o front.now → JournaledGoesOn D.seen D.may_leave server.old s records bodies
+        → Without D.told D.seen D.may_leave base server.old users s L records now e asked.now o expired y → MayExpire s now o
+        → HasFront s asked.now o front.now → JournaledGoesOn D.seen D.may_leave base server.old s records bodies
         → LeavesOnly D.moment D.left_since server.old.journal.disk server.new.journal.disk
         (EventLeavesBodies s now (heard_event users L s e) bodies) }
     ensures none { IfOk result (λ b. StaysWhereNone server.old server.new b) }

@@ -6,7 +6,7 @@ use Rattle.serve_command.proofs.command.serve_with.Goals as goal
 
 pub returns-in-Ok : goal.returns-in-Ok
 returns-in-Ok g c = (let begins = c.in-Ok.ensures.holds in
-    let served = c.serve_at.ensures (first_stand c.args.setup.config begins.2 begins.3)
+    let served = c.serve_at.ensures (first_stand c.args.setup.config begins.2 begins.4 begins.3)
     (begins_at g.D.Disk.told g.D.Disk.seen g.D.Disk.may_leave g.D.Disk.faults c.args.setup.config c.args.disk c.in-Ok.server begins) in
     inr (
       c.in-Ok.server,

@@ -22,7 +22,7 @@ returns c =
       entries = c.restart_law.ensures.entries;
     } in
     record {
-      left = left c.behind_law.ensures steps alones;
-      taken = taken c.behind_law.ensures steps alones reads;
-      again = again c.behind_law.ensures steps alones reads;
+      left = left c.behind_law.ensures.spelled steps alones;
+      taken = taken c.behind_law.ensures.spelled steps alones reads;
+      again = again c.behind_law.ensures.spelled steps alones reads;
     }

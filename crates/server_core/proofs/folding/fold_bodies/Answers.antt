@@ -14,28 +14,29 @@ loop-body-smaller g c = nearer g.D.Disk.told g.D.Disk.seen g.D.Disk.may_leave g.
 pub loop-body-preserved : goal.loop-body-preserved
 loop-body-preserved g c = so_far_more g.D.Disk.told g.D.Disk.seen g.D.Disk.may_leave g.D.Disk.moment g.D.Disk.left_since
     g.D.Disk.faults c.args.journal.now c.loop-body.journal c.next_body.new.self c.args.state.now c.loop-body.state
-    c.fold_body.new.state c.in-Ok-Some.body c.in-Ok-Some.field-0 c.next_body.result
-    c.fold_body.result _ c.loop-body.invariant c.in-Ok-Some.is c.in-Ok-Some.field-0-is c.next_body.ensures.in_order
+    c.fold_body.new.state c.in-Ok-Some.body c.loop-body.behind c.in-Ok-Some.field-0 c.next_body.result
+    c.fold_body.result c.in-Ok.records c.loop-body.invariant c.in-Ok-Some.is c.in-Ok-Some.field-0-is c.next_body.ensures.in_order
     c.next_body.ensures.quiet c.next_body.ensures.cause c.in-Ok.is c.fold_body.ensures.applied
 
 pub returns-in-Ok-None : goal.returns-in-Ok-None
 returns-in-Ok-None g c = record {
   read = reads_on g.D.Disk.told g.D.Disk.seen g.D.Disk.may_leave g.D.Disk.moment g.D.Disk.left_since g.D.Disk.faults
       c.args.journal.now c.loop-body.journal c.next_body.new.self c.args.state.now c.loop-body.state
-      c.in-Ok-None.field-0 c.next_body.result c.loop-body.invariant c.in-Ok-None.is c.in-Ok-None.field-0-is c.next_body.ensures.cause;
+      c.loop-body.behind c.in-Ok-None.field-0 c.next_body.result c.loop-body.invariant c.in-Ok-None.is c.in-Ok-None.field-0-is
+      c.next_body.ensures.cause;
   folded = λ s nothing shown.
       all_read g.D.Disk.told g.D.Disk.seen g.D.Disk.may_leave g.D.Disk.moment g.D.Disk.left_since g.D.Disk.faults
       c.args.journal.now c.loop-body.journal c.next_body.new.self c.args.state.now c.loop-body.state
-      c.in-Ok-None.field-0 c.next_body.result c.loop-body.invariant c.in-Ok-None.is c.in-Ok-None.field-0-is c.requires.1
+      c.loop-body.behind c.in-Ok-None.field-0 c.next_body.result c.loop-body.invariant c.in-Ok-None.is c.in-Ok-None.field-0-is c.requires.1
       c.next_body.ensures.in_order s nothing shown;
   stays = stays_settled g.D.Disk.told g.D.Disk.seen g.D.Disk.may_leave g.D.Disk.moment g.D.Disk.left_since g.D.Disk.faults
       c.args.journal.now c.loop-body.journal c.next_body.new.self c.args.state.now c.loop-body.state
-      c.in-Ok-None.field-0 c.next_body.result c.loop-body.invariant c.in-Ok-None.is c.in-Ok-None.field-0-is
+      c.loop-body.behind c.in-Ok-None.field-0 c.next_body.result c.loop-body.invariant c.in-Ok-None.is c.in-Ok-None.field-0-is
       c.next_body.ensures.in_order;
   refused = λ t s nothing shown bodies settled. tt;
   quiet = stays_quiet g.D.Disk.told g.D.Disk.seen g.D.Disk.may_leave g.D.Disk.moment g.D.Disk.left_since g.D.Disk.faults
       c.args.journal.now c.loop-body.journal c.next_body.new.self c.args.state.now c.loop-body.state
-      c.loop-body.invariant c.next_body.ensures.quiet;
+      c.loop-body.behind c.loop-body.invariant c.next_body.ensures.quiet;
   cause = tt;
 }
 
@@ -47,13 +48,13 @@ returns-in-Err g c = record {
   refused = λ t s nothing shown.
       unread g.D.Disk.told g.D.Disk.seen g.D.Disk.may_leave g.D.Disk.moment g.D.Disk.left_since g.D.Disk.faults
       c.args.journal.now c.loop-body.journal c.next_body.new.self c.args.state.now c.loop-body.state
-      c.next_body.result c.in-Err.error c.loop-body.invariant c.in-Err.is c.next_body.ensures.in_order t;
+      c.loop-body.behind c.next_body.result c.in-Err.error c.loop-body.invariant c.in-Err.is c.next_body.ensures.in_order t;
   quiet = stays_quiet g.D.Disk.told g.D.Disk.seen g.D.Disk.may_leave g.D.Disk.moment g.D.Disk.left_since g.D.Disk.faults
       c.args.journal.now c.loop-body.journal c.next_body.new.self c.args.state.now c.loop-body.state
-      c.loop-body.invariant c.next_body.ensures.quiet;
+      c.loop-body.behind c.loop-body.invariant c.next_body.ensures.quiet;
   cause = unread_cause g.D.Disk.told g.D.Disk.seen g.D.Disk.may_leave g.D.Disk.moment g.D.Disk.left_since g.D.Disk.faults
       c.args.journal.now c.loop-body.journal c.next_body.new.self c.args.state.now c.loop-body.state
-      c.next_body.result c.in-Err.error c.loop-body.invariant c.in-Err.is c.requires.0 c.next_body.ensures.cause;
+      c.loop-body.behind c.next_body.result c.in-Err.error c.loop-body.invariant c.in-Err.is c.requires.0 c.next_body.ensures.cause;
 }
 
 pub returns-in-Err-fold_body : goal.returns-in-Err-fold_body
@@ -64,14 +65,16 @@ returns-in-Err-fold_body g c = record {
   refused = λ t s nothing shown.
       unfolded g.D.Disk.told g.D.Disk.seen g.D.Disk.may_leave g.D.Disk.moment g.D.Disk.left_since g.D.Disk.faults
       c.args.journal.now c.loop-body.journal c.next_body.new.self c.args.state.now c.loop-body.state c.fold_body.new.state
-      c.next_gate-gate.result c.in-Ok-Some.body c.in-Ok-Some.field-0 c.next_body.result c.fold_body.result c.in-Err-fold_body.error
+      c.loop-body.behind c.next_gate-gate.result c.in-Ok-Some.body c.in-Ok-Some.field-0 c.next_body.result c.fold_body.result
+      c.in-Err-fold_body.error
       c.loop-body.invariant c.in-Ok-Some.is c.in-Ok-Some.field-0-is c.requires.1 c.next_gate-gate.ensures
       c.next_body.ensures.in_order c.in-Err-fold_body.is c.fold_body.ensures.cause c.fold_body.ensures.applied t s nothing shown;
   quiet = stays_quiet g.D.Disk.told g.D.Disk.seen g.D.Disk.may_leave g.D.Disk.moment g.D.Disk.left_since g.D.Disk.faults
       c.args.journal.now c.loop-body.journal c.next_body.new.self c.args.state.now c.loop-body.state
-      c.loop-body.invariant c.next_body.ensures.quiet;
+      c.loop-body.behind c.loop-body.invariant c.next_body.ensures.quiet;
   cause = unfolded_cause g.D.Disk.told g.D.Disk.seen g.D.Disk.may_leave g.D.Disk.moment g.D.Disk.left_since g.D.Disk.faults
-      c.args.journal.now c.loop-body.journal c.next_body.new.self c.args.state.now c.loop-body.state c.next_gate-gate.result
+      c.args.journal.now c.loop-body.journal c.next_body.new.self c.args.state.now c.loop-body.state c.loop-body.behind
+      c.next_gate-gate.result
       c.in-Ok-Some.body c.in-Ok-Some.field-0 c.next_body.result c.fold_body.result c.in-Err-fold_body.error c.loop-body.invariant
       c.in-Ok-Some.is c.in-Ok-Some.field-0-is c.next_body.ensures.cause c.in-Err-fold_body.is c.fold_body.ensures.cause;
 }

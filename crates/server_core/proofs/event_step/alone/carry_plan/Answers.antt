@@ -25,19 +25,21 @@ returns-in-Ok g c =
     let seen = g.D.Disk.seen in
     let may_leave = g.D.Disk.may_leave in
     let body = c.as_slice-body.result.now in record {
-      step = λ users s L records e a plan is.
+      step = λ base users s L records e a plan is.
           let ready = c.in-Ok.ensures.shown s a.holds.fits a.holds.shown.tables a.heard.agrees
           (c.plan_law.ensures.able c.args.plan s c.args.now x a.holds.fits plan)
           (c.plan_law.ensures.owing c.args.plan s c.args.now x a.holds.fits plan) in
           let r = prepared_ruling x c.in-Ok.prepared in
           let rules = ready.1 ∙ plan.ruling in
-          event_carried told seen may_leave g.D.Disk.faults old mid c.commit.new.server users s s L records c.args.now e c.args.asked.now
+          event_carried told seen may_leave base g.D.Disk.faults old mid c.commit.new.server users s s L records c.args.now e
+          c.args.asked.now
           c.in-Ok.prepared body (carried_out (with_deadlines s c.args.now) c.args.now r).records c.commit.result
-          (record { added = c.body_law.ensures.added; spelled = c.behind_law.ensures }) (record {
+          (record { added = c.body_law.ensures.added; spelled = c.behind_law.ensures.over }) (record {
             stepped = c.keeps_law.ensures.stepped;
             sound = c.keeps_law.ensures.sound;
             version = c.keeps_law.ensures.version;
             stands = c.stands_law.ensures.stepped;
+            over = c.behind_law.ensures.stepped;
           }) (record {
             shown = c.commit.ensures.shown;
             beside = c.commit.ensures.beside;
@@ -47,8 +49,8 @@ returns-in-Ok g c =
           }) (record {
             none = a.goes_on;
             room = c.make_room.ensures.journal.0;
-            held = held_still told seen may_leave old mid s records c.make_room.ensures.journal.0 c.make_room.ensures.journal.1
-                (held told seen may_leave old s L records a.holds a.goes_on);
+            held = held_still told seen may_leave base old mid s records c.make_room.ensures.journal.0 c.make_room.ensures.journal.1
+                (held told seen may_leave base old s L records a.holds a.goes_on);
             users_are = a.users_are ∙ sym (ap (λ (z : Config). z.users) c.make_room.ensures.kept.config);
             heard = a.heard;
             same = refl;
@@ -67,7 +69,7 @@ returns-in-Ok g c =
             }) s c.args.now (heard_event users L s e) x r body is rules
                 (subst (λ (b : List ℕ). IsBodyOf b (event_answer s c.args.now x).records) (sym c.as_slice-body.ensures) plan.body);
           });
-      any_moment = λ tells users s L records bodies e a plan is goes.
+      any_moment = λ tells base users s L records bodies e a plan is goes.
           let ev = heard_event users L s e in
           since_same g.D.Disk.moment g.D.Disk.left_since old.journal mid.journal c.commit.new.server.journal.disk
           (EventLeavesBodies s c.args.now ev bodies) c.make_room.ensures.journal.0
@@ -92,20 +94,22 @@ returns g c =
     let told = g.D.Disk.told in
     let seen = g.D.Disk.seen in
     let may_leave = g.D.Disk.may_leave in record {
-      step = λ users s L records e a plan is.
+      step = λ base users s L records e a plan is.
           let lack = c.in-Err.ensures.shown s a.holds.fits a.holds.shown.tables a.heard.agrees
           (c.plan_law.ensures.able c.args.plan s c.args.now x a.holds.fits plan)
           (c.plan_law.ensures.owing c.args.plan s c.args.now x a.holds.fits plan) in
-          lacked told seen may_leave g.D.Disk.faults old mid s L _ records c.args.now (heard_event users L s e) c.in-Err.error
-          (held told seen may_leave old s L records a.holds a.goes_on) c.make_room.ensures.journal.0 c.make_room.ensures.journal.1 (record {
+          lacked told seen may_leave base g.D.Disk.faults old mid s L _ records c.args.now (heard_event users L s e) c.in-Err.error
+          (held told seen may_leave base old s L records a.holds a.goes_on) c.make_room.ensures.journal.0 c.make_room.ensures.journal.1
+          (record {
             tables = lack.0;
             logons = c.make_room.ensures.kept.logons L.keys L.pending a.holds.shown.logons;
           }) lack.1;
-      any_moment = λ tells users s L records bodies e a plan is goes.
+      any_moment = λ tells base users s L records bodies e a plan is goes.
           nothing_left seen may_leave g.D.Disk.moment g.D.Disk.left_since g.met.D.Disk.only_now s c.args.now (heard_event users L s e)
           old.journal mid.journal.disk bodies (same_disk old.journal mid.journal c.make_room.ensures.journal.0) goes.1.settled;
       config = c.make_room.ensures.kept.config;
-      early = λ s e b w. absurd (not_on (c.in-Err.ensures.sure (ap (λ (v : List ℕ). length v) (c.as_slice-body.ensures ∙ b)) (ap wants_memory_by e ∙ w)));
+      early = λ s e b w. absurd (not_on (c.in-Err.ensures.sure (ap (λ (v : List ℕ). length v) (c.as_slice-body.ensures ∙ b))
+          (ap wants_memory_by e ∙ w)));
     }
 
 pub make_room-requires : goal.make_room-requires

@@ -6,10 +6,11 @@ use Rattle.server_core.proofs.event_step.alone.event_alone.Goals as goal
 
 pub returns-in-Ok : goal.returns-in-Ok
 returns-in-Ok g c = record {
-  step = λ users s L records e a is.
-      c.carry_plan.ensures.step users s L records e a (c.in-Ok.ensures.plan s a.holds.fits a.holds.shown.tables) is;
-  any_moment = λ told users s L records bodies e a is goes.
-      c.carry_plan.ensures.any_moment told users s L records bodies e a (c.in-Ok.ensures.plan s a.holds.fits a.holds.shown.tables) is goes;
+  step = λ base users s L records e a is.
+      c.carry_plan.ensures.step base users s L records e a (c.in-Ok.ensures.plan s a.holds.fits a.holds.shown.tables) is;
+  any_moment = λ told base users s L records bodies e a is goes.
+      c.carry_plan.ensures.any_moment told base users s L records bodies e a
+      (c.in-Ok.ensures.plan s a.holds.fits a.holds.shown.tables) is goes;
   config = c.carry_plan.ensures.config;
   early = λ s f h e.
       let x = event_of c.args.asked.now in
@@ -19,8 +20,8 @@ returns-in-Ok g c = record {
 
 pub returns-in-Err : goal.returns-in-Err
 returns-in-Err g c = record {
-  step = λ users s L records e a is. (a.goes_on, inl a.holds);
-  any_moment = λ told users s L records bodies e a is goes.
+  step = λ base users s L records e a is. (a.goes_on, inl a.holds);
+  any_moment = λ told base users s L records bodies e a is goes.
       nothing_left g.D.Disk.seen g.D.Disk.may_leave g.D.Disk.moment g.D.Disk.left_since g.met.D.Disk.only_now s c.args.now
       (heard_event users L s e) c.args.server.now.journal c.args.server.now.journal.disk bodies refl goes.1.settled;
   config = refl;

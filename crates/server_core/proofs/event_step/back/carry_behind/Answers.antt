@@ -5,7 +5,7 @@ carry_both-requires g c = c.requires
 
 pub returns-in-Ok : goal.returns-in-Ok
 returns-in-Ok g c = record {
-  step = λ users s y L records e o f may. c.in-Ok.ensures.step users s y L records e o f may;
+  step = λ base users s y L records e o f may. c.in-Ok.ensures.step base users s y L records e o f may;
   any_moment = c.carry_both.ensures.any_moment;
   none = tt;
   config = c.carry_both.ensures.config;
@@ -13,7 +13,7 @@ returns-in-Ok g c = record {
 
 pub returns-in-Err : goal.returns-in-Err
 returns-in-Err g c = record {
-  step = λ users s y L records e o f may. c.in-Err.ensures.step users s y L records e o f may;
+  step = λ base users s y L records e o f may. c.in-Err.ensures.step base users s y L records e o f may;
   any_moment = c.carry_both.ensures.any_moment;
   none = tt;
   config = c.carry_both.ensures.config;

@@ -21,16 +21,17 @@ returns-in-Ok g c =
     let new = c.take_back.new.server in
     let back = c.take_back.ensures in
     record {
-      step = λ users s L records e o y w may f l.
+      step = λ base users s L records e o y w may f l.
           let stands = c.keeps_law.ensures.due s c.args.now o w.apart.held.fits may.is_due in
           let shown = subst (λ (u : model.Server). TablesShown old.tables u) w.apart.state_is w.tables in
           let k = c.in-Ok.ensures in
-          lacked g.D.Disk.told g.D.Disk.seen g.D.Disk.may_leave g.D.Disk.faults old new s L _ records c.args.now (heard_event users L s e)
+          lacked g.D.Disk.told g.D.Disk.seen g.D.Disk.may_leave base g.D.Disk.faults old new s L _ records c.args.now
+          (heard_event users L s e)
           c.args.lack w.apart.held (room_back old.journal old.journal new.journal (same_room old.journal) k.back.0) k.back.1 (record {
             tables = k.shown s o w.apart.held.fits stands.0 stands.1 w.apart.out shown;
             logons = subst (λ (t : Sessions). LogonsShown t L.keys L.pending) (sym back.sessions) w.apart.logons;
           }) l;
-      any_moment = λ told users s L records bodies e o y w may f goes.
+      any_moment = λ told base users s L records bodies e o y w may f goes.
           let ev = heard_event users L s e in
           let due = due_front c.dated_law.ensures.front users L s c.args.now e c.args.asked.now o c.args.front.now
           w.apart.heard.said may f in
@@ -49,22 +50,23 @@ returns-in-Err g c =
     let new = c.take_back.new.server in
     let back = c.take_back.ensures in
     record {
-      step = λ users s L records e o y w may f l.
+      step = λ base users s L records e o y w may f l.
           let stands = c.keeps_law.ensures.due s c.args.now o w.apart.held.fits may.is_due in
           let shown = subst (λ (u : model.Server). TablesShown old.tables u) w.apart.state_is w.tables in
           let k = c.in-Err.ensures in
-          lone g.D.Disk.told g.D.Disk.seen g.D.Disk.may_leave g.D.Disk.faults old old new s L _ records c.args.now
+          lone g.D.Disk.told g.D.Disk.seen g.D.Disk.may_leave base g.D.Disk.faults old old new s L _ records c.args.now
           (heard_event users L s e) o
-          c.args.front.now c.in-Err.error (record { added = c.body_law.ensures.added; spelled = c.behind_law.ensures }) (record {
+          c.args.front.now c.in-Err.error (record { added = c.body_law.ensures.added; spelled = c.behind_law.ensures.over }) (record {
             fits_alone = c.stands_law.ensures.fits_alone;
             sound_alone = c.keeps_law.ensures.sound_alone;
             version_alone = c.keeps_law.ensures.version_alone;
             alone = c.stands_law.ensures.alone;
+            over_alone = c.behind_law.ensures.alone;
           }) w.apart.held.goes_on refl w.apart.held
           (due_front c.dated_law.ensures.front users L s c.args.now e c.args.asked.now o c.args.front.now w.apart.heard.said may f)
           (subst (λ (t : Sessions). LogonsShown t L.keys L.pending) (sym back.sessions) w.apart.logons)
           (k.shown s o w.apart.held.fits stands.0 stands.1 w.apart.out shown) k.writes k.acknowledged;
-      any_moment = λ told users s L records bodies e o y w may f goes.
+      any_moment = λ told base users s L records bodies e o y w may f goes.
           let ev = heard_event users L s e in
           let due = due_front c.dated_law.ensures.front users L s c.args.now e c.args.asked.now o c.args.front.now
           w.apart.heard.said may f in

@@ -21,21 +21,22 @@ commit-requires g c = (
 )
 
 pub returns-clause-step : goal.returns-clause-step
-returns-clause-step g c = λ users s y L records e o f may.
+returns-clause-step g c = λ base users s y L records e o f may.
     let old = c.args.server.now in
     let mid = record old { tables = record old.tables { opens = c.give_up.new.opens } } in
     let x = event_of c.args.asked.now in
-    carried_apart g.D.Disk.told g.D.Disk.seen g.D.Disk.may_leave g.D.Disk.faults old mid c.commit.new.server users s y L
+    carried_apart g.D.Disk.told g.D.Disk.seen g.D.Disk.may_leave base g.D.Disk.faults old mid c.commit.new.server users s y L
     records c.args.now e
     c.args.asked.now o c.args.expired c.args.both c.commit.result (record {
       added = c.body_law.ensures.added;
-      spelled = c.behind_law.ensures;
+      spelled = c.behind_law.ensures.over;
     })
     (record {
       stepped = c.keeps_law.ensures.stepped;
       sound = c.keeps_law.ensures.sound;
       version = c.keeps_law.ensures.version;
       stands = c.stands_law.ensures.stepped;
+      over = c.behind_law.ensures.stepped;
     }) (record {
       behind = c.expiring_law.ensures.behind;
       fits_same = c.expiring_law.ensures.counted;
@@ -54,7 +55,7 @@ returns-clause-step g c = λ users s y L records e o f may.
     (undated_at s y o c.args.expired.taken.id f.out f.taken)))
 
 pub returns-clause-any_moment : goal.returns-clause-any_moment
-returns-clause-any_moment g c = λ told users s y L records bodies e o f may goes.
+returns-clause-any_moment g c = λ told base users s y L records bodies e o f may goes.
     let old = c.args.server.now in
     let ev = heard_event users L s e in
     let laws : OutLaws = record {

@@ -11,17 +11,18 @@ use Rattle.server_core.specs.journaled_tables.Beside.{logons_behind}
 use Rattle.server_core.specs.journaled_tables.Holds.{EventLeavesBodies}
 
 pub returns-then-not-fits-clause-step : goal.returns-then-not-fits-clause-step
-returns-then-not-fits-clause-step g c = λ users s L records e a m b. (
+returns-then-not-fits-clause-step g c = λ base users s L records e a m b. (
   a.holds,
   a.said ∙ c.expiring_law.ensures.unfit s c.args.now c.args.id (event_of c.args.asked.now) m.is_due
       (c.expiring_law.ensures.front s c.args.now c.args.id (event_of c.args.asked.now)
-      (c.body_law.ensures.fits s c.args.front.now _ a.holds.fits.limit b ∙ (ap (λ (j : ℕ). fits_by j (length c.args.front.now)) a.holds.shown.tables.journal_is
+      (c.body_law.ensures.fits s c.args.front.now _ a.holds.fits.limit b
+      ∙ (ap (λ (j : ℕ). fits_by j (length c.args.front.now)) a.holds.shown.tables.journal_is
       ∙ (sym c.fits.ensures ∙ c.if-not-fits.true)))),
 )
 
 pub returns-then-not-fits-clause-any_moment : goal.returns-then-not-fits-clause-any_moment
-returns-then-not-fits-clause-any_moment g c = λ told users s L records bodies e a m b n.
-    none_leaves g.D.Disk.seen g.D.Disk.may_leave g.D.Disk.moment g.D.Disk.left_since g.met.D.Disk.only_now c.args.server.now.journal
+returns-then-not-fits-clause-any_moment g c = λ told base users s L records bodies e a m b n.
+    none_leaves g.D.Disk.seen g.D.Disk.may_leave base g.D.Disk.moment g.D.Disk.left_since g.met.D.Disk.only_now c.args.server.now.journal
     c.args.server.now.journal s records c.args.now (heard_event users L s e) bodies refl n.1
 
 pub returns-then-not-fits-clause-none : goal.returns-then-not-fits-clause-none
@@ -35,13 +36,14 @@ pub take_out-requires : goal.take_out-requires
 take_out-requires g c = (c.in-Ok.ensures.room, sym c.fits.ensures ∙ c.if-not-fits.false)
 
 pub returns-in-Ok-clause-step : goal.returns-in-Ok-clause-step
-returns-in-Ok-clause-step g c = λ users s L records e a m b.
+returns-in-Ok-clause-step g c = λ base users s L records e a m b.
     let old = c.args.server.now in let mid = record old { journal = c.reserve_body.new.journal } in
     let o = c.reserve_body.ensures.kept in
-    ends_from g.D.Disk.told g.D.Disk.seen g.D.Disk.may_leave g.D.Disk.faults old mid c.take_out.new.server users s L records c.args.now e
+    ends_from g.D.Disk.told g.D.Disk.seen g.D.Disk.may_leave base g.D.Disk.faults old mid c.take_out.new.server users s L records
+    c.args.now e
     c.args.asked.now c.take_out.result a.goes_on refl (ap g.D.Disk.faults (same_disk old.journal mid.journal o))
-    (c.take_out.ensures.step users s L records e
-    (asks_room g.D.Disk.told g.D.Disk.seen g.D.Disk.may_leave old c.reserve_body.new.journal users s L records
+    (c.take_out.ensures.step base users s L records e
+    (asks_room g.D.Disk.told g.D.Disk.seen g.D.Disk.may_leave base old c.reserve_body.new.journal users s L records
     c.args.now e c.args.asked.now o a) m
     (record {
       body = b;
@@ -51,19 +53,19 @@ returns-in-Ok-clause-step g c = λ users s L records e a m b.
     }))
 
 pub returns-in-Ok-clause-any_moment : goal.returns-in-Ok-clause-any_moment
-returns-in-Ok-clause-any_moment g c = λ told users s L records bodies e a m b n.
+returns-in-Ok-clause-any_moment g c = λ told base users s L records bodies e a m b n.
     let old = c.args.server.now in let o = c.reserve_body.ensures.kept in
     since_same g.D.Disk.moment g.D.Disk.left_since old.journal c.reserve_body.new.journal c.take_out.new.server.journal.disk
     (EventLeavesBodies s c.args.now (heard_event users L s e) bodies) o
-    (c.take_out.ensures.any_moment told users s L records bodies e
-    (asks_room g.D.Disk.told g.D.Disk.seen g.D.Disk.may_leave old c.reserve_body.new.journal users s L records
+    (c.take_out.ensures.any_moment told base users s L records bodies e
+    (asks_room g.D.Disk.told g.D.Disk.seen g.D.Disk.may_leave base old c.reserve_body.new.journal users s L records
     c.args.now e c.args.asked.now o a) m
     (record {
       body = b;
       room = c.body_law.ensures.fits s c.args.front.now _ a.holds.fits.limit b
           ∙ (ap (λ (j : ℕ). fits_by j (length c.args.front.now)) a.holds.shown.tables.journal_is
           ∙ (sym c.fits.ensures ∙ c.if-not-fits.false));
-    }) (n.0, stands_still g.D.Disk.seen g.D.Disk.may_leave old.journal c.reserve_body.new.journal s records bodies o n.1))
+    }) (n.0, stands_still g.D.Disk.seen g.D.Disk.may_leave base old.journal c.reserve_body.new.journal s records bodies o n.1))
 
 pub returns-in-Ok-clause-none : goal.returns-in-Ok-clause-none
 returns-in-Ok-clause-none g c =
@@ -73,19 +75,19 @@ returns-in-Ok-clause-none g c =
     c.take_out.ensures.none
 
 pub returns-in-Err-clause-step : goal.returns-in-Err-clause-step
-returns-in-Err-clause-step g c = λ users s L records e a m b.
+returns-in-Err-clause-step g c = λ base users s L records e a m b.
     let old = c.args.server.now in let new = record old { journal = c.reserve_body.new.journal } in
     let ev = heard_event users L s e in
-    lacked g.D.Disk.told g.D.Disk.seen g.D.Disk.may_leave g.D.Disk.faults old new s L records c.args.now ev
+    lacked g.D.Disk.told g.D.Disk.seen g.D.Disk.may_leave base g.D.Disk.faults old new s L records c.args.now ev
     (logons_behind users L e c.args.now (progress_of ev (step s c.args.now ev).reply)) c.in-Err.error
-    (holds_shown g.D.Disk.told g.D.Disk.seen g.D.Disk.may_leave new s L records
-    (held_still g.D.Disk.told g.D.Disk.seen g.D.Disk.may_leave old new s records c.reserve_body.ensures.kept refl
-    (held g.D.Disk.told g.D.Disk.seen g.D.Disk.may_leave old s L records a.holds a.goes_on)) a.holds.shown)
+    (holds_shown g.D.Disk.told g.D.Disk.seen g.D.Disk.may_leave base new s L records
+    (held_still g.D.Disk.told g.D.Disk.seen g.D.Disk.may_leave base old new s records c.reserve_body.ensures.kept refl
+    (held g.D.Disk.told g.D.Disk.seen g.D.Disk.may_leave base old s L records a.holds a.goes_on)) a.holds.shown)
     a.goes_on a.holds.stopped_is refl c.in-Err.ensures.lack
 
 pub returns-in-Err-clause-any_moment : goal.returns-in-Err-clause-any_moment
-returns-in-Err-clause-any_moment g c = λ told users s L records bodies e a m b n.
-    none_leaves g.D.Disk.seen g.D.Disk.may_leave g.D.Disk.moment g.D.Disk.left_since g.met.D.Disk.only_now c.args.server.now.journal
+returns-in-Err-clause-any_moment g c = λ told base users s L records bodies e a m b n.
+    none_leaves g.D.Disk.seen g.D.Disk.may_leave base g.D.Disk.moment g.D.Disk.left_since g.met.D.Disk.only_now c.args.server.now.journal
     c.reserve_body.new.journal s records c.args.now (heard_event users L s e) bodies
     (same_disk c.args.server.now.journal c.reserve_body.new.journal c.reserve_body.ensures.kept) n.1
 

@@ -23,5 +23,5 @@ returns-in-Some-clause-step g c = λ w L records h none.
     let P : Tables → Type 0 = λ t. TablesShown t w.server in let j = h.server.holds none in
     waits_begun g.D.Disk.told g.D.Disk.seen g.D.Disk.may_leave g.D.Disk.moment g.D.Disk.left_since g.D.Disk.faults c.args.self.now.server c.let_in.new.self c.let_in.new.finals.items w L records c.args.now
     c.args.at_once c.args.self.now c.args.message c.in-Some.waiter c.args.finals.now.items c.let_in.result refl c.if-at_once.false
-    c.in-Some.ensures.some.0.message (c.in-Some.ensures.some.1 w.server j.fits (subst P (sym c.tables.ensures) j.shown.tables)) h none c.requires.0
+    c.in-Some.ensures.some.0.message (c.in-Some.ensures.some.1 w.server j.fits (subst P (sym c.tables.ensures) j.shown.tables)).held h none c.requires.0
     c.let_in.ensures.rest (c.let_in.ensures.lists w h.waiters h.ids_given)

@@ -1,4 +1,4 @@
-use Rattle.std.proofs.Common.{refl}
+use Rattle.std.proofs.Common.{[], refl}
 use Rattle.server_core.proofs.disk_server.Serving.{goes_not, halts_stopped, never_again, stops_goes, stops_same}
 use Rattle.server_core.proofs.disk_server.book.BookServe.event.Goals as goal
 
@@ -15,9 +15,9 @@ returns-in-Some g c = record {
 pub returns-in-None : goal.returns-in-None
 returns-in-None g c = record {
   short = c.go_on.ensures.short;
-  serves = λ users s L records h served. c.go_on.ensures.serves users s L records h served;
-  halts = λ users s L records h. c.go_on.ensures.halts users s L records h;
+  serves = λ users s L records h served. c.go_on.ensures.serves [] users s L records h served;
+  halts = λ users s L records h. c.go_on.ensures.halts [] users s L records h;
   halted = λ count was. goes_not _ count _ _ _ c.in-None.ensures was;
-  fault = λ users s L records h goes count stop. c.go_on.ensures.fault users s L records h count stop;
+  fault = λ users s L records h goes count stop. c.go_on.ensures.fault [] users s L records h count stop;
   stops = λ count stop. c.go_on.ensures.stops count stop;
 }

@@ -1,0 +1,4 @@
+pub mod Lemmas
+pub mod FileLemmas
+pub mod OpenLemmas
+pub mod WholeLemmas

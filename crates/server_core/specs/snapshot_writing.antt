@@ -1,0 +1,4 @@
+pub mod Told
+pub mod Files
+pub mod Opens
+pub mod Whole
