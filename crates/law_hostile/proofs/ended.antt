@@ -5,3 +5,11 @@ pub mod Standing
 pub mod Texts
 pub mod Turns
 pub mod Seconds
+pub mod Knowing
+pub mod Asking
+pub mod Begun
+pub mod Final
+pub mod Quiet
+pub mod Lowly
+pub mod Beginning
+pub mod Accepted

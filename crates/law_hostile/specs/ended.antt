@@ -1,2 +1,3 @@
 pub mod EndedSessions
 pub mod Requests
+pub mod Acceptances

@@ -19,7 +19,7 @@ use Rattle.spec_world.specs.Ends.{ClientEnd, ConnEnd}
 use Rattle.spec_world.specs.Connection.{ConnectionStep, LastTaken}
 use Rattle.spec_world.specs.Hearing.{begins_sealed}
 use Rattle.spec_world.specs.Sending.{greeting_text}
-use Rattle.spec_world.specs.Dialog.{dialog_response}
+use Rattle.spec_world.specs.Dialog.{dialog_response, ended_on}
 use Rattle.spec_world.specs.World.{World, Wires, hears, take_frame, behind_frame, cut_wires, opened_wires, fresh_wires, greeting_of, paid, pushed_wires, with_values}
 use Rattle.spec_world.specs.World.{pushed_with, serve_frame, served_by, step_at, values_took, replied_each}
 use Rattle.spec_world.specs.Events.{Plain, bytes_happen, bytes_changed, bytes_later}
@@ -30,7 +30,7 @@ use Rattle.law_ties.proofs.events.Columns.{push_keeps}
 use Rattle.law_hostile.specs.ended.Requests.{AsksSession, previous_named, NamesSession}
 use Rattle.law_hostile.proofs.ended.Turns.{SameNames, names_self, seconds_put, talked_self, talked_put, not_second, Puts, no_puts, one_puts, line_puts}
 use Rattle.law_hostile.proofs.ended.Turns.{Rests, Goes, Ends, Turn, IsStill, GoesOnTo, IsAccepted, heard_turned, cut_names, cut_talked, cut_up}
-use Rattle.law_hostile.proofs.finals.Recalling.{wires_loaded, conn_loaded}
+use Rattle.law_hostile.proofs.finals.Recalling.{wires_loaded, conn_loaded, up_recalls}
 use Rattle.law_hostile.proofs.loosely.Taking.{hearing_end}
 use Rattle.law_hostile.proofs.placed.Requests.{opening_ups}
 use Rattle.law_hostile.proofs.setups.Own.{greeting_command}
@@ -43,9 +43,10 @@ use Rattle.law_hostile.proofs.ids.Rising.{put_none, never_apart}
 pub record Alike (w u : World) : Type 0 where
   pub client : u.values.client ≡ w.values.client
   pub ends : SameEnds w.wires u.wires
+  pub accepted : u.accepted ≡ w.accepted
 
 alike_self : (w : World) → Alike w w
-alike_self w = record { client = refl; ends = λ j. refl }
+alike_self w = record { client = refl; ends = λ j. refl; accepted = refl }
 
 rests_alike : (w x u y : World) (k : ℕ) → Alike w x → Alike u y → Rests w u k → Rests x y k
 rests_alike w x u y k a b r =
@@ -86,6 +87,11 @@ ends_alike z w x u y k frame a b r =
     record {
       stage = ap (λ (n : ClientEnd). n.stage) (a.ends k) ∙ r.stage;
       passes = subst (λ n. PassesAt z n (SaidSecond false) frame) (sym (a.ends k)) r.passes;
+      response = r.response;
+      remembered = b.accepted
+          ∙ (r.remembered
+          ∙ (ap (λ l. l ++ ended_on (w.wires k).client_end r.response false ∷ []) (sym a.accepted)
+          ∙ ap (λ n. x.accepted ++ ended_on n r.response false ∷ []) (sym (a.ends k))));
       pending = ap (λ (c : Client). c.pending) b.client ∙ (r.pending ∙ sym (ap (λ (c : Client). c.pending) a.client));
       accepted = ap (λ (c : Client). c.accepted) b.client ∙ (r.accepted ∙ sym (ap (λ (c : Client). c.pending) a.client));
       behind = ap (λ (n : ClientEnd). n.stage) (b.ends k) ∙ r.behind;
@@ -144,6 +150,7 @@ took_down z r k d =
     let back : Alike b r.world = record {
       client = refl;
       ends = λ j. sym (ends_put l.wires k _ refl j ∙ ends_put r.world.wires k _ refl j);
+      accepted = refl;
     } in (
       turn_alike z b r.world u u k d.frame back (alike_self u) h.turn,
       h.puts,
@@ -151,7 +158,7 @@ took_down z r k d =
 
 later_down : (z : WorldSettings) (r : RepeatWorld) (k : ℕ) (d : DownFrame) (v : World) → GivesDown z r k d v → GivesDown z r k d (bytes_later v 1)
 later_down z r k d v g = (
-  turn_alike z r.world r.world v (bytes_later v 1) k d.frame (alike_self r.world) (record { client = refl; ends = λ j. refl }) g.0,
+  turn_alike z r.world r.world v (bytes_later v 1) k d.frame (alike_self r.world) (record { client = refl; ends = λ j. refl; accepted = refl }) g.0,
   g.1,
 )
 
@@ -159,7 +166,7 @@ not_down : (z : WorldSettings) (r : RepeatWorld) (k : ℕ) (d : DownFrame) → G
 not_down z r k d =
     let l = loaded_down r k d in (
       IsStill (rests_alike r.world r.world r.world l k (alike_self r.world)
-          (record { client = refl; ends = ends_put r.world.wires k _ refl })
+          (record { client = refl; ends = ends_put r.world.wires k _ refl; accepted = refl })
           (record { names = names_self r.world.values.client; talked = talked_self r.world.wires })),
       no_puts r.world.values.client (l.wires k).up (ap (λ (x : Wires). x.up) (wires_loaded r k d)),
     )
@@ -179,7 +186,7 @@ down_world z r k d =
 
 -- what it leaves is collected
 lists_alike : (w : World) (k : ℕ) (heard : Bool) → Alike w (lists_as w k [] [] heard)
-lists_alike w k heard = record { client = refl; ends = ends_put w.wires k _ refl }
+lists_alike w k heard = record { client = refl; ends = ends_put w.wires k _ refl; accepted = refl }
 
 pub down_turns : (z : WorldSettings) (r : RepeatWorld) (k : ℕ) (d : DownFrame)
     → Turn z r.world (given_down z r k d).world k d.frame × PutsMore r (given_down z r k d)
@@ -233,6 +240,7 @@ up_rests z r k u on =
     let alike : Alike r.world (given_up z r k u).world = record {
       client = served_client z v k;
       ends = λ j. ends_put w.wires k _ refl j ∙ (served_ends z v k j ∙ ends_put r.world.wires k _ refl j);
+      accepted = (up_recalls z r k u).2;
     } in (
       rests_alike r.world r.world r.world (given_up z r k u).world k (alike_self r.world) alike
           (record { names = names_self r.world.values.client; talked = talked_self r.world.wires }),
@@ -338,7 +346,7 @@ changed_stays z w (Finish refusal) s none = absurd (cc)
 later_stays : (w u : World) (k n : ℕ) → Stays w u k → Stays w (bytes_later u n) k
 later_stays w u k n h =
     record {
-      rests = rests_alike w w u (bytes_later u n) k (alike_self w) (record { client = refl; ends = λ j. refl }) h.rests;
+      rests = rests_alike w w u (bytes_later u n) k (alike_self w) (record { client = refl; ends = λ j. refl; accepted = refl }) h.rests;
       puts = h.puts;
     }
 

@@ -16,7 +16,7 @@ use Rattle.law_hostile.proofs.empties.Runs.{event_empties, start_empties}
 use Rattle.law_hostile.proofs.ended.Turns.{SameNames, Rests, Goes, Ends, Turn, IsStill, GoesOnTo, IsAccepted}
 use Rattle.law_hostile.proofs.ended.Naming.{same_rests, up_rests, down_turns}
 
-abbrev AllNamed : World → Type 0
+abbrev pub AllNamed : World → Type 0
 AllNamed w =
     (j : ℕ) → w.values.client.stage j ≡ SaidSecond false → (w.wires j).client_end.stage ≡ SaidSecond false
     → LastNames w.values.client (w.wires j).client_end.transcript
@@ -92,7 +92,7 @@ give_down_named z r k (Some d) i all =
     either (λ (v : RepeatWorld). AllNamed v.world) (is_heard r.world k) (given_down z r k d) r
     (λ on. turn_named z r.world (given_down z r k d).world k d.frame i on (down_turns z r k d).0 all) (λ _. all)
 
-event_named : (z : WorldSettings) (r : RepeatWorld) (e : RepeatEvent) → Counted r.world → HasEmptyLists r.world → AllNamed r.world
+pub event_named : (z : WorldSettings) (r : RepeatWorld) (e : RepeatEvent) → Counted r.world → HasEmptyLists r.world → AllNamed r.world
     → AllNamed (repeat_happens z r e).world
 event_named z r (Same e) i empties all =
     either (λ (v : RepeatWorld). AllNamed v.world) (uses_no_list e) (same_done z r e) r
@@ -107,7 +107,7 @@ run_named z [] r i empties all = all
 run_named z (e ∷ es) r i empties all =
     run_named z es (repeat_happens z r e) (event_counted z r e i) (event_empties z r e empties) (event_named z r e i empties all)
 
-start_named : (z : WorldSettings) → AllNamed (repeat_start z).world
+pub start_named : (z : WorldSettings) → AllNamed (repeat_start z).world
 start_named z j s t = absurd (cc)
 
 pub dialogs_name_sessions : DialogsNameSessions

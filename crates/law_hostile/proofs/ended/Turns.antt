@@ -24,7 +24,7 @@ use Rattle.spec_world.specs.Messages.{HeardMessage}
 use Rattle.spec_world.specs.Ends.{ClientEnd, nonce_at}
 use Rattle.spec_world.specs.Hearing.{begins_sealed}
 use Rattle.spec_world.specs.Sending.{setup_frame, line_frame, request_text, spent, sealed_on}
-use Rattle.spec_world.specs.Dialog.{line_response, dialog_response, status_due, dialog_fault, paid_in, noted_heard, accepted_end}
+use Rattle.spec_world.specs.Dialog.{line_response, dialog_response, status_due, dialog_fault, paid_in, noted_heard, accepted_end, ended_on}
 use Rattle.spec_world.specs.World.{World, Wires, with_values, with_client_end, off_by, one_off, closed_wires, cut_wires, op_heard, line_heard, line_hears}
 use Rattle.spec_world.specs.World.{command_asked, dialog_reply, dialog_wires, dialog_off, dialog_passed, dialog_hears, hears, next_token}
 use Rattle.spec_world.specs.World.{session_accepted, channel_bound, previous_of, noted_sent, queued}
@@ -120,6 +120,8 @@ pub record Goes (w u : World) (k : ℕ) (frame : List ℕ) : Type 0 where
 pub record Ends (z : WorldSettings) (w u : World) (k : ℕ) (frame : List ℕ) : Type 0 where
   pub stage : (w.wires k).client_end.stage ≡ SaidSecond false
   pub passes : PassesAt z (w.wires k).client_end (SaidSecond false) frame
+  pub response : HeardMessage
+  pub remembered : u.accepted ≡ w.accepted ++ ended_on (w.wires k).client_end response false ∷ []
   pub pending : u.values.client.pending ≡ w.values.client.pending
   pub accepted : u.values.client.accepted ≡ w.values.client.pending
   pub behind : (u.wires k).client_end.stage ≡ AskedTree
@@ -406,6 +408,8 @@ accepts_turned z w k x frame none at passes =
       turn = IsAccepted (record {
         stage = at;
         passes = passes;
+        response = x;
+        remembered = refl;
         pending = refl;
         accepted = refl;
         behind = ap (λ (v : Wires). v.client_end.stage) (put_here f k (queued (f k) e b)) ∙ ap (λ (v : ClientEnd). v.stage) end;

@@ -62,15 +62,15 @@ grown made more accepted all i a h =
 -- ---- the client takes a final response
 
 -- the entry that it is taken for
-abbrev entry_of : Watched → ℕ → ClientEnd → List ℕ → SignedEntry
+abbrev pub entry_of : Watched → ℕ → ClientEnd → List ℕ → SignedEntry
 entry_of t k n m = record { to_server = false; secret = own_secret n; place = opening_of t.repeating k; message = m }
 
-taken_second : (z : WorldSettings) (t : Watched) (k : ℕ) (n : ClientEnd) (m : List ℕ) (stage : Stage) (bound : Bool)
+pub taken_second : (z : WorldSettings) (t : Watched) (k : ℕ) (n : ClientEnd) (m : List ℕ) (stage : Stage) (bound : Bool)
     → stage ≡ SaidSecond bound → PassesAt z n (SaidSecond bound) m → TakenDown z t k n m (entry_of t k n m) stage
 taken_second z t k n m stage bound e p =
     subst (λ s. TakenDown z t k n m (entry_of t k n m) s) (sym e) (p, refl, refl)
 
-made_of : (made : List Ending) (n : ClientEnd) → By made (own_secret n) → WasMade made (own_secret n)
+pub made_of : (made : List Ending) (n : ClientEnd) → By made (own_secret n) → WasMade made (own_secret n)
 made_of made n (inl none) = absurd (some_value n none)
 made_of made n (inr w) = w
 

@@ -24,7 +24,7 @@ use Rattle.spec_commands.specs.ReplyBody.{seals_in}
 
 -- ---- it is refused with its fault, or with no session
 
-abbrev IsDenied : ℕ → Verdict → Type 0
+abbrev pub IsDenied : ℕ → Verdict → Type 0
 IsDenied f v = (v ≡ Refuse f) ⊎ (v ≡ Refuse user_session_deleted)
 
 check_denies : (s : Server) (m : Message) (f : ℕ) → m.fault ≡ Some f → IsDenied f (check s m)
@@ -32,7 +32,7 @@ check_denies s m f e =
     either (IsDenied f) (is_setup m.command || has_session s m) (owed s m m.fault) (Refuse user_session_deleted)
     (λ _. inl (ap (owed s m) e)) (λ _. inr refl)
 
-full_denies : (f : ℕ) (v : Verdict) → IsDenied f v → IsDenied f (without_room v)
+pub full_denies : (f : ℕ) (v : Verdict) → IsDenied f v → IsDenied f (without_room v)
 full_denies f v (inl e) = inl (ap without_room e)
 full_denies f v (inr e) = inr (ap without_room e)
 
@@ -40,10 +40,10 @@ found_denies : (t : Server) (m : Message) (v : Verdict) (f : ℕ) → m.fault �
 found_denies t m v f e (inl q) = subst (IsDenied f) (sym q) (check_denies t m f e)
 found_denies t m v f e (inr q) = subst (IsDenied f) (sym q) (full_denies f (check t m) (check_denies t m f e))
 
-abbrev Tells : ℕ → Reply → Type 0
+abbrev pub Tells : ℕ → Reply → Type 0
 Tells f r = (r.status ≡ f) ⊎ (r.status ≡ user_session_deleted)
 
-told_by : (t : Server) (m : Message) (now : ℕ) (v : Verdict) (records : List Record) (f : ℕ) → IsDenied f v
+pub told_by : (t : Server) (m : Message) (now : ℕ) (v : Verdict) (records : List Record) (f : ℕ) → IsDenied f v
     → Tells f (recorded (apply t m now v) records).reply
 told_by t m now v records f (inl e) = inl (ap (λ (x : Verdict). (recorded (apply t m now x) records).reply.status) e)
 told_by t m now v records f (inr e) = inr (ap (λ (x : Verdict). (recorded (apply t m now x) records).reply.status) e)

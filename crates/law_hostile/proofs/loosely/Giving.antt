@@ -48,7 +48,7 @@ step_frame z k now fresh s L x c m plain alone heard =
     subst (λ b. Steps (answered x.server_end b (went_all z k now fresh x.server_end (beginning s L x.server_end) x.messages)) m
     (answer_to s now m m.command)) (sym plain) (step_one z k now fresh s L x.server_end x.messages c m alone heard)
 
-step_given : (z : WorldSettings) (r : RepeatWorld) (k : ℕ) (u : UpFrame) (x : Frame) (c : Checked) (m : Message)
+pub step_given : (z : WorldSettings) (r : RepeatWorld) (k : ℕ) (u : UpFrame) (x : Frame) (c : Checked) (m : Message)
     → check_frame (r.world.wires k).server_end u.frame ≡ Ok x → x.sealed ≡ false → x.messages ≡ c ∷ []
     → heard_message z.server r.world.logons k x.server_end c ≡ Some m
     → Steps (step_at z (loaded_up r k u) k u.frame) m (answer_to r.world.values.server r.world.values.moment m m.command)

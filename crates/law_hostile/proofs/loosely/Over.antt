@@ -56,7 +56,7 @@ same_given e d n b x a c l = omega (arith, a, c, l)
 not_next : (e n y : ℕ) → y ≤ id_of e n → y ≢ id_of e (n + 1)
 not_next e n y l = omega (arith, l)
 
-given_on : (s : Server) (m : Message) (A : Answer) (x : ℕ) → Facts s m A → x ≤ id_of s.epoch s.session_ids_given
+pub given_on : (s : Server) (m : Message) (A : Answer) (x : ℕ) → Facts s m A → x ≤ id_of s.epoch s.session_ids_given
     → x ≤ id_of A.server.epoch A.server.session_ids_given
 given_on s m A x f l = by f.challenges refl
   where
@@ -64,7 +64,7 @@ given_on s m A x f l = by f.challenges refl
     by true e = more_given s.epoch A.server.epoch s.session_ids_given A.server.session_ids_given x f.epoch (f.counted e).0 l
     by false e = same_given s.epoch A.server.epoch s.session_ids_given A.server.session_ids_given x f.epoch (f.uncounted e).0 l
 
-made_on : (s : Server) (m : Message) (A : Answer) (x : ℕ) → Facts s m A → NoMoreMade s x → NoMoreMade A.server x
+pub made_on : (s : Server) (m : Message) (A : Answer) (x : ℕ) → Facts s m A → NoMoreMade s x → NoMoreMade A.server x
 made_on s m A x f i =
     record {
       given = given_on s m A x f i.given;

@@ -16,7 +16,7 @@ use Rattle.law_hostile.specs.negotiating.Negotiating.{RepeatNegotiation, SameTra
 use Rattle.law_hostile.proofs.negotiating.Keeping.{repeats_keep}
 
 -- two whole final responses of one chain value
-of_one_chain : (e a : Ending) → IsWhole e → IsWhole a → e.chain ≡ a.chain
+pub of_one_chain : (e a : Ending) → IsWhole e → IsWhole a → e.chain ≡ a.chain
     → (e.transcript ≡ a.transcript) ⊎ Collide (hashed e.transcript) (hashed a.transcript)
 of_one_chain e a other whole same =
     told (compared first_value first_value e.transcript a.transcript refl (other.five ∙ sym whole.five) (sym other.value
@@ -107,7 +107,7 @@ negotiated z es =
       made = q.made_whole;
     }
 
-collided : (w : World) (i j : ℕ) (e a : Ending) → slice_get w.made i ≡ Some e → slice_get w.accepted j ≡ Some a
+pub collided : (w : World) (i j : ℕ) (e a : Ending) → slice_get w.made i ≡ Some e → slice_get w.accepted j ≡ Some a
     → (e.transcript ≡ a.transcript) ⊎ Collide (hashed e.transcript) (hashed a.transcript) → (e.transcript ≡ a.transcript) ⊎ HasCollided w
 collided w i j e a at on (inl q) = inl q
 collided w i j e a at on (inr q) = inr (OfEndings i j e a at on q)

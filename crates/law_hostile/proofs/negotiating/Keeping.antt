@@ -166,7 +166,7 @@ give_down_keeps z r k None i = i
 give_down_keeps z r k (Some d) i =
     either (λ (v : RepeatWorld). NegotiationKeeps v.world) (is_heard r.world k) (given_down z r k d) r (λ _. down_keeps z r k d i) (λ _. i)
 
-happens_keeps : (z : WorldSettings) (r : RepeatWorld) (e : RepeatEvent) → NegotiationKeeps r.world
+pub happens_keeps : (z : WorldSettings) (r : RepeatWorld) (e : RepeatEvent) → NegotiationKeeps r.world
     → NegotiationKeeps (repeat_happens z r e).world
 happens_keeps z r (Same e) i =
     either (λ (v : RepeatWorld). NegotiationKeeps v.world) (uses_no_list e) (same_done z r e) r (λ s. same_keeps z r e s i) (λ _. i)
@@ -181,7 +181,7 @@ unfolding repeat_run
 run_keeps z [] r i = i
 run_keeps z (e ∷ es) r i = run_keeps z es (repeat_happens z r e) (happens_keeps z r e i)
 
-start_keeps : (z : WorldSettings) → NegotiationKeeps (bytes_start z)
+pub start_keeps : (z : WorldSettings) → NegotiationKeeps (bytes_start z)
 unfolding bytes_run
 start_keeps z = kept z []
 

@@ -137,9 +137,9 @@ said_long v k token S on none =
     (replied_long u k y S.frames open_) (ap length empty)
 
 -- the replies of a world's connection stand beside these frames
-record Says (v : World) (k : ℕ) (fs : List (List ℕ)) : Type 0 where
-  frames : (v.wires k).down ≡ fs
-  replies : length (v.values.conns k).down ≡ length fs
+pub record Says (v : World) (k : ℕ) (fs : List (List ℕ)) : Type 0 where
+  pub frames : (v.wires k).down ≡ fs
+  pub replies : length (v.values.conns k).down ≡ length fs
 
 says_on : (w : World) (k : ℕ) (token : Token) (S : ConnectionStep) → (w.values.conns k).client_open ≡ true
     → (w.values.conns k).down ≡ [] → (w.wires k).down ≡ [] → Says (served_on w k [] [] token S) k S.frames
@@ -182,7 +182,7 @@ may_serve_loaded r k u on =
 says_later : (w : World) (k n : ℕ) (fs : List (List ℕ)) → Says w k fs → Says (bytes_later w n) k fs
 says_later w k n fs h = record { frames = h.frames; replies = h.replies }
 
-happen_says : (z : WorldSettings) (r : RepeatWorld) (k : ℕ) (u : UpFrame) → is_served r.world k ≡ true
+pub happen_says : (z : WorldSettings) (r : RepeatWorld) (k : ℕ) (u : UpFrame) → is_served r.world k ≡ true
     → (step_at z (loaded_up r k u) k u.frame).ends ≡ None
     → Says (bytes_happen z (loaded_up r k u) (Plain (Serve k))) k (step_at z (loaded_up r k u) k u.frame).frames
 happen_says z r k u on none =
@@ -217,7 +217,7 @@ frame_told z r k u i m f on none at piece =
     let n = in_back r.downs (new_downs w k) d.0 d.1 d.2 in
     (n.0, d.1, n.1, subst (λ l. IsPiece m l) (sym d.3) piece)
 
-frames_are : (z : WorldSettings) (w : World) (k : ℕ) (frame : List ℕ) (x : Frame) → check_frame (w.wires k).server_end frame ≡ Ok x
+pub frames_are : (z : WorldSettings) (w : World) (k : ℕ) (frame : List ℕ) (x : Frame) → check_frame (w.wires k).server_end frame ≡ Ok x
     → x.sealed ≡ false
     → (step_at z w k frame).frames ≡ each_joined (all_texts false (joined_in (text_limit false) (went_at z w k x).replies))
 frames_are z w k frame x ok plain =

@@ -64,14 +64,14 @@ never_one (Ioctl file code room) e = absurd (let h : 0 ≡ 1 = e in omega (arith
 never_one (QueryVolume file class room) e = absurd (let h : 0 ≡ 1 = e in omega (arith, h))
 
 -- its token is the client's, and its sequence 0
-record Asks (z : WorldSettings) (frame : List ℕ) : Type 0 where
-  token : IsOwnToken z (token_in frame)
-  sequence : (header_in frame).status ≡ 0
+pub record Asks (z : WorldSettings) (frame : List ℕ) : Type 0 where
+  pub token : IsOwnToken z (token_in frame)
+  pub sequence : (header_in frame).status ≡ 0
 
 apart : (a : ℕ) → a ≡ 0 → a ≡ 1 → ⊥
 apart a e f = absurd (omega (arith, e, f))
 
-asks : (z : WorldSettings) (frame : List ℕ) (m : Message) → IsMeant z frame m → (header_in frame).command ≡ 1 → Asks z frame
+pub asks : (z : WorldSettings) (frame : List ℕ) (m : Message) → IsMeant z frame m → (header_in frame).command ≡ 1 → Asks z frame
 asks z frame m (AsksNegotiate n command e) one =
     absurd (apart (header_in frame).command (greeting_command z _ m frame e) one)
 asks z frame m (AsksSetup n r token command sequence own e) one =
