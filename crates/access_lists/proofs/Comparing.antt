@@ -90,26 +90,11 @@ short_begins [] path l = absurd (omega (arith, l))
 short_begins (x ∷ xs) [] l = refl
 short_begins (x ∷ xs) (y ∷ ys) l = rw (short_begins xs ys (omega (arith, l))) (and_false (upper x == upper y))
 
-pub empty_is : (d : List ℕ) → length d ≡ 0 → d ≡ []
-empty_is [] e = refl
-empty_is (x ∷ xs) e = absurd (omega (arith, e))
-
-pub root_within : (path : List ℕ) → is_within [] path ≡ true
-unfolding is_within same_name is_below same_bytes
-root_within [] = refl
-root_within (y ∷ ys) = refl
-
 pub not_within : (d path : List ℕ) → 0 < length d → begins_so d path ≡ false → is_within d path ≡ false
 unfolding is_within is_below begins_below
 not_within [] path l e = absurd (omega (arith, l))
 not_within (x ∷ xs) path l e =
     rw (same_by_begins (x ∷ xs) path, behind_front (x ∷ xs) path, e) (or_false_right (length (x ∷ xs) == length path))
-
-pub same_within : (d path : List ℕ) → begins_so d path ≡ true → length d ≡ length path → is_within d path ≡ true
-unfolding is_within
-same_within d path e n =
-    let same : (length d == length path) ≡ true = grind (arith, nat_tests) in
-    rw (same_by_begins d path, e, same) refl
 
 pub longer_within : (d path : List ℕ) → 0 < length d → begins_so d path ≡ true → length d < length path
     → is_within d path ≡ (get_or path (length d) 0 == 92)
@@ -118,3 +103,34 @@ longer_within [] path l e n = absurd (omega (arith, l))
 longer_within (x ∷ xs) path l e n =
     let differ : (length (x ∷ xs) == length path) ≡ false = grind (arith, nat_tests) in
     rw (same_by_begins (x ∷ xs) path, behind_front (x ∷ xs) path, e, drop_more path (length (x ∷ xs)) 0 n, differ) refl
+
+-- ---- paths below a directory
+
+if_begun : (b : Bool) (text : List ℕ) → begins_below (if b then Some text else None) ≡ (b && begins_below (Some text))
+unfolding begins_below
+if_begun true text = refl
+if_begun false text = refl
+
+pub root_above : (d path : List ℕ) → length d ≡ 0 → 0 < length path → is_below d path ≡ true
+unfolding is_below same_bytes
+root_above [] [] e l = absurd (omega (arith, l))
+root_above [] (y ∷ ys) e l = refl
+root_above (x ∷ xs) path e l = absurd (omega (arith, e))
+
+pub short_below : (d path : List ℕ) → length path ≤ length d → is_below d path ≡ false
+unfolding is_below begins_below same_bytes
+short_below [] [] l = refl
+short_below [] (y ∷ ys) l = absurd (omega (arith, l))
+short_below (x ∷ xs) path l = rw (behind_front (x ∷ xs) path, drop_all (length (x ∷ xs)) path l, if_begun (begins_so (x ∷ xs) path) [])
+    (and_false (begins_so (x ∷ xs) path))
+
+pub not_below : (d path : List ℕ) → 0 < length d → begins_so d path ≡ false → is_below d path ≡ false
+unfolding is_below begins_below
+not_below [] path l e = absurd (omega (arith, l))
+not_below (x ∷ xs) path l e = rw (behind_front (x ∷ xs) path, e) refl
+
+pub longer_below : (d path : List ℕ) → 0 < length d → begins_so d path ≡ true → length d < length path
+    → is_below d path ≡ (get_or path (length d) 0 == 92)
+unfolding is_below begins_below
+longer_below [] path l e n = absurd (omega (arith, l))
+longer_below (x ∷ xs) path l e n = rw (behind_front (x ∷ xs) path, e, drop_more path (length (x ∷ xs)) 0 n) refl

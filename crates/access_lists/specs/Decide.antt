@@ -1,7 +1,8 @@
 -- What a user may do at a path, by the first rule that bears. A right is 0 to read, 1 to write, 2 to delete: the bits 1, 2 and 4 of a
 -- rule's rights.
 use Rattle.std.specs.Prelude.{ℕ, ◌+◌, ◌-◌, ◌/◌, ◌%◌, ◌^◌, ◌==◌, nat_le, Bool, true, false, ◌&&◌, ◌||◌, if◌then◌else◌, List, [], ◌∷◌}
-use Rattle.std.specs.Prelude.{Option, Some, None, is_some}
+use Rattle.std.specs.Prelude.{Option, Some, None, is_some, option_map}
+use Rattle.std.specs.List.{position}
 use Rattle.spec_exchange.specs.Texts.{same_name, is_below}
 use Rattle.access_lists.specs.declared.rules.Rule.{Rule}
 
@@ -65,3 +66,7 @@ without true mask access = access - mask
 unfoldable pub maximal : List Rule → List ℕ → List ℕ → ℕ
 maximal rules name path = without (is_denied rules name path 2) 0x10040
     (without (is_denied rules name path 1) 0x106 (without (is_denied rules name path 0) 0x21 0x1f01ff))
+
+-- the least rule, counted from 1 on, whose path lies below a directory, at any depth: whoever its user is, and whether it allows or denies
+unfoldable pub below : List Rule → List ℕ → Option ℕ
+below rules directory = option_map (λ (i : ℕ). i + 1) (position (λ (x : Rule). is_below directory x.path) rules)

@@ -1,6 +1,6 @@
 //! Whether a rule bears on a user and a path.
 ghost use Rattle.std.specs.Prelude.{◌≡◌, ◌≤◌, ◌<◌, length};
-ghost use Rattle.spec_exchange.specs.Texts.{upper, same_name};
+ghost use Rattle.spec_exchange.specs.Texts.{upper, same_name, is_below};
 ghost use Rattle.access_lists.specs.Decide.{is_of_user, is_within, bears_on};
 ghost use Rattle.access_lists.specs.Index.{place_of};
 ghost use Rattle.access_lists.specs.Walk.{begins_so};
@@ -35,17 +35,25 @@ fn is_same_name(a: &[u8], b: &[u8]) -> bool
 }
 
 // Whether the components of a directory begin a path's.
-#[tactic(auto, using(crate::proofs::Comparing::root_within, crate::proofs::Comparing::not_within, crate::proofs::Comparing::short_begins, crate::proofs::Comparing::same_within, crate::proofs::Comparing::longer_within))]
+#[tactic(auto, unfolding(crate::specs::Decide::is_within))]
 fn is_within(directory: &[u8], path: &[u8]) -> bool
     ensures { result ≡ is_within directory.now path.now }
 {
+    is_same_name(directory, path) || is_below(directory, path)
+}
+
+/// Whether a path lies below a directory, at any depth.
+#[tactic(auto, using(crate::proofs::Comparing::short_below, crate::proofs::Comparing::root_above, crate::proofs::Comparing::not_below, crate::proofs::Comparing::longer_below))]
+pub(crate) fn is_below(directory: &[u8], path: &[u8]) -> bool
+    ensures { result ≡ is_below directory.now path.now }
+{
+    if directory.len() >= path.len() {
+        return false;
+    }
     if directory.is_empty() {
         return true;
     }
-    if directory.len() > path.len() || !begins(directory, path) {
-        return false;
-    }
-    directory.len() == path.len() || path[directory.len()] == b'\\'
+    begins(directory, path) && path[directory.len()] == b'\\'
 }
 
 // Whether a text that is no longer than another begins it, by ASCII case.

@@ -1,8 +1,10 @@
 //! Rules, and where they are looked for.
-ghost use Rattle.std.specs.Prelude.{◌≡◌, ◌≤◌, true, false, [], ◌∷◌, ◌++◌, length, IfOk, OnOk};
+ghost use Rattle.std.specs.Prelude.{◌≡◌, ◌≤◌, ◌<◌, true, false, [], ◌∷◌, ◌++◌, length, position, IfOk, IfSome, OnOk};
+ghost use Rattle.spec_exchange.specs.Texts.{is_below};
+ghost use Rattle.access_lists.specs.Decide.{below};
 ghost use Rattle.access_lists.specs.Index.{place_of, is_reached, reached, IsIndex};
 
-use crate::bearing::place_of;
+use crate::bearing::{is_below, place_of};
 use base_lists::ListOf;
 use std::alloc::{AllocError, Global};
 use std::marker::Model;
@@ -67,6 +69,7 @@ impl Model for Rules {
 impl Rules {
     ghost use Rattle.std.specs.Prelude.{◌≡◌, ◌<◌, ◌↔◌, length, IfOk, IfErr};
     ghost use Rattle.access_lists.specs.declared.rules.RulesError.TheVariants.{TooMany};
+    ghost use Rattle.access_lists.specs.Decide.{below};
 
     /// Rules in their order. Where they can't stand they are dropped.
     pub fn new(alloc: Global, rules: ListOf<Rule>) -> Result<Rules, RulesError>
@@ -80,12 +83,39 @@ impl Rules {
         Ok(Rules { rules, places })
     }
 
+    /// The least rule, counted from 1 on, whose path lies below a directory, at any depth: whoever its user is, and whether it allows or
+    /// denies. It looks at each rule, since few directories are renamed, and takes no memory.
+    pub fn below(&self, directory: &str) -> Option<u32>
+        ensures { result ≡ below self.now directory.now }
+    {
+        first_below(self.rules.as_slice(), directory.as_bytes())
+    }
+
     /// How many rules stand.
     pub fn len(&self) -> usize
         ensures { result ≡ length self.now }
     {
         self.rules.len()
     }
+}
+
+fn first_below(rules: &[Rule], directory: &[u8]) -> Option<u32>
+    requires { length rules.now ≤ 1024 }
+    ensures { result ≡ below rules.now directory.now }
+{
+    match place_below(rules, directory) {
+        Some(place) => Some(place as u32 + 1),
+        None => None,
+    }
+}
+
+fn place_below(rules: &[Rule], directory: &[u8]) -> Option<usize>
+    ensures is { result ≡ position (λ x. is_below directory.now x.path) rules.now }
+    ensures bound { IfSome result (λ i. i < length rules.now) }
+{
+    rules
+        .iter()
+        .position(|rule| is_below(directory, rule.path.as_bytes()))
 }
 
 // Of each place the numbers of the rules that are looked at there.
