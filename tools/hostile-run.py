@@ -20,6 +20,7 @@ import traceback
 
 import hostile_disk
 import hostile_frames
+import hostile_images
 import hostile_kills
 import hostile_links
 import hostile_load
@@ -30,7 +31,7 @@ import hostile_words
 from hostile_client import Closed, Refused, Wrong
 from hostile_server import CHECKS, Failed, Run, Skipped
 
-PARTS = (hostile_disk, hostile_links, hostile_patience, hostile_load, hostile_words, hostile_kills, hostile_frames)
+PARTS = (hostile_disk, hostile_links, hostile_patience, hostile_load, hostile_words, hostile_images, hostile_kills, hostile_frames)
 
 
 def in_order():
