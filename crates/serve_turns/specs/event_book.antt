@@ -1,3 +1,4 @@
 pub mod Places
+pub mod Renewing
 pub mod Steps
 pub mod History

@@ -9,7 +9,7 @@ mod link_threads;
 pub mod shared_book;
 
 pub use connection_turns::{Begun, Connections, Nobody, Onlooker, serve_before, serve_connection};
-pub use event_book::{Answer, Asks, EventBook, Turn, What};
+pub use event_book::{Answer, Asks, EventBook, Lasting, Turn, What};
 pub use link_serving::{
     ConnEnd, Ended, Roll, Service, SharedClock, entered, push_lines, serve_briefly,
 };

@@ -3,7 +3,7 @@ use base_outside::{Failed, Link, MemClock, MemLink, News, SentName, Standing};
 use conn_core::{Progress, Reply, Serve, ServeError};
 use rand_chacha::ChaCha20Rng;
 use rand_core::SeedableRng;
-use serve_turns::{ConnEnd, Connections, Ended, EventBook, Service, SharedBook};
+use serve_turns::{ConnEnd, Connections, Ended, EventBook, Lasting, Service, SharedBook};
 use server_checks::ServerEvent;
 use spec_crypto::Keys;
 use std::alloc::Global;
@@ -121,6 +121,11 @@ impl Serve for Counting {
     fn standing(&self, _connection: u32) -> Standing {
         Standing::nothing()
     }
+}
+
+impl Lasting for Counting {
+    // It has no journal.
+    fn renew(&mut self) {}
 }
 
 /// A link in memory that keeps how often it heard news, whose logon that was, how often one was refused, and how it ended.

@@ -50,4 +50,5 @@ module _ {S : Type 0} (shows : S → Users → model.Server → Logons → List 
   pub message_step : (v w : View (EventBook S) Turn Answer) (now : ℕ) (a : Asks) (t : Answer) (place : ℕ)
       → Applied (EventSteps shows stopped faults) v (message_turn now a) t place w
       → (old : EventBook S) × (new : EventBook S) × AsksEvent shows stopped faults old now a t new
-  message_step v w now a t place applied = applied_step (EventSteps shows stopped faults) v w (message_turn now a) t place applied
+  message_step v w now a t place applied =
+      let step = applied_step (EventSteps shows stopped faults) v w (message_turn now a) t place applied in (step.2.0, step.1, step.2.2)

@@ -54,7 +54,7 @@ use Rattle.serve_turns.specs.declared.event_book.turn.Asks.{Asks}
 use Rattle.serve_turns.specs.declared.event_book.turn.Turn.{Turn}
 use Rattle.serve_turns.specs.declared.event_book.turn.What.{What}
 use Rattle.serve_turns.specs.declared.shared_book.view.Entry.{Entry}
-use Rattle.serve_turns.specs.event_book.History.{Course, GivenIf, Meets, MeetsAt, MeetsMessage, MeetsOff, MeetsOn, Off, On, Placed, Stand}
+use Rattle.serve_turns.specs.event_book.History.{Course, GivenIf, MeetsAt, MeetsFrom, MeetsMessage, MeetsOff, MeetsOn, Off, On, Placed, Stand}
 use Rattle.serve_turns.specs.event_book.History.{Standing, StandsAt}
 
 -- ---- turns for messages, and what they were given, one behind the other
@@ -73,14 +73,14 @@ for_behind k f [] ds (x ∷ xs) ys p q = absurd p
 for_behind k f (c ∷ cs) ds [] ys p q = absurd p
 for_behind k f (c ∷ cs) ds (x ∷ xs) ys p q = (p.0, for_behind k f cs ds xs ys p.1 q)
 
--- ---- what a turn's entry meets, by what its place found
+-- ---- what a turn's entry meets, by what its event found
 
 abbrev MeetsSo : ServerSettings → Standing → ℕ → Asks → Answer → Option Given → Standing → Type 0
 MeetsSo z (On old) now a t g to = MeetsMessage z old now a t g to
 MeetsSo z (Off count) now a t g to = MeetsOff count t g to
 
 message_meets : (z : ServerSettings) (from to : Standing) (e : Entry Turn Answer) (g : Option Given) (now : ℕ) (a : Asks)
-    → e.event ≡ message_turn now a → Meets z from e g to → MeetsSo z from now a e.reply g to
+    → e.event ≡ message_turn now a → MeetsFrom z from e g to → MeetsSo z from now a e.reply g to
 message_meets z (On old) to e g now a is m = subst (λ (v : Turn). MeetsOn z old v.now v.what e.reply g to) is m
 message_meets z (Off count) to e g now a is m = m
 
@@ -108,7 +108,7 @@ record MeantOff (count : ℕ) (given : EventAnswer) (g : Option Given) (to : Sta
 
 meant_on : (z : ServerSettings) (h : Course) (k now : ℕ) (f : ServerEnd) (x : CheckedFrame) (at : ℕ) (n : Checked) (t : hearing.Checked)
     (given : EventAnswer) (turn : Placed) (old : Stand) (q : model.Message) → (u : Turned z h k now f x at t given turn)
-    → slice_get x.messages.items at ≡ Some n → ShowsGoing x.bytes.items n t → h.found turn.0 ≡ On old
+    → slice_get x.messages.items at ≡ Some n → ShowsGoing x.bytes.items n t → u.meets.0 ≡ On old
     → heard_message z old.logons k f t ≡ Some q
     → MeantOn z now old u.asks.told n x.bytes.items q given (h.given turn.0) (h.found (turn.0 + 1))
 meant_on z h k now f x at n t given turn old q u here shows found heard =
@@ -117,7 +117,7 @@ meant_on z h k now f x at n t given turn old q u here shows found heard =
     let told = u.asks.told in
     let m : MeetsMessage z old now u.asks turn.1.reply g to =
     subst (λ (s : Standing). MeetsSo z s now u.asks turn.1.reply g to) found
-    (message_meets z (h.found turn.0) to turn.1 g now u.asks u.is_turn u.meets) in
+    (message_meets z u.meets.0 to turn.1 g now u.asks u.is_turn u.meets.2) in
     let there : slice_get u.asks.frame.messages.items u.asks.at ≡ slice_get x.messages.items at =
     λ i. slice_get (u.frame i).messages.items (u.place i) in
     let same : m.message ≡ n = one_message m.message n (sym m.here ∙ (there ∙ here)) in
@@ -141,12 +141,12 @@ meant_on z h k now f x at n t given turn old q u here shows found heard =
     }
 
 meant_off : (z : ServerSettings) (h : Course) (k now : ℕ) (f : ServerEnd) (x : CheckedFrame) (at : ℕ) (t : hearing.Checked)
-    (given : EventAnswer) (turn : Placed) (count : ℕ) → Turned z h k now f x at t given turn → h.found turn.0 ≡ Off count
+    (given : EventAnswer) (turn : Placed) (count : ℕ) (u : Turned z h k now f x at t given turn) → u.meets.0 ≡ Off count
     → MeantOff count given (h.given turn.0) (h.found (turn.0 + 1))
 meant_off z h k now f x at t given turn count u found =
     let m : MeetsOff count turn.1.reply (h.given turn.0) (h.found (turn.0 + 1)) =
     subst (λ (s : Standing). MeetsSo z s now u.asks turn.1.reply (h.given turn.0) (h.found (turn.0 + 1))) found
-    (message_meets z (h.found turn.0) (h.found (turn.0 + 1)) turn.1 (h.given turn.0) now u.asks u.is_turn u.meets) in
+    (message_meets z u.meets.0 (h.found (turn.0 + 1)) turn.1 (h.given turn.0) now u.asks u.is_turn u.meets.2) in
     record { reply = sym u.is ∙ m.reply; given_is = m.given }
 
 -- it is a turn for this message
@@ -318,16 +318,16 @@ module _ (z : ServerSettings) (h : Course) (k now : ℕ) (fresh : List ℕ) (ser
           ∙ ap (λ (q : ℕ). setups_behind (hearing.is_setup t.header) q) s.counted)
 
       -- it was answered, or found no memory, at whatever state it found
-      turn_on : (after : ℕ) (given : EventAnswer) (turn : Placed) (e : Dealt) (u : Carry) (st : Stand) → h.found turn.0 ≡ On st
-          → Turned z h k now f x at t given turn → is_past_setups setups n.header ≡ false → Counts setups n after
+      turn_on : (after : ℕ) (given : EventAnswer) (turn : Placed) (e : Dealt) (u : Carry) (st : Stand)
+          (w : Turned z h k now f x at t given turn) → w.meets.0 ≡ On st → is_past_setups setups n.header ≡ false → Counts setups n after
           → stop_in given ≡ None → lost_in given ≡ false → e.replies.items.items ≡ d.replies.items.items ++ event_listed given
           → e.took ≡ (d.took || takes n given) → RelatedCarries y t given u
           → MessagesSoFar z h k now fresh server logons f before cs (at + 1) (former ++ turn ∷ []) after x e (Some (carry_of u))
-      turn_on after None turn e u st found w early counts stop kept items took carries =
+      turn_on after None turn e u st w found early counts stop kept items took carries =
           let q = heard_so st.logons in
           let m = meant_on z h k now f x at n t None turn st q.0 w p.here p.shows found q.1 in
           absurd (true_false (sym q.2 ∙ m.gives.0))
-      turn_on after (Some (Ok r)) turn e u st found w early counts stop kept items took carries =
+      turn_on after (Some (Ok r)) turn e u st w found early counts stop kept items took carries =
           let own = heard_so s.d.going.logons in
           let q = heard_so st.logons in
           let m = meant_on z h k now f x at n t (Some (Ok r)) turn st q.0 w p.here p.shows found q.1 in
@@ -350,7 +350,7 @@ module _ (z : ServerSettings) (h : Course) (k now : ℕ) (fresh : List ℕ) (ser
           (shared_answered (λ a b l. ⊤) z k now fresh server logons st.records f First cs at x n c t own.0 q.0 r random d e y u s.more
           s.d st.server st.logons p goes none own.1 own.2 (past_as false early) q.1 q.2 items took carries gives far s.begins)
           (m.given_is, tt) (turn_for z h k now f x at n t (Some (Ok r)) turn w p.here p.shows) (behind_is after early counts)
-      turn_on after (Some (Err errors.Memory)) turn e u st found w early counts stop kept items took carries =
+      turn_on after (Some (Err errors.Memory)) turn e u st w found early counts stop kept items took carries =
           let own = heard_so s.d.going.logons in
           let q = heard_so st.logons in
           let m = meant_on z h k now f x at n t (Some (Err errors.Memory)) turn st q.0 w p.here p.shows found q.1 in
@@ -364,27 +364,27 @@ module _ (z : ServerSettings) (h : Course) (k now : ℕ) (fresh : List ℕ) (ser
           (shared_lacks z k now fresh server logons f First cs at x n c t own.0 d e y u s.more s.d left p goes none own.1 own.2
           (past_as false early) items took carries far s.begins)
           (m.given_is.2, tt) (turn_for z h k now f x at n t (Some (Err errors.Memory)) turn w p.here p.shows) (behind_is after early counts)
-      turn_on after (Some (Err (errors.Unanswered acted))) turn e u st found w early counts stop kept items took carries =
+      turn_on after (Some (Err (errors.Unanswered acted))) turn e u st w found early counts stop kept items took carries =
           absurd (true_false kept)
-      turn_on after (Some (Err (errors.Stopped count))) turn e u st found w early counts stop kept items took carries =
+      turn_on after (Some (Err (errors.Stopped count))) turn e u st w found early counts stop kept items took carries =
           absurd (no_stop count (sym stop))
 
       -- behind a failure of the disk nothing goes on
-      turn_off : (given : EventAnswer) (turn : Placed) (count : ℕ) → h.found turn.0 ≡ Off count → Turned z h k now f x at t given turn
+      turn_off : (given : EventAnswer) (turn : Placed) (count : ℕ) (w : Turned z h k now f x at t given turn) → w.meets.0 ≡ Off count
           → stop_in given ≡ None → ⊥
-      turn_off given turn count found w stop =
+      turn_off given turn count w found stop =
           let m = meant_off z h k now f x at t given turn count w found in
           no_stop count (sym stop ∙ ap (λ (g : EventAnswer). stop_in g) m.reply)
 
-      turn_at : (after : ℕ) (given : EventAnswer) (turn : Placed) (e : Dealt) (u : Carry) (place : Standing) → h.found turn.0 ≡ place
-          → Turned z h k now f x at t given turn → is_past_setups setups n.header ≡ false → Counts setups n after
+      turn_at : (after : ℕ) (given : EventAnswer) (turn : Placed) (e : Dealt) (u : Carry) (place : Standing)
+          (w : Turned z h k now f x at t given turn) → w.meets.0 ≡ place → is_past_setups setups n.header ≡ false → Counts setups n after
           → stop_in given ≡ None → lost_in given ≡ false → e.replies.items.items ≡ d.replies.items.items ++ event_listed given
           → e.took ≡ (d.took || takes n given) → RelatedCarries y t given u
           → MessagesSoFar z h k now fresh server logons f before cs (at + 1) (former ++ turn ∷ []) after x e (Some (carry_of u))
-      turn_at after given turn e u (On st) found w early counts stop kept items took carries =
-          turn_on after given turn e u st found w early counts stop kept items took carries
-      turn_at after given turn e u (Off count) found w early counts stop kept items took carries =
-          absurd (turn_off given turn count found w stop)
+      turn_at after given turn e u (On st) w found early counts stop kept items took carries =
+          turn_on after given turn e u st w found early counts stop kept items took carries
+      turn_at after given turn e u (Off count) w found early counts stop kept items took carries =
+          absurd (turn_off given turn count w found stop)
 
       pub message_answered : (after : ℕ) (given : EventAnswer) (turn : Placed) (e : Dealt) (u : Carry)
           → Turned z h k now f x at t given turn → is_past_setups setups n.header ≡ false → Counts setups n after
@@ -392,24 +392,24 @@ module _ (z : ServerSettings) (h : Course) (k now : ℕ) (fresh : List ℕ) (ser
           → e.took ≡ (d.took || takes n given) → RelatedCarries y t given u
           → MessagesSoFar z h k now fresh server logons f before cs (at + 1) (former ++ turn ∷ []) after x e (Some (carry_of u))
       message_answered after given turn e u w early counts stop kept items took carries =
-          turn_at after given turn e u (h.found turn.0) refl w early counts stop kept items took carries
+          turn_at after given turn e u w.meets.0 w refl early counts stop kept items took carries
 
       -- the server stopped
-      stop_on : (given : EventAnswer) (turn : Placed) (count : ℕ) (st : Stand) → h.found turn.0 ≡ On st
-          → Turned z h k now f x at t given turn → stop_in given ≡ Some count → h.given turn.0 ≡ Some (Stops count)
-      stop_on None turn count st found w stop = absurd (no_stop count stop)
-      stop_on (Some (Ok r)) turn count st found w stop = absurd (no_stop count stop)
-      stop_on (Some (Err errors.Memory)) turn count st found w stop = absurd (no_stop count stop)
-      stop_on (Some (Err (errors.Unanswered acted))) turn count st found w stop = absurd (no_stop count stop)
-      stop_on (Some (Err (errors.Stopped j))) turn count st found w stop =
+      stop_on : (given : EventAnswer) (turn : Placed) (count : ℕ) (st : Stand) (w : Turned z h k now f x at t given turn)
+          → w.meets.0 ≡ On st → stop_in given ≡ Some count → h.given turn.0 ≡ Some (Stops count)
+      stop_on None turn count st w found stop = absurd (no_stop count stop)
+      stop_on (Some (Ok r)) turn count st w found stop = absurd (no_stop count stop)
+      stop_on (Some (Err errors.Memory)) turn count st w found stop = absurd (no_stop count stop)
+      stop_on (Some (Err (errors.Unanswered acted))) turn count st w found stop = absurd (no_stop count stop)
+      stop_on (Some (Err (errors.Stopped j))) turn count st w found stop =
           let q = heard_so st.logons in
           let m = meant_on z h k now f x at n t (Some (Err (errors.Stopped j))) turn st q.0 w p.here p.shows found q.1 in
           m.given_is.1 ∙ ap (λ (o : Option ℕ). given_stops o) stop
 
-      stop_at : (given : EventAnswer) (turn : Placed) (count : ℕ) (place : Standing) → h.found turn.0 ≡ place
-          → Turned z h k now f x at t given turn → stop_in given ≡ Some count → h.given turn.0 ≡ Some (Stops count)
-      stop_at given turn count (On st) found w stop = stop_on given turn count st found w stop
-      stop_at given turn count (Off j) found w stop =
+      stop_at : (given : EventAnswer) (turn : Placed) (count : ℕ) (place : Standing) (w : Turned z h k now f x at t given turn)
+          → w.meets.0 ≡ place → stop_in given ≡ Some count → h.given turn.0 ≡ Some (Stops count)
+      stop_at given turn count (On st) w found stop = stop_on given turn count st w found stop
+      stop_at given turn count (Off j) w found stop =
           let m = meant_off z h k now f x at t given turn j w found in
           m.given_is ∙ ap (λ (o : Option ℕ). given_stops o) (sym (ap (λ (g : EventAnswer). stop_in g) m.reply) ∙ stop)
 
@@ -424,7 +424,7 @@ module _ (z : ServerSettings) (h : Course) (k now : ℕ) (fresh : List ℕ) (ser
           → (v : gives.Dealt) × DealtBy z h k now fresh server logons f before cs (former ++ turn ∷ []) v × (v.stopped ≡ Some count)
       message_stops given turn count w early stop =
           let own = heard_so s.d.going.logons in
-          let halts : h.given turn.0 ≡ Some (Stops count) = stop_at given turn count (h.found turn.0) refl w stop in
+          let halts : h.given turn.0 ≡ Some (Stops count) = stop_at given turn count w.meets.0 w refl stop in
           let end = shared_stops z k now fresh server logons f First cs at x n c t own.0 count d y s.more s.d p goes own.1 own.2
           (past_as false early) far s.begins in (
             record s.d { setups = setups_behind (hearing.is_setup t.header) s.d.setups; stopped = Some count; left = [] },

@@ -27,7 +27,8 @@ use Rattle.serve_turns.specs.declared.event_book.turn.What.{What}
 use Rattle.serve_turns.specs.declared.event_book.turn.What.TheVariants.{Accept, End, Message}
 use Rattle.serve_turns.specs.declared.shared_book.view.Entry.{Entry}
 use Rattle.serve_turns.specs.connection_turns.Ending.{refusal_of}
-use Rattle.serve_turns.specs.event_book.History.{GivenIf, Meets, MeetsOn, MeetsOther, Off, On, Stand, Standing, StandsAt}
+use Rattle.serve_turns.specs.event_book.History.{GivenIf, Meets, MeetsFrom, MeetsOn, MeetsOther, Off, On, Stand, Standing}
+use Rattle.serve_turns.specs.event_book.History.{StandsAt}
 
 -- it is no stop
 abbrev pub Continues : Given → Type 0
@@ -181,10 +182,14 @@ module _ (z : ServerSettings) (old : Stand) (now : ℕ) (to : Standing) (g : Opt
       (told_message z old.logons a.told meets.message (message_in a.frame.bytes.items meets.message)) t.reply meets.gives meets.given
 
 -- behind an event of which something else than a stop was given
+goes_from : (z : ServerSettings) (mid to : Standing) (e : Entry event.Turn Answer) (g : Option Given) (y : Given) → MeetsFrom z mid e g to
+    → g ≡ Some y → Continues y → (s : Stand) × (to ≡ On s)
+goes_from z (On old) to e g y meets is goes = by_what z old e.event.now to g y is goes e.event.what e.reply meets
+goes_from z (Off count) to e g y meets is goes = absurd (not_stop g y count is meets.given goes)
+
 pub goes_behind : (z : ServerSettings) (found to : Standing) (e : Entry event.Turn Answer) (g : Option Given) (y : Given) → Meets z found e g to
     → g ≡ Some y → Continues y → (s : Stand) × (to ≡ On s)
-goes_behind z (On old) to e g y meets is goes = by_what z old e.event.now to g y is goes e.event.what e.reply meets
-goes_behind z (Off count) to e g y meets is goes = absurd (not_stop g y count is meets.given goes)
+goes_behind z found to e g y meets is goes = goes_from z meets.0 to e g y meets.2 is goes
 
 -- behind one that took a connection in
 taken_reply : (z : ServerSettings) (old : Stand) (now k : ℕ) (to : Standing) (reply : Result Reply ServeError)
@@ -203,7 +208,11 @@ taken_on z old k now what t g to is none meets =
 stop_refuses : (t : EventAnswer) (count : ℕ) → t ≡ Some (Err (errors.Stopped count)) → refusal_of t ≡ None → ⊥
 stop_refuses t count is none = absurd (let h = sym (ap refusal_of is) ∙ none in cc h)
 
+taken_from : (z : ServerSettings) (mid to : Standing) (e : Entry event.Turn Answer) (g : Option Given) (k : ℕ) → MeetsFrom z mid e g to
+    → e.event.what ≡ Accept k → refusal_of e.reply.reply ≡ None → (s : Stand) × (to ≡ On s)
+taken_from z (On old) to e g k meets is none = taken_on z old k e.event.now e.event.what e.reply g to is none meets
+taken_from z (Off count) to e g k meets is none = absurd (stop_refuses e.reply.reply count meets.reply none)
+
 pub taken_behind : (z : ServerSettings) (found to : Standing) (e : Entry event.Turn Answer) (g : Option Given) (k : ℕ) → Meets z found e g to
     → e.event.what ≡ Accept k → refusal_of e.reply.reply ≡ None → (s : Stand) × (to ≡ On s)
-taken_behind z (On old) to e g k meets is none = taken_on z old k e.event.now e.event.what e.reply g to is none meets
-taken_behind z (Off count) to e g k meets is none = absurd (stop_refuses e.reply.reply count meets.reply none)
+taken_behind z found to e g k meets is none = taken_from z meets.0 to e g k meets.2 is none

@@ -1,5 +1,6 @@
 -- A book's history runs in the model.
-use Rattle.std.proofs.Common.{◌≡◌, ◌≤◌, ℕ, zero, suc, List, [], ◌∷◌, length, take, Option, Some, refl, sym, ap, subst, ◌∙◌, arith}
+use Rattle.std.proofs.Common.{◌≡◌, ◌≤◌, ℕ, zero, suc, List, [], ◌∷◌, length, take, Option, Some, inl, inr}
+use Rattle.std.proofs.Common.{refl, sym, ap, subst, ◌∙◌, arith}
 use Rattle.spec_crypto.specs.tokens.Tokens.{Users}
 use Rattle.spec_exchange.specs.State as model
 use Rattle.spec_world.specs.Ends.{Logons}
@@ -11,8 +12,9 @@ use Rattle.serve_turns.specs.declared.event_book.turn.Turn.{Turn}
 use Rattle.serve_turns.specs.declared.event_book.turn.What.{What}
 use Rattle.serve_turns.specs.declared.event_book.turn.What.TheVariants.{Accept, Message, End}
 use Rattle.serve_turns.specs.declared.shared_book.view.Entry.{Entry}
-use Rattle.serve_turns.specs.event_book.History.{Meets, MeetsOn, Off, On, Runs, Stand, Standing}
-use Rattle.serve_turns.specs.event_book.Steps.{EventSteps, EventStepsFor, ShowsStanding, StaysHalted}
+use Rattle.serve_turns.specs.event_book.History.{IsRenewed, Meets, MeetsFrom, MeetsOn, Off, On, Runs, Stand, Standing}
+use Rattle.serve_turns.specs.event_book.Renewing.{RenewedTo}
+use Rattle.serve_turns.specs.event_book.Steps.{EventSteps, EventStepsFor, GoesOn, RenewsBook, ShowsStanding, StaysHalted}
 use Rattle.serve_turns.specs.shared_book.Histories.{Replays}
 use Rattle.serve_turns.proofs.event_book.Courses.{found_by}
 use Rattle.serve_turns.proofs.event_book.Settling.{Settles, asks_settles, lost_settles, made_settles}
@@ -34,17 +36,66 @@ module _ {S : Type 0} (shows : S → Users → model.Server → Logons → List 
   halted_by b c e t (Message a) steps = steps.answers.halted
   halted_by b c e t (End k) steps = steps.halted
 
-  pub event_settles : (from : Standing) (b c : EventBook S) (e : Entry Turn Answer) → EventSteps shows stopped faults b e.event e.reply c
+  -- what comes in front of the event
+  record Prepares (from : Standing) (m : EventBook S) : Type 0 where
+    mid : Standing
+    renewed : IsRenewed from mid
+    stands : ShowsStanding shows stopped faults z.users m mid
+
+  renewed_by : (old : Stand) (b m : EventBook S) → RenewsBook shows stopped faults b m
+      → GoesOn shows stopped faults b z.users old.server old.logons old.records
+      → RenewedTo (shows m.server z.users) (stopped m.server) old.server old.logons old.records → Prepares (On old) m
+  renewed_by old b m renews goes (inl so) = record { mid = On old; renewed = inl refl; stands = (so.1, so.0) }
+  renewed_by old b m renews goes (inr (inl so)) =
+      record {
+        mid = On (record { server = record old.server { journal = so.1 }; logons = old.logons; records = [] });
+        renewed = inr (so.1, refl);
+        stands = (so.2, so.0);
+      }
+  renewed_by old b m renews goes (inr (inr stop)) =
+      record {
+        mid = Off stop.0;
+        renewed = tt;
+        stands = (stop.1, (renews.fault z.users old.server old.logons old.records goes stop.0 stop.1).1);
+      }
+
+  prepared : (from : Standing) (b m : EventBook S) → RenewsBook shows stopped faults b m
+      → ShowsStanding shows stopped faults z.users b from → Prepares from m
+  prepared (On old) b m renews stands =
+      renewed_by old b m renews stands (renews.renewed z.users old.server old.logons old.records stands)
+  prepared (Off count) b m renews stands =
+      let same = renews.stays count stands.0 in
+      record {
+        mid = Off count;
+        renewed = refl;
+        stands = (ap stopped same ∙ stands.0, stands.1 ∙ sym (ap faults same));
+      }
+
+  -- the event itself
+  settles_from : (from : Standing) (b c : EventBook S) (e : Entry Turn Answer) → EventStepsFor shows stopped faults e.event.what b e.event e.reply c
       → ShowsStanding shows stopped faults z.users b from
-      → Settles (ShowsStanding shows stopped faults z.users c) (λ to g. Meets z from e g to)
-  event_settles (On old) b c e steps stands = on_by old b c e.event e.reply e.event.what steps stands
-  event_settles (Off count) b c e steps stands =
+      → Settles (ShowsStanding shows stopped faults z.users c) (λ to g. MeetsFrom z from e g to)
+  settles_from (On old) b c e steps stands = on_by old b c e.event e.reply e.event.what steps stands
+  settles_from (Off count) b c e steps stands =
       let stays = halted_by b c e.event e.reply e.event.what steps count stands.0 in
       record {
         to = Off count;
         given = Some (Stops count);
         told = record { reply = stays.0; given = refl; stays = refl };
         stands = (ap stopped stays.1 ∙ stands.0, stands.1 ∙ sym (ap faults stays.1));
+      }
+
+  pub event_settles : (from : Standing) (b c : EventBook S) (e : Entry Turn Answer) → EventSteps shows stopped faults b e.event e.reply c
+      → ShowsStanding shows stopped faults z.users b from
+      → Settles (ShowsStanding shows stopped faults z.users c) (λ to g. Meets z from e g to)
+  event_settles from b c e steps stands =
+      let first = prepared from b steps.0 steps.1 stands in
+      let event = settles_from first.mid steps.0 c e steps.2 first.stands in
+      record {
+        to = event.to;
+        given = event.given;
+        told = (first.mid, first.renewed, event.told);
+        stands = event.stands;
       }
 
   -- From a book that stands somewhere on: the history's course, and at each place the book that stands for what that place found.

@@ -1,5 +1,5 @@
 -- A server's history in the model: what each event found, and what it came to. No book is looked at.
-use Rattle.std.specs.Prelude.{◌≡◌, ℕ, ◌+◌, List, [], ◌∷◌, length, Option, Some, None, Result, Ok, Err, slice_get, ⊤}
+use Rattle.std.specs.Prelude.{◌≡◌, ℕ, ◌+◌, List, [], ◌∷◌, length, Option, Some, None, Result, Ok, Err, slice_get, ⊤, ◌⊎◌}
 use Rattle.spec_exchange.specs.Network.{answer_to}
 use Rattle.spec_exchange.specs.State as model
 use Rattle.spec_world.specs.Ends.{Logons}
@@ -89,9 +89,23 @@ pub record MeetsOff (count : ℕ) (t : Answer) (g : Option Given) (to : Standing
   pub given : g ≡ Some (Stops count)
   pub stays : to ≡ Off count
 
+-- what an event meets that finds the server so
+abbrev pub MeetsFrom : ServerSettings → Standing → Entry Turn Answer → Option Given → Standing → Type 0
+MeetsFrom z (On old) e g to = MeetsOn z old e.event.now e.event.what e.reply g to
+MeetsFrom z (Off count) e g to = MeetsOff count e.reply g to
+
+-- In front of an event the journal may be written anew: then it takes so many bytes, no records stand in it behind what it begins with, and
+-- all else is as it was. The disk may fail in that too.
+abbrev pub IsRenewed : Standing → Standing → Type 0
+IsRenewed (On a) (On b) = (b ≡ a)
+    ⊎ ((n : ℕ) × (b ≡ record { server = record a.server { journal = n }; logons = a.logons; records = [] }))
+IsRenewed (On a) (Off count) = ⊤
+IsRenewed (Off c) (On b) = ⊥
+IsRenewed (Off c) (Off d) = c ≡ d
+
+-- a turn: what its place found, renewed or not, and the event
 abbrev pub Meets : ServerSettings → Standing → Entry Turn Answer → Option Given → Standing → Type 0
-Meets z (On old) e g to = MeetsOn z old e.event.now e.event.what e.reply g to
-Meets z (Off count) e g to = MeetsOff count e.reply g to
+Meets z from e g to = (mid : Standing) × IsRenewed from mid × MeetsFrom z mid e g to
 
 -- ---- the whole history: what was given at each place, and where it leads
 

@@ -16,6 +16,7 @@ use Rattle.conn_core.specs.declared.served.error.ServeError.{ServeError}
 use Rattle.conn_core.specs.declared.served.error.ServeError.TheVariants as errors
 use Rattle.conn_core.specs.declared.served.serve.Reply.{Reply}
 use Rattle.serve_turns.specs.event_book.History.{Standing, On, Off}
+use Rattle.serve_turns.specs.event_book.Renewing.{RenewedTo}
 use Rattle.serve_turns.specs.declared.event_book.book.EventBook.{EventBook}
 use Rattle.serve_turns.specs.declared.event_book.turn.Answer.{Answer}
 use Rattle.serve_turns.specs.declared.event_book.turn.Asks.{Asks}
@@ -70,9 +71,20 @@ module _ {S : Type 0} (shows : S → Users → model.Server → Logons → List 
   EventStepsFor (Message a) old e t new = AsksEvent old e.now a t new
   EventStepsFor (End k) old e t new = HearsEvent old e.now (events.End k) t new
 
+  -- What comes in front of the event: a server that goes on may renew its journal. Where it stops in that, that is at its disk's count of
+  -- faults, which rose, and else that count stays; one that had stopped stays as it was, its disk too.
+  pub record RenewsBook (old mid : EventBook S) : Type 0 where
+    pub renewed : (users : Users) (s : model.Server) (L : Logons) (records : List model.Record) → GoesOn old users s L records
+        → RenewedTo (shows mid.server users) (stopped mid.server) s L records
+    pub fault : (users : Users) (s : model.Server) (L : Logons) (records : List model.Record) → GoesOn old users s L records → (count : ℕ)
+        → stopped mid.server ≡ Some count → StopsAtFault (faults old.server) (faults mid.server) count
+    pub calm : (users : Users) (s : model.Server) (L : Logons) (records : List model.Record) → GoesOn old users s L records
+        → stopped mid.server ≡ None → faults mid.server ≡ faults old.server
+    pub stays : (count : ℕ) → stopped old.server ≡ Some count → mid.server ≡ old.server
+
   -- a turn of a connection, by what it is for
   abbrev pub EventSteps : EventBook S → Turn → Answer → EventBook S → Type 0
-  EventSteps old e t new = EventStepsFor e.what old e t new
+  EventSteps old e t new = (mid : EventBook S) × RenewsBook old mid × EventStepsFor e.what mid e t new
 
   -- what it is at a place of its history; where it has stopped, that is at its disk's count of faults
   abbrev pub ShowsStanding : Users → EventBook S → Standing → Type 0

@@ -11,11 +11,11 @@ use crate::connection_turns::frames::read_frames;
 use crate::connection_turns::onlooking::{Begun, Nobody, Onlooker};
 use crate::connection_turns::state::ConnectionState;
 use crate::connection_turns::turning::hear_in_turn;
-use crate::event_book::{EventBook, What};
+use crate::event_book::{EventBook, Lasting, What};
 use crate::link_serving::{Ended, Service, word_of};
 use crate::shared_book::{BookSeat, SharedBook};
 use base_outside::{Clock, Link, News, Standing};
-use conn_core::{Conn, ConnEnd, Reply, Serve, ServeError};
+use conn_core::{Conn, ConnEnd, Reply, ServeError};
 use rand_core::Rng;
 use std::alloc::{AllocError, Global};
 use std::snapshot::Snapshot;
@@ -84,7 +84,7 @@ pub fn serve_connection<W, L, S, C, R>(
 where
     W: Wait,
     L: Link,
-    S: Serve,
+    S: Lasting,
     C: Clock,
     R: Rng,
     requires own { IsSeatOf book.now seat.old }
@@ -109,7 +109,7 @@ pub fn serve_before<W, L, S, C, R, V>(
 where
     W: Wait,
     L: Link,
-    S: Serve,
+    S: Lasting,
     C: Clock,
     R: Rng,
     V: Onlooker<S>,
@@ -144,7 +144,7 @@ fn let_go<W, S, C, R>(
 ) -> Ended
 where
     W: Wait,
-    S: Serve,
+    S: Lasting,
     C: Clock,
     R: Rng,
     requires own { IsSeatOf book.now seat.old }
@@ -196,7 +196,7 @@ fn serve_frames<W, L, S, C, R, V>(
 where
     W: Wait,
     L: Link,
-    S: Serve,
+    S: Lasting,
     C: Clock,
     R: Rng,
     V: Onlooker<S>,
@@ -231,7 +231,7 @@ fn serve_taken<W, L, S, C, R, V>(
 where
     W: Wait,
     L: Link,
-    S: Serve,
+    S: Lasting,
     C: Clock,
     R: Rng,
     V: Onlooker<S>,
@@ -250,7 +250,7 @@ where
 
 impl<S, C, R> Service<EventBook<S>> for Connections<C, R>
 where
-    S: Serve,
+    S: Lasting,
     C: Clock + Send,
     R: Rng + Send,
 {

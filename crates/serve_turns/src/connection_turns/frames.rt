@@ -21,10 +21,10 @@ use crate::connection_turns::news::news_of;
 use crate::connection_turns::onlooking::{Begun, Onlooker, look_on};
 use crate::connection_turns::state::ConnectionState;
 use crate::connection_turns::writing::write_all;
-use crate::event_book::EventBook;
+use crate::event_book::{EventBook, Lasting};
 use crate::shared_book::{BookSeat, SharedBook};
 use base_outside::{Clock, Link, News, Standing};
-use conn_core::{CheckedFrame, ConnEnd, Dealt, Moment, Serve, answer, check_own, dealt_for};
+use conn_core::{CheckedFrame, ConnEnd, Dealt, Moment, answer, check_own, dealt_for};
 use rand_core::Rng;
 use std::alloc::{AllocError, Global};
 use std::sync::Wait;
@@ -89,7 +89,7 @@ fn take_frame<W, S, C, R>(
 ) -> Result<Vec<u8>, ConnEnd>
 where
     W: Wait,
-    S: Serve,
+    S: Lasting,
     C: Clock,
     R: Rng,
     requires own { IsSeatOf book.now seat.old }
@@ -131,7 +131,7 @@ fn tell<L: Link>(link: &mut L, standing: &Standing, news: &Option<News>)
 
 /// Puts the answer to a frame, of which who looks on was told, onto the link, which hears first what the frame brought. Where the link
 /// fails, the connection ends.
-fn put_answer<L: Link, S: Serve, V: Onlooker<S>>(
+fn put_answer<L: Link, S: Lasting, V: Onlooker<S>>(
     _onlooker: &V,
     link: &mut L,
     standing: &Standing,
@@ -193,7 +193,7 @@ fn take_frames<W, L, S, C, R, V>(
 where
     W: Wait,
     L: Link,
-    S: Serve,
+    S: Lasting,
     C: Clock,
     R: Rng,
     V: Onlooker<S>,
@@ -239,7 +239,7 @@ pub(crate) fn read_frames<W, L, S, C, R, V>(
 where
     W: Wait,
     L: Link,
-    S: Serve,
+    S: Lasting,
     C: Clock,
     R: Rng,
     V: Onlooker<S>,

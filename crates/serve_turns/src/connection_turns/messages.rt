@@ -12,11 +12,11 @@ ghost use Rattle.serve_turns.specs.connection_turns.Messages.{DealsFor, TakesMes
 
 use crate::connection_turns::state::ConnectionState;
 use crate::connection_turns::turning::{Asked, ask_in_turn};
-use crate::event_book::{Asks, EventBook};
+use crate::event_book::{Asks, EventBook, Lasting};
 use crate::shared_book::{BookSeat, SharedBook};
 use conn_core::{
-    Carry, Checked, CheckedFrame, ConnEnd, Dealt, Moment, Reply, Serve, ServeError, Told, goes,
-    hand_on, has_event, refuse, told_of,
+    Carry, Checked, CheckedFrame, ConnEnd, Dealt, Moment, Reply, ServeError, Told, goes, hand_on,
+    has_event, refuse, told_of,
 };
 use std::alloc::Global;
 use std::mem;
@@ -80,7 +80,7 @@ fn answer_in_turn<W, S>(
 ) -> Option<Result<Reply, ServeError>>
 where
     W: Wait,
-    S: Serve,
+    S: Lasting,
     requires own { IsSeatOf book.now seat.old }
     requires asks { is_asked asked.old at ≡ true }
     ensures same { IsSameSeat seat.old seat.new }
@@ -119,7 +119,7 @@ fn deal_in_turn<W, S>(
 ) -> Result<Carry, ConnEnd>
 where
     W: Wait,
-    S: Serve,
+    S: Lasting,
     requires own { IsSeatOf book.now seat.old }
     requires message { HasMessage asked.old at }
     requires denied { AreDenied asked.old }
@@ -156,7 +156,7 @@ fn take_message<W, S>(
 ) -> Result<Option<Carry>, ConnEnd>
 where
     W: Wait,
-    S: Serve,
+    S: Lasting,
     requires own { IsSeatOf book.now seat.old }
     requires order { AreInOrder asked.old }
     requires denied { AreDenied asked.old }
@@ -195,7 +195,7 @@ pub(crate) fn take_messages<W, S>(
 ) -> Result<(), ConnEnd>
 where
     W: Wait,
-    S: Serve,
+    S: Lasting,
     requires own { IsSeatOf book.now seat.old }
     requires order { AreInOrder asked.old }
     requires denied { AreDenied asked.old }

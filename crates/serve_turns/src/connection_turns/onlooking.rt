@@ -5,15 +5,14 @@ ghost use Rattle.serve_turns.specs.shared_book.Words.{view_of, IsSameSeat, IsSea
 ghost use Rattle.serve_turns.specs.connection_turns.Due.{IsAnswerDue};
 ghost use Rattle.serve_turns.specs.event_book.Steps.{EventSteps};
 
-use crate::event_book::EventBook;
+use crate::event_book::{EventBook, Lasting};
 use crate::shared_book::{BookSeat, SharedBook};
 use base_outside::Link;
-use conn_core::Serve;
 use std::snapshot::Snapshot;
 
 /// A connection as it began: the server's guid and its number, and what its seat knew and its link had passed then.
 #[derive(Drop)]
-pub struct Begun<S: Serve, L: Link> {
+pub struct Begun<S: Lasting, L: Link> {
     pub guid: [u8; 16],
     pub number: u32,
     pub seat: Snapshot<BookSeat<EventBook<S>>>,
@@ -23,7 +22,7 @@ pub struct Begun<S: Serve, L: Link> {
 /// What is told before each answer goes out. A contract behind a call says nothing of a call that doesn't end, and a server may be served
 /// for ever; but this call is made again and again, and what it requires is known each time: the history so far, what the connection has in
 /// it, and that the disk stands for the records of all events up to there.
-pub trait Onlooker<S: Serve> {
+pub trait Onlooker<S: Lasting> {
     /// That it was told of this answer. Without it no answer is put onto a link.
     ghost knows: { Self → List ℕ → Type 0 };
 
@@ -42,7 +41,7 @@ pub trait Onlooker<S: Serve> {
 /// Nobody looks on.
 pub struct Nobody;
 
-impl<S: Serve> Onlooker<S> for Nobody {
+impl<S: Lasting> Onlooker<S> for Nobody {
     ghost use Rattle.std.specs.Prelude.{⊤};
 
     ghost knows = { λ nobody answer. ⊤ };
@@ -57,7 +56,7 @@ impl<S: Serve> Onlooker<S> for Nobody {
 }
 
 /// Tells who looks on of an answer, before any of its bytes goes out.
-pub(crate) fn look_on<L: Link, S: Serve, V: Onlooker<S>>(
+pub(crate) fn look_on<L: Link, S: Lasting, V: Onlooker<S>>(
     onlooker: &V,
     book: &SharedBook<EventBook<S>>,
     begun: &Begun<S, L>,

@@ -3,10 +3,10 @@ ghost use Rattle.serve_turns.specs.shared_book.Words.{view_of, IsSameSeat, IsSea
 ghost use Rattle.serve_turns.specs.connection_turns.Turning.{AsksOnce, HearsOnce};
 
 use crate::connection_turns::connections::Connections;
-use crate::event_book::{Answer, Asks, EventBook, Turn, What};
+use crate::event_book::{Answer, Asks, EventBook, Lasting, Turn, What};
 use crate::shared_book::{BookSeat, SharedBook};
 use base_outside::{Clock, Standing};
-use conn_core::{CheckedFrame, Reply, Serve, ServeError};
+use conn_core::{CheckedFrame, Reply, ServeError};
 use rand_core::Rng;
 use std::sync::Wait;
 
@@ -20,7 +20,7 @@ pub(crate) struct Asked {
 }
 
 /// Gives the server one message in a turn of its own. Nothing of the connection is in that turn but what it tells of the message.
-pub(crate) fn ask_in_turn<W: Wait, S: Serve>(
+pub(crate) fn ask_in_turn<W: Wait, S: Lasting>(
     rt: &W,
     book: &SharedBook<EventBook<S>>,
     seat: &mut BookSeat<EventBook<S>>,
@@ -61,7 +61,7 @@ pub(crate) fn hear_in_turn<W, S, C, R>(
 ) -> Option<Result<Reply, ServeError>>
 where
     W: Wait,
-    S: Serve,
+    S: Lasting,
     C: Clock,
     R: Rng,
     requires own { IsSeatOf book.now seat.old }

@@ -1,6 +1,7 @@
 //! The server in its turns.
 ghost use Rattle.serve_turns.specs.event_book.Steps.{EventSteps};
 
+use crate::event_book::lasting::Lasting;
 use crate::event_book::turn::{Answer, Asks, Turn, What};
 use crate::shared_book::Book;
 use base_outside::Standing;
@@ -8,7 +9,7 @@ use conn_core::{CheckedFrame, Reply, Serve, ServeError, Told, ask};
 use server_checks::ServerEvent;
 use std::alloc::Global;
 
-/// A server whose connections take turns, one event each.
+/// A server whose connections take turns, one event each. In front of it the server may renew its journal.
 #[derive(Drop)]
 pub struct EventBook<S: Serve> {
     pub alloc: Global,
@@ -19,7 +20,7 @@ impl<S: Serve> EventBook<S> {
     ghost use Rattle.std.specs.Prelude.{◌≡◌, true};
     ghost use Rattle.conn_core.specs.served.Serving.{IsServerServed};
     ghost use Rattle.serve_turns.specs.event_book.Places.{is_asked};
-    ghost use Rattle.serve_turns.specs.event_book.Steps.{AnswersMessage, AsksEvent, HearsEvent};
+    ghost use Rattle.serve_turns.specs.event_book.Steps.{AnswersMessage, AsksEvent, EventStepsFor, HearsEvent};
 
     /// A connection is made or lost.
     fn hear(&mut self, now: u64, event: ServerEvent<'_>) -> Answer
@@ -64,9 +65,32 @@ impl<S: Serve> EventBook<S> {
             standing,
         }
     }
+
+    /// The event of a turn.
+    fn act(&mut self, event: Turn) -> Answer
+        ensures { EventStepsFor S.shows S.stopped S.faults event.what self.old event result self.new }
+    {
+        let Turn { now, what } = event;
+        match what {
+            What::Accept(connection) => self.hear(now, ServerEvent::Accept { connection }),
+            What::Message(asks) => self.take(now, asks),
+            What::End(connection) => self.hear(now, ServerEvent::End { connection }),
+        }
+    }
 }
 
-impl<S: Serve> Book for EventBook<S> {
+impl<S: Lasting> EventBook<S> {
+    ghost use Rattle.serve_turns.specs.event_book.Steps.{RenewsBook};
+
+    /// What comes in front of an event.
+    fn prepare(&mut self)
+        ensures { RenewsBook S.shows S.stopped S.faults self.old self.new }
+    {
+        self.server.renew();
+    }
+}
+
+impl<S: Lasting> Book for EventBook<S> {
     type Event = Turn;
 
     type Reply = Answer;
@@ -76,11 +100,7 @@ impl<S: Serve> Book for EventBook<S> {
     ghost steps = { λ old turn answer new. EventSteps S.shows S.stopped S.faults old turn answer new };
 
     fn step(&mut self, event: Turn) -> Answer {
-        let Turn { now, what } = event;
-        match what {
-            What::Accept(connection) => self.hear(now, ServerEvent::Accept { connection }),
-            What::Message(asks) => self.take(now, asks),
-            What::End(connection) => self.hear(now, ServerEvent::End { connection }),
-        }
+        self.prepare();
+        self.act(event)
     }
 }
