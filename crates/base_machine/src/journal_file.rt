@@ -6,7 +6,7 @@ use crate::log_lines::Stamped;
 use crate::shared::{Shared, Store, fill_of};
 use base_outside::{Disk, DiskStep, Failed, Renewal, TellsRoom};
 use libc::{EFBIG, ENOSPC};
-use log::{error, warn};
+use log::{error, info, warn};
 use std::alloc::Global;
 use std::fs::{File, Files, OpenOptions, TryLockError, remove_file, rename};
 use std::io;
@@ -383,12 +383,21 @@ impl<'a, W: Wait + Clock + Eprint, R: Files<File = File>> JournalFile<'a, W, R> 
         ensures { self.new.faults ≡ self.old.faults }
     {
         sync_folder(&self.files)?;
+        let before = length_of(self.present()?)?;
         if let Some(opened) = &mut self.opened {
             if let Some(draft) = self.draft.take() {
                 opened.journal = draft.file;
+                self.tell_anew(before, draft.end);
             }
         }
         Ok(())
+    }
+
+    // Prints that the journal was written anew. From then on it is told again when it fills.
+    fn tell_anew(&self, before: u64, behind: u64) {
+        let log = self.log();
+        info!(log; "{NAME} is written anew: {behind} bytes in the place of {before}");
+        self.shared.emptied(self.rt, fill_of(behind, MOST));
     }
 
     // That there is no room is no fault; what else keeps a step from being done is one.
