@@ -6,7 +6,7 @@ use crate::log_lines::Stamped;
 use crate::shared::{Shared, Store, fill_of};
 use base_outside::{Disk, DiskStep, Failed, Renewal, TellsRoom};
 use libc::{EFBIG, ENOSPC};
-use log::{error, warn};
+use log::{error, info, warn};
 use std::alloc::Global;
 use std::fs::{File, Files, OpenOptions, TryLockError, remove_file, rename};
 use std::io;
@@ -27,7 +27,7 @@ const DRAFT: &str = "smb311.draft";
 /// EDQUOT of Linux.
 const QUOTA: i32 = 122;
 
-/// More bytes than these are kept in a file of their own before they are cut from the journal.
+/// More bytes than these, but for zeros at the end, are kept in a file of their own before they are cut from the journal.
 const KEPT: u64 = 2_097_152;
 
 /// How many bytes are copied at a time.
@@ -159,6 +159,38 @@ fn keep_from<R: Files<File = File>>(
     sync_folder(files)
 }
 
+// Where a piece has told something: the place behind its last byte that isn't 0.
+fn told_of(piece: &[u8]) -> usize
+    ensures { result ≤ length piece.now }
+{
+    let mut told = 0;
+    for (at, byte) in piece.iter().enumerate() {
+        if *byte != 0 {
+            told = at + 1;
+        }
+    }
+    told
+}
+
+// How many bytes stand from a place of the journal on but for zeros at its end, which were taken ahead.
+fn told_behind(journal: &File, from: u64) -> io::Result<u64> {
+    let mut piece = [0; PIECE];
+    let mut at = from;
+    let mut end = from;
+    for _ in 0..u64::MAX {
+        let count = journal.read_at(&mut piece, at)?;
+        if count == 0 {
+            break;
+        }
+        let told = told_of(&piece[..count]);
+        if told > 0 {
+            end = at.saturating_add(told as u64);
+        }
+        at = at.saturating_add(count as u64);
+    }
+    Ok(end.saturating_sub(from))
+}
+
 // A gate that rots makes all that stands behind it count for nothing, so much of it is kept before it is cut.
 fn shorten<R: Files<File = File>>(
     alloc: Global,
@@ -167,7 +199,7 @@ fn shorten<R: Files<File = File>>(
     length: u64,
 ) -> io::Result<bool> {
     let present = length_of(journal)?;
-    let is_kept = present.saturating_sub(length) > KEPT;
+    let is_kept = present.saturating_sub(length) > KEPT && told_behind(journal, length)? > KEPT;
     if is_kept {
         keep_from(alloc, files, journal, length)?;
     }
@@ -310,7 +342,8 @@ impl<'a, W: Wait + Clock + Eprint, R: Files<File = File>> JournalFile<'a, W, R> 
         ensures { self.new.faults ≡ self.old.faults }
     {
         self.open()?;
-        self.present()?.sync_all()
+        // Of what stands beside the bytes the length alone is needed, and where it changed it is synced too.
+        self.present()?.sync_data()
     }
 
     // Behind the lock, so that no second server has a draft.
@@ -350,12 +383,21 @@ impl<'a, W: Wait + Clock + Eprint, R: Files<File = File>> JournalFile<'a, W, R> 
         ensures { self.new.faults ≡ self.old.faults }
     {
         sync_folder(&self.files)?;
+        let before = length_of(self.present()?)?;
         if let Some(opened) = &mut self.opened {
             if let Some(draft) = self.draft.take() {
                 opened.journal = draft.file;
+                self.tell_anew(before, draft.end);
             }
         }
         Ok(())
+    }
+
+    // Prints that the journal was written anew. From then on it is told again when it fills.
+    fn tell_anew(&self, before: u64, behind: u64) {
+        let log = self.log();
+        info!(log; "{NAME} is written anew: {behind} bytes in the place of {before}");
+        self.shared.emptied(self.rt, fill_of(behind, MOST));
     }
 
     // That there is no room is no fault; what else keeps a step from being done is one.

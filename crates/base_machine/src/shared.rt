@@ -288,7 +288,7 @@ impl Shared {
         };
         match store {
             Store::Room => state.room = fill,
-            // It only grows, though not each write is at its end.
+            // It grows until it is written anew, though not each write is at its end.
             Store::Journal => {
                 if is_more {
                     state.journal = fill;
@@ -296,6 +296,11 @@ impl Shared {
             }
         }
         if is_more { Some(fill) } else { None }
+    }
+
+    /// Notes how full the journal is that was written anew, so that it is told again when it fills.
+    pub(crate) fn emptied<W: Wait>(&self, rt: &W, fill: Fill) {
+        self.state.lock(rt).journal = fill;
     }
 }
 

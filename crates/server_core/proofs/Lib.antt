@@ -6,3 +6,4 @@ pub mod ReadOver
 mod Sound
 pub mod SoFar
 pub mod Openings
+pub mod Filled

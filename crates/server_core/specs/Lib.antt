@@ -17,3 +17,4 @@ pub mod event_replies
 pub mod disk_server
 pub mod snapshot_writing
 pub mod compaction
+pub mod space_ahead

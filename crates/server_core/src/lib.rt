@@ -30,6 +30,7 @@ mod server;
 mod server_start;
 mod signing;
 mod snapshot_writing;
+mod space_ahead;
 mod standing;
 mod start_law;
 
