@@ -16,3 +16,4 @@ pub mod dialogs
 pub mod greeted
 pub mod finals
 pub mod premises
+pub mod sends
