@@ -2,6 +2,7 @@ pub mod AllServed
 pub mod Blank
 pub mod Counted
 pub mod Renewals
+pub mod SpaceAhead
 pub mod Rises
 pub mod Still
 pub mod nonces

@@ -20,7 +20,7 @@ use Rattle.serve_command.specs.declared.lasting_book.book.LastingBook.{LastingBo
 pub never_both : (o : Option ℕ) (n : ℕ) → o ≡ None → o ≡ Some n → ⊥
 never_both o n e f = absurd (let h = ap is_some (sym e ∙ f) in cc)
 
-same_count : (o : Option ℕ) (m n : ℕ) → o ≡ Some m → o ≡ Some n → m ≡ n
+pub same_count : (o : Option ℕ) (m n : ℕ) → o ≡ Some m → o ≡ Some n → m ≡ n
 same_count o m n e f = ap (λ (x : Option ℕ). at_of x) (sym e ∙ f)
   where
     at_of : Option ℕ → ℕ

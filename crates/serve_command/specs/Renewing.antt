@@ -7,8 +7,9 @@ use Rattle.spec_journal.specs.declared.form.Form.{Form}
 use Rattle.spec_journal.specs.declared.form.Form.TheVariants.{Plain, Summed}
 use Rattle.spec_world.specs.Ends.{Logons}
 use Rattle.server_checks.specs.declared.setups.error.EventError.{EventError}
-use Rattle.server_core.specs.Shown.{HoldsServerOver, config_of, journal_of, state_of}
+use Rattle.server_core.specs.Shown.{HoldsServerOver, config_of, disk_of, journal_of, state_of, stopped_of}
 use Rattle.server_core.specs.compaction.Compacts.{Compacts}
+use Rattle.server_core.specs.space_ahead.Space.{TakesSpace}
 use Rattle.serve_command.specs.declared.lasting_book.book.LastingBook.{LastingBook}
 
 -- ---- numbers of bytes
@@ -40,6 +41,17 @@ mark_after (Ok true) mark before after = mark_behind after
 mark_after (Ok false) mark before after = try_again before
 mark_after (Err error) mark before after = mark
 
+-- a journal of 1 MiB or more takes space ahead where it uses as many bytes as was said, or far fewer since it was written anew
+abbrev pub is_short : (used ahead : ℕ) → Bool
+is_short used ahead = nat_le 1048576 used && (nat_le ahead used || nat_lt 6291456 (ahead - used))
+
+-- how many bytes it uses when it takes space ahead again, by what that came to: it had 16 MiB or was left some, the disk has no room, or
+-- nothing was taken
+abbrev pub ahead_after : Result Bool EventError → (ahead used : ℕ) → ℕ
+ahead_after (Ok true) ahead used = min (used + 6291456) 1073741824
+ahead_after (Ok false) ahead used = min (used + 1048576) 1073741824
+ahead_after (Err error) ahead used = ahead
+
 abbrev pub is_plain : Form → Bool
 is_plain Plain = true
 is_plain Summed = false
@@ -67,3 +79,32 @@ module _ {D : Type 0} (told : Type 0) (seen : D → List ℕ) (may_leave : D →
   -- a look at its journal, where a snapshot is said to take so many bytes
   abbrev pub LooksAt : (old new : LastingBook D) → ℕ → Type 0
   LooksAt old new size = LooksWhere (is_due (is_plain (journal_of old.disk_book.book.server).form) (used_by old) size) old new size
+
+  -- its journal took space ahead, or the disk has no room for it, or no memory was found, or the disk failed in that
+  pub record FillsAhead (old new : LastingBook D) : Type 0 where
+    pub result : Result Bool EventError
+    pub takes : (base : List SnapshotPiece) (s : model.Server) (L : Logons) (records : List model.Record)
+        → HoldsServerOver told seen may_leave base old.disk_book.book.server s L records
+        → TakesSpace told seen may_leave faults base (state_of old.disk_book.book.server) (state_of new.disk_book.book.server) s L records
+        result
+    pub config : config_of new.disk_book.book.server ≡ config_of old.disk_book.book.server
+    pub used : used_by new ≡ used_by old
+    pub calm : stopped_of new.disk_book.book.server ≡ None
+        → faults (disk_of new.disk_book.book.server) ≡ faults (disk_of old.disk_book.book.server)
+    pub mark : new.mark ≡ old.mark
+    pub ahead : new.ahead ≡ ahead_after result old.ahead (used_by old)
+
+  abbrev pub FillsWhere : Bool → (old new : LastingBook D) → Type 0
+  FillsWhere true old new = FillsAhead old new
+  FillsWhere false old new = new ≡ old
+
+  abbrev pub Fills : (old new : LastingBook D) → Type 0
+  Fills old new = FillsWhere (is_short (used_by old) old.ahead) old new
+
+  -- what is done in front of an event of a server that goes on: space is taken ahead, and then the journal is looked at
+  pub record Readies (old new : LastingBook D) : Type 0 where
+    pub mid : LastingBook D
+    pub fills : Fills old mid
+    pub early : used_by mid < mid.mark → new ≡ mid
+    pub halted : (count : ℕ) → stopped_of mid.disk_book.book.server ≡ Some count → new ≡ mid
+    pub looks : stopped_of mid.disk_book.book.server ≡ None → mid.mark ≤ used_by mid → (size : ℕ) × LooksAt mid new size

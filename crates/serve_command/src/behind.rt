@@ -7,7 +7,7 @@ use crate::ending::Ending;
 use crate::lasting_book::LastingBook;
 use crate::lines::ended;
 use crate::server_settings::Bound;
-use base_outside::{Renewal, Sink};
+use base_outside::{Renewal, Sink, TellsRoom};
 use serve_turns::{Ended, EventBook, Halt};
 use server_core::{Book, DiskBook};
 use std::alloc::Global;
@@ -28,7 +28,7 @@ fn has_risen(before: u64, after: u64) -> bool
 }
 
 /// What is left of a server, whose disk had failed so often before.
-pub(crate) fn left_of<D: Renewal>(last: EventBook<LastingBook<D>>, before: u64) -> Left<D>
+pub(crate) fn left_of<D: Renewal + TellsRoom>(last: EventBook<LastingBook<D>>, before: u64) -> Left<D>
     ensures stopped { result.stopped ≡ has_stopped last }
     ensures risen { result.risen ≡ has_risen before (D.faults (disk_of last.server.disk_book.book.server)) }
     ensures disk { result.disk ≡ disk_of last.server.disk_book.book.server }

@@ -18,7 +18,7 @@ use crate::ending::Ending;
 use crate::lasting_book::LastingBook;
 use crate::opening::{settled, unbegun};
 use crate::server_settings::{Bound, Said, Setup};
-use base_outside::{Clock, Failed, Net, Renewal, Sink, Source};
+use base_outside::{Clock, Failed, Net, Renewal, Sink, Source, TellsRoom};
 use journal::RefusedStart;
 use rand_core::Rng;
 use serve_turns::{BookSeat, Connections, Ended, EventBook, Roll, Served, SharedBook, serve_links};
@@ -63,7 +63,7 @@ where
     W: Wait + Threads + Sync,
     S: Source,
     O: Sink,
-    D: Renewal + Drop + Send,
+    D: Renewal + TellsRoom + Drop + Send,
     N: Net + Drop,
     C: Clock + Drop + Send,
     R: Rng + Drop + Send,
@@ -98,7 +98,7 @@ pub fn serve_with<W, O, D, N, C, R>(
 where
     W: Wait + Threads + Sync,
     O: Sink,
-    D: Renewal + Drop + Send,
+    D: Renewal + TellsRoom + Drop + Send,
     N: Net + Drop,
     C: Clock + Drop + Send,
     R: Rng + Drop + Send,
@@ -133,7 +133,7 @@ fn none_ended(alloc: Global, count: usize) -> Result<Vec<Option<Ended>>, AllocEr
     vec![in alloc; None; count]
 }
 
-fn first_book<D: Renewal>(alloc: Global, server: Server<D>) -> ServerBook<D>
+fn first_book<D: Renewal + TellsRoom>(alloc: Global, server: Server<D>) -> ServerBook<D>
     ensures { result.server.disk_book.book.server ≡ server }
 {
     EventBook {
@@ -143,7 +143,7 @@ fn first_book<D: Renewal>(alloc: Global, server: Server<D>) -> ServerBook<D>
 }
 
 /// The book at the seat's turn, which is passed to nobody.
-fn closed<W: Wait, D: Renewal>(
+fn closed<W: Wait, D: Renewal + TellsRoom>(
     rt: &W,
     book: SharedBook<ServerBook<D>>,
     seat: BookSeat<ServerBook<D>>,
@@ -155,7 +155,7 @@ fn closed<W: Wait, D: Renewal>(
 }
 
 /// A book on a server, and no connection of such a net served yet, with room for how so many ended.
-fn opened<D: Renewal + Drop, N: Net>(
+fn opened<D: Renewal + TellsRoom + Drop, N: Net>(
     alloc: Global,
     server: Server<D>,
     count: usize,
@@ -208,7 +208,7 @@ fn serve_at<W, O, D, N, C, R>(
 where
     W: Wait + Threads + Sync,
     O: Sink,
-    D: Renewal + Drop + Send,
+    D: Renewal + TellsRoom + Drop + Send,
     N: Net + Drop,
     C: Clock + Drop + Send,
     R: Rng + Drop + Send,
@@ -247,7 +247,7 @@ fn serve_on<W, O, D, N, C, R>(
 where
     W: Wait + Threads + Sync,
     O: Sink,
-    D: Renewal + Drop + Send,
+    D: Renewal + TellsRoom + Drop + Send,
     N: Net + Drop,
     C: Clock + Drop + Send,
     R: Rng + Drop + Send,
@@ -288,7 +288,7 @@ fn serve_book<W, O, D, N, C, R>(
 where
     W: Wait + Threads + Sync,
     O: Sink,
-    D: Renewal + Drop + Send,
+    D: Renewal + TellsRoom + Drop + Send,
     N: Net + Drop,
     C: Clock + Drop + Send,
     R: Rng + Drop + Send,

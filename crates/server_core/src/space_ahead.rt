@@ -56,6 +56,8 @@ impl<D: TellsRoom> Server<D> {
         ensures stopped { (count : ℕ) → stopped_of self.old ≡ Some count
             → (result ≡ Err (errors.Stopped count)) × (self.new ≡ self.old) }
         ensures config { config_of self.new ≡ config_of self.old }
+        ensures used { (journal_of self.new).used ≡ (journal_of self.old).used }
+        ensures calm { stopped_of self.new ≡ None → D.faults (disk_of self.new) ≡ D.faults (disk_of self.old) }
     {
         if let Some(count) = self.state.stopped {
             return Err(EventError::Stopped(count));

@@ -1,20 +1,22 @@
 //! A server over a disk whose journal is written anew in front of an event.
 ghost use Rattle.std.specs.Prelude.{◌≡◌};
 
-use crate::lasting_book::marks::{is_due, look_again, mark_after};
-use base_outside::{Disk, Renewal, Standing};
+use crate::lasting_book::marks::{ahead_after, is_due, is_short, look_again, mark_after};
+use base_outside::{Disk, Renewal, Standing, TellsRoom};
 use conn_core::{Reply, Serve, ServeError};
 use serve_turns::Lasting;
 use server_checks::{EventError, ServerEvent};
 use server_core::{Book, DiskBook, Server};
 use std::alloc::Global;
 
-/// A server that many connections share, whose journal is written anew when it is due.
+/// A server that many connections share, whose journal is written anew when it is due, and takes space ahead.
 #[derive(Drop)]
 pub struct LastingBook<D: Disk> {
     pub disk_book: DiskBook<D>,
     /// The journal is looked at in front of an event where it uses at least so many bytes.
     pub mark: u64,
+    /// The journal takes space ahead where it uses at least so many bytes.
+    pub ahead: u64,
 }
 
 impl<D: Disk> LastingBook<D> {
@@ -24,12 +26,14 @@ impl<D: Disk> LastingBook<D> {
     pub(crate) fn new(alloc: Global, server: Server<D>) -> LastingBook<D>
         ensures server { result.disk_book.book.server ≡ server }
         ensures mark { result.mark ≡ 0 }
+        ensures ahead { result.ahead ≡ 0 }
     {
         LastingBook {
             disk_book: DiskBook {
                 book: Book { alloc, server },
             },
             mark: 0,
+            ahead: 0,
         }
     }
 }
@@ -100,14 +104,53 @@ impl<D: Renewal> LastingBook<D> {
     }
 }
 
-impl<D: Renewal> Lasting for LastingBook<D> {
+impl<D: TellsRoom> LastingBook<D> {
+    ghost use Rattle.std.specs.Prelude.{◌≡◌};
+    ghost use Rattle.serve_command.specs.Renewing.{Fills, FillsAhead, used_by};
+
+    // Where the disk failed the server has stopped, and where no memory was found it is tried again.
+    fn fill(&mut self, used: u64)
+        requires { used ≡ used_by self.old }
+        ensures { FillsAhead D.told D.seen D.may_leave D.faults self.old self.new }
+    {
+        let taken = self.disk_book.book.server.take_ahead();
+        self.ahead = ahead_after(&taken, self.ahead, used);
+    }
+
+    fn fill_if_short(&mut self)
+        ensures { Fills D.told D.seen D.may_leave D.faults self.old self.new }
+    {
+        let used = self.disk_book.book.server.used();
+        let short = is_short(used, self.ahead);
+        if short {
+            self.fill(used);
+        }
+    }
+}
+
+impl<D: Renewal + TellsRoom> LastingBook<D> {
+    ghost use Rattle.serve_command.specs.Renewing.{Readies};
+
+    // Of a server that goes on.
+    fn ready(&mut self)
+        ensures { Readies D.told D.seen D.may_leave D.faults self.old self.new }
+    {
+        self.fill_if_short();
+        match self.disk_book.book.server.stopped() {
+            Some(_) => {}
+            None => self.look_if_marked(),
+        }
+    }
+}
+
+impl<D: Renewal + TellsRoom> Lasting for LastingBook<D> {
     ghost use Rattle.std.specs.Prelude.{◌≡◌, ◌<◌, ◌≤◌, ℕ, List, None, Some};
     ghost use Rattle.spec_crypto.specs.tokens.Tokens.{Users};
     ghost use Rattle.spec_exchange.specs.State as model;
     ghost use Rattle.spec_world.specs.Ends.{Logons};
     ghost use Rattle.conn_core.specs.served.Serving.{StopsAtFault};
     ghost use Rattle.serve_turns.specs.event_book.Renewing.{RenewedTo};
-    ghost use Rattle.serve_command.specs.Renewing.{LooksAt, used_by};
+    ghost use Rattle.serve_command.specs.Renewing.{Readies};
     ghost use Rattle.serve_command.specs.Steps.{server_faults, server_shows, server_stopped};
 
     fn renew(&mut self)
@@ -119,13 +162,11 @@ impl<D: Renewal> Lasting for LastingBook<D> {
             → (count : ℕ) → server_stopped self.new ≡ Some count
             → StopsAtFault (server_faults D.faults self.old) (server_faults D.faults self.new) count }
         ensures stays { (count : ℕ) → server_stopped self.old ≡ Some count → self.new ≡ self.old }
-        ensures early { used_by self.old < self.old.mark → self.new ≡ self.old }
-        ensures looks { server_stopped self.old ≡ None → self.old.mark ≤ used_by self.old
-            → (size : ℕ) × LooksAt D.told D.seen D.may_leave D.faults self.old self.new size }
+        ensures readies { server_stopped self.old ≡ None → Readies D.told D.seen D.may_leave D.faults self.old self.new }
     {
         match self.disk_book.book.server.stopped() {
             Some(_) => {}
-            None => self.look_if_marked(),
+            None => self.ready(),
         }
     }
 }

@@ -1,6 +1,6 @@
 //! When a journal is due to be written anew, by numbers of bytes alone.
 ghost use Rattle.std.specs.Prelude.{◌≡◌};
-ghost use Rattle.serve_command.specs.Renewing.{grown, is_due, look_again, mark_after, mark_behind, try_again};
+ghost use Rattle.serve_command.specs.Renewing.{ahead_after, grown, is_due, is_short, look_again, mark_after, mark_behind, try_again};
 
 use server_checks::EventError;
 
@@ -21,6 +21,12 @@ const SMALL: u64 = 1_048_576;
 
 /// By how much it has to grow before what was given up is tried again.
 const STEP: u64 = 16_777_216;
+
+/// So many bytes of the space that is taken ahead are used before it is looked at again: fewer than those that are always left.
+const ENOUGH: u64 = 6_291_456;
+
+/// A journal has no more bytes than these.
+const WHOLE: u64 = 1_073_741_824;
 
 /// Where it is looked at next behind a snapshot of so many bytes.
 fn mark_behind(size: u64) -> u64
@@ -76,4 +82,22 @@ pub(crate) fn is_due(is_first: bool, used: u64, size: u64) -> bool
 {
     let smaller = u128::from(size) * 3 <= u128::from(used) * 2;
     is_first || (used > SMALL && smaller)
+}
+
+/// Whether a journal takes space ahead: from 1 MiB on, where it uses as many bytes as was said, or far fewer since it was written anew.
+pub(crate) fn is_short(used: u64, ahead: u64) -> bool
+    ensures { result ≡ is_short used ahead }
+{
+    used >= SMALL && (used >= ahead || ahead.saturating_sub(used) > ENOUGH)
+}
+
+/// How many bytes it uses when it takes space ahead again, by what that came to.
+pub(crate) fn ahead_after(taken: &Result<bool, EventError>, ahead: u64, used: u64) -> u64
+    ensures { result ≡ ahead_after taken.now ahead used }
+{
+    match taken {
+        Ok(true) => used.saturating_add(ENOUGH).min(WHOLE),
+        Ok(false) => used.saturating_add(SMALL).min(WHOLE),
+        Err(_) => ahead,
+    }
 }
