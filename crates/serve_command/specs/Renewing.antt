@@ -3,11 +3,9 @@ use Rattle.std.specs.Prelude.{◌≡◌, ℕ, ◌+◌, ◌-◌, ◌*◌, ◌/◌
 use Rattle.std.specs.Prelude.{Result, Ok, Err}
 use Rattle.law_snapshots.specs.snapshots.Pieces.{SnapshotPiece}
 use Rattle.spec_exchange.specs.State as model
-use Rattle.spec_journal.specs.declared.form.Form.{Form}
-use Rattle.spec_journal.specs.declared.form.Form.TheVariants.{Plain, Summed}
 use Rattle.spec_world.specs.Ends.{Logons}
 use Rattle.server_checks.specs.declared.setups.error.EventError.{EventError}
-use Rattle.server_core.specs.Shown.{HoldsServerOver, config_of, journal_of, state_of}
+use Rattle.server_core.specs.Shown.{HoldsServerOver, config_of, is_plain, journal_of, state_of}
 use Rattle.server_core.specs.compaction.Compacts.{Compacts}
 use Rattle.serve_command.specs.declared.lasting_book.book.LastingBook.{LastingBook}
 
@@ -39,10 +37,6 @@ abbrev pub mark_after : Result Bool EventError → (mark before after : ℕ) →
 mark_after (Ok true) mark before after = mark_behind after
 mark_after (Ok false) mark before after = try_again before
 mark_after (Err error) mark before after = mark
-
-abbrev pub is_plain : Form → Bool
-is_plain Plain = true
-is_plain Summed = false
 
 -- ---- the server
 
