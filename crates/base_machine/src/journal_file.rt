@@ -21,7 +21,7 @@ const NAME: &str = "smb311.journal";
 /// The name of the file whose lock keeps a second server away. It is never renamed or removed, so that all servers lock the same file.
 const LOCK: &str = "smb311.lock";
 
-/// The name of the file into which the journal is written anew. One that was left is emptied by the next draft.
+/// The name of the file into which the journal is written anew. One that was left is removed by the next server.
 const DRAFT: &str = "smb311.draft";
 
 /// EDQUOT of Linux.
@@ -237,6 +237,8 @@ impl<'a, W: Wait + Clock + Eprint, R: Files<File = File>> JournalFile<'a, W, R> 
         if self.opened.is_none() {
             let lock = self.locked()?;
             let journal = journal_of(&self.files)?;
+            // A draft that a crash left. Where it stays, the next one empties it.
+            let _removed = remove_file(&self.files, DRAFT);
             self.opened = Some(JournalFiles {
                 journal,
                 _lock: lock,
@@ -307,7 +309,9 @@ impl<'a, W: Wait + Clock + Eprint, R: Files<File = File>> JournalFile<'a, W, R> 
         ensures { self.new.faults ≡ self.old.faults }
     {
         self.open()?;
-        length_of(self.present()?)
+        let length = length_of(self.present()?)?;
+        self.shared.measured(self.rt, length);
+        Ok(length)
     }
 
     fn read_now(&mut self, at: u64, into: &mut [u8]) -> io::Result<usize>
@@ -322,6 +326,10 @@ impl<'a, W: Wait + Clock + Eprint, R: Files<File = File>> JournalFile<'a, W, R> 
         ensures { self.new.faults ≡ self.old.faults }
     {
         self.open()?;
+        // Nobody goes on with a draft behind this, and its room is wanted.
+        if self.draft.is_some() {
+            self.give_up();
+        }
         self.present()?.write_all_at(from, at)?;
         self.tell_length(at.saturating_add(from.len() as u64));
         Ok(())
@@ -383,25 +391,16 @@ impl<'a, W: Wait + Clock + Eprint, R: Files<File = File>> JournalFile<'a, W, R> 
         ensures { self.new.faults ≡ self.old.faults }
     {
         sync_folder(&self.files)?;
-        let before = length_of(self.present()?)?;
         if let Some(opened) = &mut self.opened {
             if let Some(draft) = self.draft.take() {
                 opened.journal = draft.file;
-                self.tell_anew(before, draft.end);
             }
         }
         Ok(())
     }
 
-    // Prints that the journal was written anew. From then on it is told again when it fills.
-    fn tell_anew(&self, before: u64, behind: u64) {
-        let log = self.log();
-        info!(log; "{NAME} is written anew: {behind} bytes in the place of {before}");
-        self.shared.emptied(self.rt, fill_of(behind, MOST));
-    }
-
     // That there is no room is no fault; what else keeps a step from being done is one.
-    fn step(&mut self, answer: io::Result<()>) -> Result<DiskStep, Failed>
+    fn step(&mut self, name: &str, answer: io::Result<()>) -> Result<DiskStep, Failed>
         ensures { CountsFault self.old.faults self.new.faults result }
     {
         let Err(error) = answer else {
@@ -409,7 +408,7 @@ impl<'a, W: Wait + Clock + Eprint, R: Files<File = File>> JournalFile<'a, W, R> 
         };
         if is_full(&error) {
             let log = self.log();
-            warn!(log; "{NAME}: {error}");
+            warn!(log; "{name}: {error}");
             return Ok(DiskStep::NoRoom);
         }
         self.tell(&error);
@@ -421,14 +420,35 @@ impl<'a, W: Wait + Clock + Eprint, R: Files<File = File>> JournalFile<'a, W, R> 
     fn draft_step(&mut self, answer: io::Result<()>) -> Result<DiskStep, Failed>
         ensures { CountsFault self.old.faults self.new.faults result }
     {
-        match self.step(answer) {
+        match self.step(DRAFT, answer) {
             Ok(DiskStep::Done) => Ok(DiskStep::Done),
             Ok(DiskStep::NoRoom) => {
                 self.give_up();
+                let log = self.log();
+                warn!(log; "{NAME} is not written anew for lack of room, and goes on as it is");
                 Ok(DiskStep::NoRoom)
             }
             Err(failed) => Err(failed),
         }
+    }
+
+    // How long the journal's file and the draft are, where both are there.
+    fn lengths(&self) -> (u64, u64) {
+        let before = match self.present() {
+            Ok(journal) => length_of(journal).unwrap_or(0),
+            Err(_) => 0,
+        };
+        let behind = match &self.draft {
+            Some(draft) => draft.end,
+            None => 0,
+        };
+        (before, behind)
+    }
+
+    fn tell_renewal(&self, before: u64, behind: u64) {
+        self.shared.renewed(self.rt, fill_of(behind, MOST));
+        let log = self.log();
+        info!(log; "{NAME} was written anew: {before} bytes before, {behind} behind");
     }
 
     fn give_up(&mut self)
@@ -498,7 +518,7 @@ impl<'a, W: Wait + Clock + Eprint, R: Files<File = File>> Disk for JournalFile<'
 impl<'a, W: Wait + Clock + Eprint, R: Files<File = File>> TellsRoom for JournalFile<'a, W, R> {
     fn write_if_room(&mut self, at: u64, from: &[u8]) -> Result<DiskStep, Failed> {
         let answer = self.write_now(at, from);
-        self.step(answer)
+        self.step(NAME, answer)
     }
 }
 
@@ -516,6 +536,7 @@ impl<'a, W: Wait + Clock + Eprint, R: Files<File = File>> Renewal for JournalFil
     }
 
     fn adopt(&mut self) -> Result<DiskStep, Failed> {
+        let (before, behind) = self.lengths();
         let renamed = self.rename_now();
         match self.draft_step(renamed) {
             Ok(DiskStep::Done) => {}
@@ -525,6 +546,7 @@ impl<'a, W: Wait + Clock + Eprint, R: Files<File = File>> Renewal for JournalFil
         // From here on a full disk is a fault too: it isn't known which file has the name after a crash.
         let answer = self.go_on_now();
         self.counted(answer)?;
+        self.tell_renewal(before, behind);
         Ok(DiskStep::Done)
     }
 }

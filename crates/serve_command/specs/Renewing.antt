@@ -3,11 +3,9 @@ use Rattle.std.specs.Prelude.{◌≡◌, ℕ, ◌+◌, ◌-◌, ◌*◌, ◌/◌
 use Rattle.std.specs.Prelude.{Result, Ok, Err}
 use Rattle.law_snapshots.specs.snapshots.Pieces.{SnapshotPiece}
 use Rattle.spec_exchange.specs.State as model
-use Rattle.spec_journal.specs.declared.form.Form.{Form}
-use Rattle.spec_journal.specs.declared.form.Form.TheVariants.{Plain, Summed}
 use Rattle.spec_world.specs.Ends.{Logons}
 use Rattle.server_checks.specs.declared.setups.error.EventError.{EventError}
-use Rattle.server_core.specs.Shown.{HoldsServerOver, config_of, disk_of, journal_of, state_of, stopped_of}
+use Rattle.server_core.specs.Shown.{HoldsServerOver, config_of, disk_of, is_plain, journal_of, state_of, stopped_of}
 use Rattle.server_core.specs.compaction.Compacts.{Compacts}
 use Rattle.server_core.specs.space_ahead.Space.{TakesSpace}
 use Rattle.serve_command.specs.declared.lasting_book.book.LastingBook.{LastingBook}
@@ -51,10 +49,6 @@ abbrev pub ahead_after : Result Bool EventError → (ahead used : ℕ) → ℕ
 ahead_after (Ok true) ahead used = min (used + 6291456) 1073741824
 ahead_after (Ok false) ahead used = min (used + 1048576) 1073741824
 ahead_after (Err error) ahead used = ahead
-
-abbrev pub is_plain : Form → Bool
-is_plain Plain = true
-is_plain Summed = false
 
 -- ---- the server
 
