@@ -6,7 +6,7 @@ use crate::log_lines::Stamped;
 use crate::shared::{Shared, Store, fill_of};
 use base_outside::{Disk, DiskStep, Failed, Renewal, TellsRoom};
 use libc::{EFBIG, ENOSPC};
-use log::{error, warn};
+use log::{error, info, warn};
 use std::alloc::Global;
 use std::fs::{File, Files, OpenOptions, TryLockError, remove_file, rename};
 use std::io;
@@ -21,7 +21,7 @@ const NAME: &str = "smb311.journal";
 /// The name of the file whose lock keeps a second server away. It is never renamed or removed, so that all servers lock the same file.
 const LOCK: &str = "smb311.lock";
 
-/// The name of the file into which the journal is written anew. One that was left is emptied by the next draft.
+/// The name of the file into which the journal is written anew. One that was left is removed by the next server.
 const DRAFT: &str = "smb311.draft";
 
 /// EDQUOT of Linux.
@@ -205,6 +205,8 @@ impl<'a, W: Wait + Clock + Eprint, R: Files<File = File>> JournalFile<'a, W, R> 
         if self.opened.is_none() {
             let lock = self.locked()?;
             let journal = journal_of(&self.files)?;
+            // A draft that a crash left. Where it stays, the next one empties it.
+            let _removed = remove_file(&self.files, DRAFT);
             self.opened = Some(JournalFiles {
                 journal,
                 _lock: lock,
@@ -275,7 +277,9 @@ impl<'a, W: Wait + Clock + Eprint, R: Files<File = File>> JournalFile<'a, W, R> 
         ensures { self.new.faults ≡ self.old.faults }
     {
         self.open()?;
-        length_of(self.present()?)
+        let length = length_of(self.present()?)?;
+        self.shared.measured(self.rt, length);
+        Ok(length)
     }
 
     fn read_now(&mut self, at: u64, into: &mut [u8]) -> io::Result<usize>
@@ -290,6 +294,10 @@ impl<'a, W: Wait + Clock + Eprint, R: Files<File = File>> JournalFile<'a, W, R> 
         ensures { self.new.faults ≡ self.old.faults }
     {
         self.open()?;
+        // Nobody goes on with a draft behind this, and its room is wanted.
+        if self.draft.is_some() {
+            self.give_up();
+        }
         self.present()?.write_all_at(from, at)?;
         self.tell_length(at.saturating_add(from.len() as u64));
         Ok(())
@@ -359,7 +367,7 @@ impl<'a, W: Wait + Clock + Eprint, R: Files<File = File>> JournalFile<'a, W, R> 
     }
 
     // That there is no room is no fault; what else keeps a step from being done is one.
-    fn step(&mut self, answer: io::Result<()>) -> Result<DiskStep, Failed>
+    fn step(&mut self, name: &str, answer: io::Result<()>) -> Result<DiskStep, Failed>
         ensures { CountsFault self.old.faults self.new.faults result }
     {
         let Err(error) = answer else {
@@ -367,7 +375,7 @@ impl<'a, W: Wait + Clock + Eprint, R: Files<File = File>> JournalFile<'a, W, R> 
         };
         if is_full(&error) {
             let log = self.log();
-            warn!(log; "{NAME}: {error}");
+            warn!(log; "{name}: {error}");
             return Ok(DiskStep::NoRoom);
         }
         self.tell(&error);
@@ -379,14 +387,35 @@ impl<'a, W: Wait + Clock + Eprint, R: Files<File = File>> JournalFile<'a, W, R> 
     fn draft_step(&mut self, answer: io::Result<()>) -> Result<DiskStep, Failed>
         ensures { CountsFault self.old.faults self.new.faults result }
     {
-        match self.step(answer) {
+        match self.step(DRAFT, answer) {
             Ok(DiskStep::Done) => Ok(DiskStep::Done),
             Ok(DiskStep::NoRoom) => {
                 self.give_up();
+                let log = self.log();
+                warn!(log; "{NAME} is not written anew for lack of room, and goes on as it is");
                 Ok(DiskStep::NoRoom)
             }
             Err(failed) => Err(failed),
         }
+    }
+
+    // How long the journal's file and the draft are, where both are there.
+    fn lengths(&self) -> (u64, u64) {
+        let before = match self.present() {
+            Ok(journal) => length_of(journal).unwrap_or(0),
+            Err(_) => 0,
+        };
+        let behind = match &self.draft {
+            Some(draft) => draft.end,
+            None => 0,
+        };
+        (before, behind)
+    }
+
+    fn tell_renewal(&self, before: u64, behind: u64) {
+        self.shared.renewed(self.rt, fill_of(behind, MOST));
+        let log = self.log();
+        info!(log; "{NAME} was written anew: {before} bytes before, {behind} behind");
     }
 
     fn give_up(&mut self)
@@ -456,7 +485,7 @@ impl<'a, W: Wait + Clock + Eprint, R: Files<File = File>> Disk for JournalFile<'
 impl<'a, W: Wait + Clock + Eprint, R: Files<File = File>> TellsRoom for JournalFile<'a, W, R> {
     fn write_if_room(&mut self, at: u64, from: &[u8]) -> Result<DiskStep, Failed> {
         let answer = self.write_now(at, from);
-        self.step(answer)
+        self.step(NAME, answer)
     }
 }
 
@@ -474,6 +503,7 @@ impl<'a, W: Wait + Clock + Eprint, R: Files<File = File>> Renewal for JournalFil
     }
 
     fn adopt(&mut self) -> Result<DiskStep, Failed> {
+        let (before, behind) = self.lengths();
         let renamed = self.rename_now();
         match self.draft_step(renamed) {
             Ok(DiskStep::Done) => {}
@@ -483,6 +513,7 @@ impl<'a, W: Wait + Clock + Eprint, R: Files<File = File>> Renewal for JournalFil
         // From here on a full disk is a fault too: it isn't known which file has the name after a crash.
         let answer = self.go_on_now();
         self.counted(answer)?;
+        self.tell_renewal(before, behind);
         Ok(DiskStep::Done)
     }
 }

@@ -292,7 +292,8 @@ where
         };
         if let Some(at) = self.listens_at {
             let at = socket_address(at);
-            info!(log; "ready at {at} with {files} files and directories of {bytes} bytes from smb311.journal, read in {took} ms");
+            let length = self.shared.length(self.rt);
+            info!(log; "ready at {at} with {files} files and directories of {bytes} bytes from {length} of smb311.journal, read in {took} ms");
         }
     }
 }

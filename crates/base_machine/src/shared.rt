@@ -82,6 +82,8 @@ struct State {
     refused: Vec<Refused>,
     room: Fill,
     journal: Fill,
+    /// How long the journal's file was when that was last asked.
+    length: u64,
 }
 
 /// What the adapters of one server share. Nothing is watched until a server says how.
@@ -108,6 +110,7 @@ impl Shared {
                 refused: Vec::new(alloc),
                 room: Fill::Below,
                 journal: Fill::Below,
+                length: 0,
             }),
         }
     }
@@ -288,7 +291,7 @@ impl Shared {
         };
         match store {
             Store::Room => state.room = fill,
-            // It only grows, though not each write is at its end.
+            // It grows until it is written anew, though not each write is at its end.
             Store::Journal => {
                 if is_more {
                     state.journal = fill;
@@ -296,6 +299,21 @@ impl Shared {
             }
         }
         if is_more { Some(fill) } else { None }
+    }
+
+    /// The journal was written anew, and is so full then.
+    pub(crate) fn renewed<W: Wait>(&self, rt: &W, fill: Fill) {
+        self.state.lock(rt).journal = fill;
+    }
+
+    /// Notes how long the journal's file is.
+    pub(crate) fn measured<W: Wait>(&self, rt: &W, length: u64) {
+        self.state.lock(rt).length = length;
+    }
+
+    /// How long the journal's file was when that was last asked.
+    pub(crate) fn length<W: Wait>(&self, rt: &W) -> u64 {
+        self.state.lock(rt).length
     }
 }
 

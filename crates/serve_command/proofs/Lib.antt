@@ -1,6 +1,7 @@
 pub mod AllServed
 pub mod Blank
 pub mod Counted
+pub mod Renewals
 pub mod Rises
 pub mod Still
 pub mod nonces

@@ -24,7 +24,7 @@ module _ {D : Type 0} (server : Server D) where
   abbrev Knows : Type 0
   Knows = View (ServerBook D) Turn Answer
 
-  pub opens_first : (first : ServerBook D) (v : Knows) → v ≡ first_view first → first.server.book.server ≡ server → ServingOpens server v
+  pub opens_first : (first : ServerBook D) (v : Knows) → v ≡ first_view first → first.server.disk_book.book.server ≡ server → ServingOpens server v
   opens_first first v same is = record { opening = first; begins = is; is = ap (λ (x : Knows). x.opening) same }
 
   pub still_opens : (v w : Knows) → ServingOpens server v → w.opening ≡ v.opening → ServingOpens server w

@@ -106,14 +106,14 @@ module _ {D : Type 0} (told : Type 0) (seen : D → List ℕ) (may_leave : D →
     base = g.0.0;
     holds = g.0.1.1;
     goes_on = g.1;
-    disk = λ t. (let w = g.0.1.1.stands g.1 t in disk_stands book.server.book.server g.0.0 s.server s.records w.0 w.1);
+    disk = λ t. (let w = g.0.1.1.stands g.1 t in disk_stands book.server.disk_book.book.server g.0.0 s.server s.records w.0 w.1);
   }
   on_at users book (Off count) g = g
 
   -- ---- the whole
 
-  first_shows : (server : Server D) (opening : ServerBook D) (from : Stand) → opening.server.book.server ≡ server
-      → BeginsAt told seen may_leave server from → ShowsStanding shows stopped counts (settings_of opening.server.book.server).users opening
+  first_shows : (server : Server D) (opening : ServerBook D) (from : Stand) → opening.server.disk_book.book.server ≡ server
+      → BeginsAt told seen may_leave server from → ShowsStanding shows stopped counts (settings_of opening.server.disk_book.book.server).users opening
       (On from)
   first_shows server opening from is b = (
     (b.base, (refl, subst (λ (x : Server D). HoldsServerOver told seen may_leave b.base x from.server from.logons from.records) (sym is) b.holds)),
@@ -121,18 +121,18 @@ module _ {D : Type 0} (told : Type 0) (seen : D → List ℕ) (may_leave : D →
   )
 
   on_disk_by : (opening last : ServerBook D) (from : Stand) (log : List (Entry Turn Answer))
-      (k : Booked shows stopped counts (settings_of opening.server.book.server) (On from) opening log last)
-      → IsOnDisk told seen may_leave faults opening log (course_of (settings_of opening.server.book.server) (On from) log k.all k.to k.runs) last
+      (k : Booked shows stopped counts (settings_of opening.server.disk_book.book.server) (On from) opening log last)
+      → IsOnDisk told seen may_leave faults opening log (course_of (settings_of opening.server.disk_book.book.server) (On from) log k.all k.to k.runs) last
   unfolding course_of
   on_disk_by opening last from log k = record {
     books = k.books;
     begins = k.begins;
     ends = k.ends;
     steps = k.steps;
-    stands = λ i within. on_at (settings_of opening.server.book.server).users (k.books i)
-        (found_by (settings_of opening.server.book.server) (On from) log k.all k.to k.runs i) (k.stands i within);
+    stands = λ i within. on_at (settings_of opening.server.disk_book.book.server).users (k.books i)
+        (found_by (settings_of opening.server.disk_book.book.server) (On from) log k.all k.to k.runs i) (k.stands i within);
     rose = λ i s count within on off.
-        (let z = settings_of opening.server.book.server in
+        (let z = settings_of opening.server.disk_book.book.server in
         let at = entry_at log i within in
         (at_fault shows stopped counts z s (k.books i) (k.books (i + 1)) at.0.event at.0.reply at.0.event.what count (k.steps i at.0 at.1)
         (subst (λ (x : Standing). ShowsStanding shows stopped counts z.users (k.books i) x) on (k.stands i (omega (arith, within))))
@@ -158,9 +158,9 @@ module _ {D : Type 0} (told : Type 0) (seen : D → List ℕ) (may_leave : D →
   whole_by : (over : ℕ → Passage → Type 0) (count : ℕ) (from : Stand) (v : View (ServerBook D) Turn Answer) (ends : List (Option Ended))
       (opening last : ServerBook D)
       (log : List (Entry Turn Answer)) (to : Standing) (h : Course) (s : AreServedBy over count v ends)
-      → Replays (server_steps told seen may_leave faults) opening log last → RunsBy (settings_of opening.server.book.server) (On from) log h to
+      → Replays (server_steps told seen may_leave faults) opening log last → RunsBy (settings_of opening.server.disk_book.book.server) (On from) log h to
       → NonceTables from.server from.logons (λ x. 0) → IsOnDisk told seen may_leave faults opening log h last
-      → Connected (settings_of opening.server.book.server) h log count s.links v.ended over → entries_of v.number 0 log ≡ []
+      → Connected (settings_of opening.server.disk_book.book.server) h log count s.links v.ended over → entries_of v.number 0 log ≡ []
       → (IsWhole v → (i : ℕ) (e : Entry Turn Answer) → slice_get log i ≡ Some e → IsOneOf e.seat (numbers_of v))
       → WasServedWhole told seen may_leave faults over count opening from ends last
   whole_by over count from v ends opening last log to h s replays runs first on_disk c none none_else = record {
@@ -180,12 +180,12 @@ module _ {D : Type 0} (told : Type 0) (seen : D → List ℕ) (may_leave : D →
     told_are = λ i end there. c.told i end (s.told i end there);
     on_disk = on_disk;
     stops_told = λ i x count here is.
-        (let off = served_off (settings_of opening.server.book.server) h log (On from) to runs (number_of x) x.seat x.passage.came
+        (let off = served_off (settings_of opening.server.disk_book.book.server) h log (On from) to runs (number_of x) x.seat x.passage.came
         x.passage.wrote x.passage.faults x.passage.faults' x.passage.ended x.end x.seals count (c.each i x here) is in
         subst (λ (s : Standing). OnDiskAt told seen may_leave faults last s) (runs.ends ∙ off)
         (subst (λ (b : ServerBook D). OnDiskAt told seen may_leave faults b (h.found (length log))) on_disk.ends
         (on_disk.stands (length log) (omega arith))));
-    once = are_once (settings_of opening.server.book.server) h log from to runs first c.all c.each c.apart;
+    once = are_once (settings_of opening.server.disk_book.book.server) h log from to runs first c.all c.each c.apart;
   }
 
   pub whole_of : (over : ℕ → Passage → Type 0) (count : ℕ) (server : Server D) (from : Stand) (v : View (ServerBook D) Turn Answer)
@@ -199,13 +199,13 @@ module _ {D : Type 0} (told : Type 0) (seen : D → List ℕ) (may_leave : D →
       let same : closes.opening ≡ opening = cc in
       let replays : Replays (server_steps told seen may_leave faults) opening closes.log last =
       subst (λ (o : ServerBook D). Replays (server_steps told seen may_leave faults) o closes.log last) same closes.replays in
-      let k = booked shows stopped counts (settings_of opening.server.book.server) (On from) opening last closes.log replays
+      let k = booked shows stopped counts (settings_of opening.server.disk_book.book.server) (On from) opening last closes.log replays
       (first_shows server opening from opens.begins b) in
-      let h = course_of (settings_of opening.server.book.server) (On from) closes.log k.all k.to k.runs in
+      let h = course_of (settings_of opening.server.disk_book.book.server) (On from) closes.log k.all k.to k.runs in
       whole_by over count from v ends opening last closes.log k.to h s replays
-      (runs_by (settings_of opening.server.book.server) (On from) closes.log k.all k.to k.runs) (nothing_drawn server from b)
+      (runs_by (settings_of opening.server.disk_book.book.server) (On from) closes.log k.all k.to k.runs) (nothing_drawn server from b)
       (on_disk_by opening last from closes.log k)
-      (connected (settings_of opening.server.book.server) refl h closes.log
-      (λ seat. own_meet (settings_of opening.server.book.server) seat (On from) closes.log k.all k.to k.runs) s.seat_at v.opening v.kept count
+      (connected (settings_of opening.server.disk_book.book.server) refl h closes.log
+      (λ seat. own_meet (settings_of opening.server.disk_book.book.server) seat (On from) closes.log k.all k.to k.runs) s.seat_at v.opening v.kept count
       s.links v.ended over s.each closes.ended_are closes.apart.1)
       (sym closes.own_are ∙ s.none_own) closes.none_else

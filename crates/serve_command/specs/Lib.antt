@@ -1,6 +1,7 @@
 pub mod Alone
 pub mod Guid
 pub mod Steps
+pub mod Renewing
 pub mod server_settings
 pub mod Printing
 pub mod Opening

@@ -80,7 +80,7 @@ has_risen old new = nat_lt old new || new == 18446744073709551615
 
 -- the server takes nothing more
 abbrev pub has_stopped : {D : Type 0} → ServerBook D → Bool
-has_stopped last = is_some (stopped_of last.server.book.server)
+has_stopped last = is_some (stopped_of last.server.disk_book.book.server)
 
 module _ (written written' : Option (List ℕ)) (sink sink' : ℕ) where
   -- By whether the server stopped, and whether the count of faults of its disk rose: that the disk failed goes before all else. Nothing is
@@ -105,7 +105,7 @@ module _ {B : Type 0} where
 -- a seat of a book that opens with this server
 pub record ServingOpens {D : Type 0} (server : Server D) (view : View (ServerBook D) Turn Answer) : Type 0 where
   pub opening : ServerBook D
-  pub begins : opening.server.book.server ≡ server
+  pub begins : opening.server.disk_book.book.server ≡ server
   pub is : view.opening ≡ Some opening
 
 -- Of a net it is told how many links it accepted, what their peers send, if links of its kind tell that, and of two of its states what is
@@ -131,14 +131,14 @@ module _ {D N : Type 0} (told : Type 0) (seen : D → List ℕ) (may_leave : D �
     pub accepted : AreAccepted (serving_accepted bound) links_served halt (links net) (links net')
     pub served : AreServedBy (over net net') links_served view ends
     pub closes : Closes (server_steps told seen may_leave faults) view last
-    pub disk_is : disk' ≡ Some (disk_of last.server.book.server)
-    pub rose : (has_stopped last && has_risen before (faults (disk_of last.server.book.server))) ≡ true
-        → Rose before (faults (disk_of last.server.book.server))
+    pub disk_is : disk' ≡ Some (disk_of last.server.disk_book.book.server)
+    pub rose : (has_stopped last && has_risen before (faults (disk_of last.server.disk_book.book.server))) ≡ true
+        → Rose before (faults (disk_of last.server.disk_book.book.server))
     pub counted : ending ≡ Done → AllEnded bound ends (links net) (links net')
-    pub goes_on : ending ≡ Done → stopped_of last.server.book.server ≡ None
+    pub goes_on : ending ≡ Done → stopped_of last.server.disk_book.book.server ≡ None
     pub whole : WasServedWhole told seen may_leave faults (over net net') links_served opens.opening from ends last
     pub tells : Behind written written' sink sink' bound halt ends (has_stopped last)
-        (has_risen before (faults (disk_of last.server.book.server))) ending
+        (has_risen before (faults (disk_of last.server.disk_book.book.server))) ending
 
   -- a net listens
   abbrev pub ServesOn : ℕ → Option Bound → Server D → Stand → (written written' : Option (List ℕ)) → (sink sink' : ℕ) → (net net' : N)

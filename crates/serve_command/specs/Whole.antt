@@ -132,15 +132,15 @@ module _ {D : Type 0} (told : Type 0) (seen : D → List ℕ) (may_leave : D →
   -- there: a reply that stands in the history stands on the disk.
   pub record OnDisk (book : ServerBook D) (s : Stand) : Type 0 where
     pub base : List SnapshotPiece
-    pub holds : HoldsServerOver told seen may_leave base book.server.book.server s.server s.logons s.records
-    pub goes_on : stopped_of book.server.book.server ≡ None
-    pub disk : told → DiskStands (disk_of book.server.book.server) base s.records
+    pub holds : HoldsServerOver told seen may_leave base book.server.disk_book.book.server s.server s.logons s.records
+    pub goes_on : stopped_of book.server.disk_book.book.server ≡ None
+    pub disk : told → DiskStands (disk_of book.server.disk_book.book.server) base s.records
 
 module _ {D : Type 0} (told : Type 0) (seen : D → List ℕ) (may_leave : D → List ℕ → Type 0) (faults : D → ℕ) where
   -- a server stops at its disk's own count of faults
   abbrev pub OnDiskAt : ServerBook D → Standing → Type 0
   OnDiskAt book (On s) = OnDisk told seen may_leave book s
-  OnDiskAt book (Off count) = (stopped_of book.server.book.server ≡ Some count) × (count ≡ faults (disk_of book.server.book.server))
+  OnDiskAt book (Off count) = (stopped_of book.server.disk_book.book.server ≡ Some count) × (count ≡ faults (disk_of book.server.disk_book.book.server))
 
   -- The server at each place of the history, from the one that began to the one that was there in the end. Each step is the event's at its
   -- place, with its reply. At each place where the server goes on its disk, if it tells its bytes, stands for the records up to there; at
@@ -153,7 +153,7 @@ module _ {D : Type 0} (told : Type 0) (seen : D → List ℕ) (may_leave : D →
         → server_steps told seen may_leave faults (books i) e.event e.reply (books (i + 1))
     pub stands : (i : ℕ) → i ≤ length log → OnDiskAt (books i) (h.found i)
     pub rose : (i : ℕ) (s : Stand) (count : ℕ) → i < length log → h.found i ≡ On s → h.found (i + 1) ≡ Off count
-        → Rose (faults (disk_of (books i).server.book.server)) count
+        → Rose (faults (disk_of (books i).server.disk_book.book.server)) count
 
   -- whoever is told that the server stopped is told the count of faults that its disk has in the end
   abbrev pub StopsAreTold : ServerBook D → List EndedConnection → Type 0
@@ -175,8 +175,8 @@ module _ {D : Type 0} (told : Type 0) (seen : D → List ℕ) (may_leave : D →
     pub to : Standing
     pub connections : List EndedConnection
     pub replays : Replays (server_steps told seen may_leave faults) opening log last
-    pub runs : RunsBy (settings_of opening.server.book.server) (On from) log h to
-    pub each : AllServed (settings_of opening.server.book.server) h log connections
+    pub runs : RunsBy (settings_of opening.server.disk_book.book.server) (On from) log h to
+    pub each : AllServed (settings_of opening.server.disk_book.book.server) h log connections
     pub passed : AllPassed over connections
     pub as_many : length connections ≡ count
     pub apart : AreApart connections

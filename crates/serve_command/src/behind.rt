@@ -4,9 +4,10 @@ ghost use Rattle.server_core.specs.Shown.{disk_of};
 ghost use Rattle.serve_command.specs.Serving.{Behind, has_risen, has_stopped};
 
 use crate::ending::Ending;
+use crate::lasting_book::LastingBook;
 use crate::lines::ended;
 use crate::server_settings::Bound;
-use base_outside::{Disk, Sink};
+use base_outside::{Renewal, Sink};
 use serve_turns::{Ended, EventBook, Halt};
 use server_core::{Book, DiskBook};
 use std::alloc::Global;
@@ -27,13 +28,14 @@ fn has_risen(before: u64, after: u64) -> bool
 }
 
 /// What is left of a server, whose disk had failed so often before.
-pub(crate) fn left_of<D: Disk>(last: EventBook<DiskBook<D>>, before: u64) -> Left<D>
+pub(crate) fn left_of<D: Renewal>(last: EventBook<LastingBook<D>>, before: u64) -> Left<D>
     ensures stopped { result.stopped ≡ has_stopped last }
-    ensures risen { result.risen ≡ has_risen before (D.faults (disk_of last.server.book.server)) }
-    ensures disk { result.disk ≡ disk_of last.server.book.server }
+    ensures risen { result.risen ≡ has_risen before (D.faults (disk_of last.server.disk_book.book.server)) }
+    ensures disk { result.disk ≡ disk_of last.server.disk_book.book.server }
 {
     let EventBook { alloc: _, server } = last;
-    let DiskBook { book } = server;
+    let LastingBook { disk_book, .. } = server;
+    let DiskBook { book } = disk_book;
     let Book { alloc: _, server } = book;
     let stopped = server.stopped().is_some();
     let disk = server.stop();

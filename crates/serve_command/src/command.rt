@@ -15,13 +15,14 @@ ghost use Rattle.serve_command.specs.Serving.{serving_accepted, serving_listed};
 
 use crate::behind::{Left, behind, left_of};
 use crate::ending::Ending;
+use crate::lasting_book::LastingBook;
 use crate::opening::{settled, unbegun};
 use crate::server_settings::{Bound, Said, Setup};
-use base_outside::{Clock, Disk, Failed, Net, Sink, Source};
+use base_outside::{Clock, Failed, Net, Renewal, Sink, Source};
 use journal::RefusedStart;
 use rand_core::Rng;
 use serve_turns::{BookSeat, Connections, Ended, EventBook, Roll, Served, SharedBook, serve_links};
-use server_core::{Book, DiskBook, Server};
+use server_core::Server;
 use std::alloc::{AllocError, Global};
 use std::sync::{Mutex, Wait};
 use std::thread::Threads;
@@ -33,7 +34,7 @@ const GUID: [u8; 16] = *b"smb311-server-01";
 const LINKS_OF_OWN_NUMBER: usize = 4_294_967_295;
 
 /// A server on a disk whose connections take turns.
-type ServerBook<D> = EventBook<DiskBook<D>>;
+type ServerBook<D> = EventBook<LastingBook<D>>;
 
 /// How the command ended, with the net, and the disk where it was not given up.
 #[derive(Drop)]
@@ -62,7 +63,7 @@ where
     W: Wait + Threads + Sync,
     S: Source,
     O: Sink,
-    D: Disk + Drop + Send,
+    D: Renewal + Drop + Send,
     N: Net + Drop,
     C: Clock + Drop + Send,
     R: Rng + Drop + Send,
@@ -97,7 +98,7 @@ pub fn serve_with<W, O, D, N, C, R>(
 where
     W: Wait + Threads + Sync,
     O: Sink,
-    D: Disk + Drop + Send,
+    D: Renewal + Drop + Send,
     N: Net + Drop,
     C: Clock + Drop + Send,
     R: Rng + Drop + Send,
@@ -132,19 +133,17 @@ fn none_ended(alloc: Global, count: usize) -> Result<Vec<Option<Ended>>, AllocEr
     vec![in alloc; None; count]
 }
 
-fn first_book<D: Disk>(alloc: Global, server: Server<D>) -> ServerBook<D>
-    ensures { result.server.book.server ≡ server }
+fn first_book<D: Renewal>(alloc: Global, server: Server<D>) -> ServerBook<D>
+    ensures { result.server.disk_book.book.server ≡ server }
 {
     EventBook {
         alloc,
-        server: DiskBook {
-            book: Book { alloc, server },
-        },
+        server: LastingBook::new(alloc, server),
     }
 }
 
 /// The book at the seat's turn, which is passed to nobody.
-fn closed<W: Wait, D: Disk>(
+fn closed<W: Wait, D: Renewal>(
     rt: &W,
     book: SharedBook<ServerBook<D>>,
     seat: BookSeat<ServerBook<D>>,
@@ -156,7 +155,7 @@ fn closed<W: Wait, D: Disk>(
 }
 
 /// A book on a server, and no connection of such a net served yet, with room for how so many ended.
-fn opened<D: Disk + Drop, N: Net>(
+fn opened<D: Renewal + Drop, N: Net>(
     alloc: Global,
     server: Server<D>,
     count: usize,
@@ -209,7 +208,7 @@ fn serve_at<W, O, D, N, C, R>(
 where
     W: Wait + Threads + Sync,
     O: Sink,
-    D: Disk + Drop + Send,
+    D: Renewal + Drop + Send,
     N: Net + Drop,
     C: Clock + Drop + Send,
     R: Rng + Drop + Send,
@@ -248,7 +247,7 @@ fn serve_on<W, O, D, N, C, R>(
 where
     W: Wait + Threads + Sync,
     O: Sink,
-    D: Disk + Drop + Send,
+    D: Renewal + Drop + Send,
     N: Net + Drop,
     C: Clock + Drop + Send,
     R: Rng + Drop + Send,
@@ -289,7 +288,7 @@ fn serve_book<W, O, D, N, C, R>(
 where
     W: Wait + Threads + Sync,
     O: Sink,
-    D: Disk + Drop + Send,
+    D: Renewal + Drop + Send,
     N: Net + Drop,
     C: Clock + Drop + Send,
     R: Rng + Drop + Send,

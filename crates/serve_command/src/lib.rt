@@ -9,6 +9,7 @@ mod behind;
 mod command;
 mod due;
 mod ending;
+mod lasting_book;
 mod lines;
 mod opening;
 mod printing;

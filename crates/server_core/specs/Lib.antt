@@ -16,3 +16,4 @@ pub mod Shown
 pub mod event_replies
 pub mod disk_server
 pub mod snapshot_writing
+pub mod compaction

@@ -1,6 +1,8 @@
 -- A server as its callers' clauses speak of it: what it holds, its configuration, its journal with the disk, and where it stopped.
-use Rattle.std.specs.Prelude.{ℕ, List, Option}
+use Rattle.std.specs.Prelude.{ℕ, Bool, true, false, List, Option}
 use Rattle.spec_exchange.specs.State as model
+use Rattle.spec_journal.specs.declared.form.Form.{Form}
+use Rattle.spec_journal.specs.declared.form.Form.TheVariants.{Plain, Summed}
 use Rattle.law_snapshots.specs.snapshots.Pieces.{SnapshotPiece}
 use Rattle.journal.specs.disk_journal.Journal.{JournalState}
 use Rattle.server_checks.specs.declared.tables.Config.{Config}
@@ -17,6 +19,11 @@ journal_of x = x.state.journal
 
 abbrev pub disk_of : {D : Type 0} → Server D → D
 disk_of x = x.state.journal.disk
+
+-- entries without checksums
+abbrev pub is_plain : Form → Bool
+is_plain Plain = true
+is_plain Summed = false
 
 abbrev pub config_of : {D : Type 0} → Server D → Config
 config_of x = x.state.tables.config

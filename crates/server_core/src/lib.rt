@@ -6,6 +6,8 @@
 mod behind_expiry;
 mod body_writing;
 mod commit_event;
+mod compaction;
+mod compaction_crash;
 mod crash;
 mod disk_server;
 mod durable_state;
@@ -31,6 +33,7 @@ mod snapshot_writing;
 mod standing;
 mod start_law;
 
+pub use compaction_crash::compacted_law;
 pub use crash::crash_law;
 pub use disk_server::{Book, DiskBook};
 pub use journaled_tables::ServerState;

@@ -18,16 +18,19 @@ ghost use Rattle.server_checks.specs.declared.setups.error.EventError.TheVariant
 ghost use Rattle.server_core.specs.restart_tables.Restart.{RestartLeaves, StartRefused};
 ghost use Rattle.spec_world.specs.Ends.{Logons};
 
+use crate::compaction::compact_state;
 use crate::event_step::answer_event;
 use crate::journaled_tables::ServerState;
 use crate::server_start::recover_state;
 use crate::signing::signer_of;
+use crate::snapshot_writing::snapshot_size;
 use crate::standing::standing_of;
-use base_outside::{Disk, Standing};
+use base_outside::{Disk, Renewal, Standing};
 use journal::RefusedStart;
 use server_checks::{Config, EventError, ServerEvent, Tables};
 use server_effects::Answer;
 use spec_crypto::Signer;
+use spec_journal::Form;
 use std::alloc::{AllocError, Global};
 use store_files::StoredFile;
 
@@ -38,7 +41,7 @@ pub struct Server<D: Disk> {
 }
 
 impl<D: Disk> Server<D> {
-    ghost use Rattle.server_core.specs.Shown.{HoldsServerOver, config_of, disk_of, state_of, stopped_of};
+    ghost use Rattle.server_core.specs.Shown.{HoldsServerOver, config_of, disk_of, is_plain, journal_of, state_of, stopped_of};
 
     /// A server on the disk that an earlier one left, or on an empty one: it holds what the journal's records stand for, under the
     /// next epoch, which goes into the journal.
@@ -143,6 +146,28 @@ impl<D: Disk> Server<D> {
         (tree.count() as u64, tree.held())
     }
 
+    /// How many bytes its journal uses, but for checksums.
+    pub fn used(&self) -> u64
+        ensures { result ≡ (journal_of self.now).used }
+    {
+        self.state.journal.used()
+    }
+
+    /// About how many bytes a snapshot of it would take. No contract rests on it.
+    pub fn snapshot_size(&self) -> u64 {
+        snapshot_size(&self.state.tables.tree, &self.state.tables.opens)
+    }
+
+    /// Whether the journal's entries have no checksums, as those of earlier programs.
+    pub fn is_first_form(&self) -> bool
+        ensures { result ≡ is_plain (journal_of self.now).form }
+    {
+        match self.state.journal.form() {
+            Form::Plain => true,
+            Form::Summed => false,
+        }
+    }
+
     /// Hands back the disk.
     pub fn stop(self) -> D
         ensures { result ≡ disk_of self }
@@ -150,5 +175,34 @@ impl<D: Disk> Server<D> {
         let Server { state } = self;
         let ServerState { journal, .. } = state;
         journal.stop()
+    }
+}
+
+impl<D: Renewal> Server<D> {
+    ghost use Rattle.server_core.specs.Shown.{HoldsServerOver, config_of, disk_of, state_of, stopped_of};
+    ghost use Rattle.server_core.specs.compaction.Compacts.{CompactionHalts, CompactionLeaves, Compacts};
+
+    /// Writes the journal anew, with checksums, as a snapshot of what the server holds: in a draft beside the disk, which then takes its
+    /// place. `true` where that was done: the state is as before but for the bytes that the journal uses, and the disk stands for it by
+    /// the snapshot alone. `false` where memory ran out or the disk has no room for the draft: all goes on as before. A crash at any
+    /// moment leaves what stood for the server before, or a snapshot that stands for it.
+    ///
+    /// `DiskFault` comes only where the disk's count of faults rose, and carries it: the tables are as before, but which of both the disk
+    /// has isn't known, and each later call answers `Stopped` with that count and changes nothing. `Memory` never comes.
+    pub fn compact(&mut self) -> Result<bool, EventError>
+        ensures compacts { (base : List SnapshotPiece) (s : model.Server) (L : Logons) (records : List model.Record)
+            → HoldsServerOver D.told D.seen D.may_leave base self.old s L records
+            → Compacts D.told D.seen D.may_leave D.faults base (state_of self.old) (state_of self.new) s L records result }
+        ensures any_moment { D.told
+            → (base : List SnapshotPiece) (s : model.Server) (L : Logons) (records : List model.Record) (bodies : List (List ℕ))
+            → HoldsServerOver D.told D.seen D.may_leave base self.old s L records
+            → JournaledGoesOn D.seen D.may_leave base (state_of self.old) s records bodies
+            → LeavesOnly D.moment D.left_since (disk_of self.old) (disk_of self.new) (CompactionLeaves s bodies) }
+        ensures stopped { (count : ℕ) → stopped_of self.old ≡ Some count
+            → (result ≡ Err (errors.Stopped count)) × (self.new ≡ self.old) }
+        ensures config { config_of self.new ≡ config_of self.old }
+        ensures halts { CompactionHalts (stopped_of self.old) (stopped_of self.new) result }
+    {
+        compact_state(&mut self.state)
     }
 }

@@ -487,6 +487,13 @@ impl<D: Disk> Journal<D> {
         self.used
     }
 
+    /// How its entries stand on the disk, with checksums or without.
+    pub fn form(&self) -> Form
+        ensures { result ≡ self.now.form }
+    {
+        self.form
+    }
+
     /// Where the gate stands of the body that `next_body` hands out next; where all were, that of the closed one behind the last.
     pub fn next_gate(&self) -> u64
         ensures { result ≡ self.now.next }

@@ -64,42 +64,42 @@ none_filled : all_filled [] ≡ true
 unfolding all_filled
 none_filled = refl
 
-module _ {D : Type 0} (drafted : D → List ℕ) where
+module _ {D : Type 0} (knows : Type 0) (drafted : D → List ℕ) where
   pub parts_begun : (disk : D) (w : RewriteState) (body : List ℕ) (s : Server) (f : ℕ) (ps : List SnapshotPiece)
-      → IsTold drafted disk w body ps → PartsSoFar drafted disk w body s f ps 0
+      → IsTold knows drafted disk w body ps → PartsSoFar knows drafted disk w body s f ps 0
   parts_begun disk w body s f ps h = (
     [],
     none_patched (ended (length (s.content f)) []),
     none_filled,
-    subst (λ l. IsTold drafted disk w body l) (sym (ap (λ l. ps ++ l) (none_told f) ∙ append-nil ps)) h,
+    subst (λ l. IsTold knows drafted disk w body l) (sym (ap (λ l. ps ++ l) (none_told f) ∙ append-nil ps)) h,
   )
 
   pub parts_on : (disk disk2 : D) (w v : RewriteState) (body new : List ℕ) (s : Server) (f : ℕ) (ps : List SnapshotPiece)
       (at most place next : ℕ) (bytes : List ℕ) → IsFilePart (s.content f) at most place bytes → next ≡ place + length bytes
-      → (h : PartsSoFar drafted disk w body s f ps at)
-      → IsTold drafted disk2 v new ((ps ++ bytes_pieces f h.0) ++ BytesPiece f place bytes ∷ [])
-      → PartsSoFar drafted disk2 v new s f ps next
+      → (h : PartsSoFar knows drafted disk w body s f ps at)
+      → IsTold knows drafted disk2 v new ((ps ++ bytes_pieces f h.0) ++ BytesPiece f place bytes ∷ [])
+      → PartsSoFar knows drafted disk2 v new s f ps next
   parts_on disk disk2 w v body new s f ps at most place next bytes part e h told =
       let p : Patch = record { at = place; bytes = bytes } in (
         h.0 ++ p ∷ [],
         patched_end h.0 p (ended (length (s.content f)) []) ∙ (ap (written place bytes) h.1
             ∙ (part.told ∙ ap (λ n. up_to n (s.content f)) (sym e))),
         filled_end h.0 p h.2 (some_bytes bytes part.some),
-        subst (λ l. IsTold drafted disk2 v new l) (append_assoc ps (bytes_pieces f h.0) (BytesPiece f place bytes ∷ [])
+        subst (λ l. IsTold knows drafted disk2 v new l) (append_assoc ps (bytes_pieces f h.0) (BytesPiece f place bytes ∷ [])
             ∙ ap (λ l. ps ++ l) (sym (pieces_end f h.0 p))) told,
       )
 
   pub parts_end : (disk : D) (w : RewriteState) (body : List ℕ) (s : Server) (f : ℕ) (ps : List SnapshotPiece) (at : ℕ)
-      → up_to at (s.content f) ≡ s.content f → PartsSoFar drafted disk w body s f ps at → PartsTold drafted disk w body s f ps
+      → up_to at (s.content f) ≡ s.content f → PartsSoFar knows drafted disk w body s f ps at → PartsTold knows drafted disk w body s f ps
   parts_end disk w body s f ps at e h = (h.0, record { whole = h.1 ∙ e; filled = h.2 }, h.3)
 
   -- the file before its parts
   pub file_on : (disk : D) (w : RewriteState) (body : List ℕ) (s : Server) (f : ℕ) (ps : List SnapshotPiece)
-      → PartsTold drafted disk w body s f (ps ++ front_piece s f ∷ []) → FileTold drafted disk w body s f ps
+      → PartsTold knows drafted disk w body s f (ps ++ front_piece s f ∷ []) → FileTold knows drafted disk w body s f ps
   file_on disk w body s f ps h = (
     h.0,
     h.1,
-    subst (λ l. IsTold drafted disk w body l) (append_assoc ps (front_piece s f ∷ []) (bytes_pieces f h.0)) h.2,
+    subst (λ l. IsTold knows drafted disk w body l) (append_assoc ps (front_piece s f ∷ []) (bytes_pieces f h.0)) h.2,
   )
 
 get_up_to : (at : ℕ) (c : List ℕ) (k : ℕ) → get_or (up_to at c) k 0 ≡ (if nat_lt k at then get_or c k 0 else 0)
@@ -268,11 +268,11 @@ held_more P held fs f x n old new g h = by (f == g) refl (sym (has_end fs f g) �
         subst (λ k. P k (put held f x k)) z (subst (λ (y : FileBytes). P f y) (sym (put_here held f x)) new)
     by false e t = subst (λ (y : FileBytes). P g y) (sym (put_other held f g x fs n t)) (old g t)
 
-module _ {D : Type 0} (drafted : D → List ℕ) where
+module _ {D : Type 0} (knows : Type 0) (drafted : D → List ℕ) where
   pub files_on : (disk disk2 : D) (w v : RewriteState) (body new : List ℕ) (s : Server) (fs : List ℕ) (f : ℕ) (ps : List SnapshotPiece)
-      → has f fs ≡ false → (h : FilesTold drafted disk w body s fs ps)
-      → FileTold drafted disk2 v new s f (ps ++ file_pieces s h.0 (numbered_entries s fs))
-      → FilesTold drafted disk2 v new s (fs ++ f ∷ []) ps
+      → has f fs ≡ false → (h : FilesTold knows drafted disk w body s fs ps)
+      → FileTold knows drafted disk2 v new s f (ps ++ file_pieces s h.0 (numbered_entries s fs))
+      → FilesTold knows drafted disk2 v new s (fs ++ f ∷ []) ps
   files_on disk disk2 w v body new s fs f ps n h one =
       let x : FileBytes = record { stored = 0; patches = one.0 } in
       let held = put h.0 f x in
@@ -289,15 +289,15 @@ module _ {D : Type 0} (drafted : D → List ℕ) where
           stored = held_more (λ g y. y.stored ≡ 0) h.0 fs f x n h.1.stored refl;
           patches = held_more (λ g y. ArePatchesOf s g y.patches) h.0 fs f x n h.1.patches one.1;
         },
-        subst (λ l. IsTold drafted disk2 v new l) (append_assoc ps (file_pieces s h.0 (numbered_entries s fs))
+        subst (λ l. IsTold knows drafted disk2 v new l) (append_assoc ps (file_pieces s h.0 (numbered_entries s fs))
             (front_piece s f ∷ bytes_pieces f one.0) ∙ ap (λ l. ps ++ l) (sym told)) one.2,
       )
 
-  pub files_begun : (disk : D) (w : RewriteState) (body : List ℕ) (s : Server) (ps : List SnapshotPiece) → IsTold drafted disk w body ps
-      → FilesTold drafted disk w body s [] ps
+  pub files_begun : (disk : D) (w : RewriteState) (body : List ℕ) (s : Server) (ps : List SnapshotPiece) → IsTold knows drafted disk w body ps
+      → FilesTold knows drafted disk w body s [] ps
   unfolding file_pieces numbered_entries
   files_begun disk w body s ps h = (
     λ f. record { stored = 0; patches = [] },
     record { stored = λ f i. refl; patches = λ f i. absurd (cc) },
-    subst (λ l. IsTold drafted disk w body l) (sym (append-nil ps)) h,
+    subst (λ l. IsTold knows drafted disk w body l) (sym (append-nil ps)) h,
   )

@@ -28,9 +28,9 @@ spelling_more [] p = append-nil (piece_spelling p)
 spelling_more (q ∷ qs) p = ap (λ (l : List ℕ). piece_spelling q ++ l) (spelling_more qs p)
     ∙ sym (append_assoc (piece_spelling q) (pieces_spelling qs) (piece_spelling p))
 
-pub told_more : {D : Type 0} (drafted : D → List ℕ) (disk : D) (w : RewriteState) (old new : List ℕ) (ps : List SnapshotPiece)
-    (p : SnapshotPiece) → IsPut old p new → IsTold drafted disk w old ps → IsTold drafted disk w new (ps ++ p ∷ [])
-told_more drafted disk w old new ps p put h = record {
+pub told_more : {D : Type 0} (knows : Type 0) (drafted : D → List ℕ) (disk : D) (w : RewriteState) (old new : List ℕ) (ps : List SnapshotPiece)
+    (p : SnapshotPiece) → IsPut old p new → IsTold knows drafted disk w old ps → IsTold knows drafted disk w new (ps ++ p ∷ [])
+told_more knows drafted disk w old new ps p put h = record {
   bodies = h.bodies;
   front = h.front;
   last = h.last ++ p ∷ [];
@@ -59,16 +59,16 @@ filled_body : (b : List ℕ) (ps : List SnapshotPiece) → 0 < length b → b �
 filled_body b [] l e h = absurd (let x = ap length e in omega (arith, x, l))
 filled_body b (p ∷ ps) l e h = h
 
-pub told_put : {D : Type 0} (drafted : D → List ℕ) (disk disk2 : D) (w v : RewriteState) (body : List ℕ) (ps : List SnapshotPiece)
+pub told_put : {D : Type 0} (knows : Type 0) (drafted : D → List ℕ) (disk disk2 : D) (w v : RewriteState) (body : List ℕ) (ps : List SnapshotPiece)
     → ((qs : List SnapshotPiece) → AreWritablePieces qs → SpellsPieces (pieces_spelling qs) qs)
-    → ((bodies : List (List ℕ)) → IsDrafted drafted disk w bodies → IsDrafted drafted disk2 v (bodies ++ body ∷ []))
-    → 0 < length body → IsTold drafted disk w body ps → IsTold drafted disk2 v [] ps
-told_put drafted disk disk2 w v body ps again put l h = record {
+    → (knows → (bodies : List (List ℕ)) → IsDrafted drafted disk w bodies → IsDrafted drafted disk2 v (bodies ++ body ∷ []))
+    → 0 < length body → IsTold knows drafted disk w body ps → IsTold knows drafted disk2 v [] ps
+told_put knows drafted disk disk2 w v body ps again put l h = record {
   bodies = h.bodies ++ body ∷ [];
   front = h.front ++ h.last;
   last = [];
   all = h.all ∙ sym (append-nil (h.front ++ h.last));
-  draft = put h.bodies h.draft;
+  draft = λ k. put k h.bodies (h.draft k);
   bodies_are = bodies_more h.bodies body h.front h.last h.bodies_are
       (filled_body body h.last l h.body_is (subst (λ b. SpellsPieces b h.last) (sym h.body_is) (again h.last h.writable)));
   body_is = refl;

@@ -21,15 +21,15 @@ use Rattle.store_opens.specs.open_table.Shown.{ShowsOpens}
 use Rattle.law_snapshots.specs.snapshots.Taken.{numbered_entries}
 use Rattle.server_core.specs.snapshot_writing.Told.{IsTold}
 
-module _ {D : Type 0} (drafted : D → List ℕ) (disk : D) (w : RewriteState) (body : List ℕ) where
-  pub told_joined : (ps a b c : List SnapshotPiece) → c ≡ a ++ b → IsTold drafted disk w body ((ps ++ a) ++ b) → IsTold drafted disk w body (ps ++ c)
-  told_joined ps a b c e h = subst (λ l. IsTold drafted disk w body l) (append_assoc ps a b ∙ ap (λ l. ps ++ l) (sym e)) h
+module _ {D : Type 0} (knows : Type 0) (drafted : D → List ℕ) (disk : D) (w : RewriteState) (body : List ℕ) where
+  pub told_joined : (ps a b c : List SnapshotPiece) → c ≡ a ++ b → IsTold knows drafted disk w body ((ps ++ a) ++ b) → IsTold knows drafted disk w body (ps ++ c)
+  told_joined ps a b c e h = subst (λ l. IsTold knows drafted disk w body l) (append_assoc ps a b ∙ ap (λ l. ps ++ l) (sym e)) h
 
-  pub told_same : (ps a b : List SnapshotPiece) → a ≡ b → IsTold drafted disk w body (ps ++ a) → IsTold drafted disk w body (ps ++ b)
-  told_same ps a b e h = subst (λ l. IsTold drafted disk w body (ps ++ l)) e h
+  pub told_same : (ps a b : List SnapshotPiece) → a ≡ b → IsTold knows drafted disk w body (ps ++ a) → IsTold knows drafted disk w body (ps ++ b)
+  told_same ps a b e h = subst (λ l. IsTold knows drafted disk w body (ps ++ l)) e h
 
-  pub told_none : (ps a : List SnapshotPiece) → a ≡ [] → IsTold drafted disk w body ps → IsTold drafted disk w body (ps ++ a)
-  told_none ps a e h = subst (λ l. IsTold drafted disk w body l) (sym (ap (λ l. ps ++ l) e ∙ append-nil ps)) h
+  pub told_none : (ps a : List SnapshotPiece) → a ≡ [] → IsTold knows drafted disk w body ps → IsTold knows drafted disk w body (ps ++ a)
+  told_none ps a e h = subst (λ l. IsTold knows drafted disk w body l) (sym (ap (λ l. ps ++ l) e ∙ append-nil ps)) h
 
 -- ---- opens
 
@@ -83,29 +83,29 @@ slot_some o n None x e = absurd (cc)
 slot_some o n (Some k) x e = let same : x ≡ k = cc in ap (λ (y : Kept). SlotPiece o n y.number y.status ∷ []) same
 
 -- slots down to this one are told
-abbrev pub SlotsSoFar : {D : Type 0} → (D → List ℕ) → D → RewriteState → List ℕ → (ℕ → Option Kept) → ℕ → List SnapshotPiece → ℕ → Type 0
-SlotsSoFar drafted disk w body kept o ps n = (done : List SnapshotPiece) × (done ++ slot_pieces kept o n ≡ slot_pieces kept o 64)
-    × IsTold drafted disk w body (ps ++ done)
+abbrev pub SlotsSoFar : {D : Type 0} → Type 0 → (D → List ℕ) → D → RewriteState → List ℕ → (ℕ → Option Kept) → ℕ → List SnapshotPiece → ℕ → Type 0
+SlotsSoFar knows drafted disk w body kept o ps n = (done : List SnapshotPiece) × (done ++ slot_pieces kept o n ≡ slot_pieces kept o 64)
+    × IsTold knows drafted disk w body (ps ++ done)
 
-module _ {D : Type 0} (drafted : D → List ℕ) where
+module _ {D : Type 0} (knows : Type 0) (drafted : D → List ℕ) where
   pub slots_begun : (disk : D) (w : RewriteState) (body : List ℕ) (kept : ℕ → Option Kept) (o : ℕ) (ps : List SnapshotPiece)
-      → IsTold drafted disk w body ps → SlotsSoFar drafted disk w body kept o ps 64
-  slots_begun disk w body kept o ps h = ([], refl, told_none drafted disk w body ps [] refl h)
+      → IsTold knows drafted disk w body ps → SlotsSoFar knows drafted disk w body kept o ps 64
+  slots_begun disk w body kept o ps h = ([], refl, told_none knows drafted disk w body ps [] refl h)
 
   pub slots_on : (disk disk2 : D) (w v : RewriteState) (body new : List ℕ) (kept : ℕ → Option Kept) (o : ℕ) (ps : List SnapshotPiece)
-      (n m : ℕ) → 0 < n → m ≡ n - 1 → (h : SlotsSoFar drafted disk w body kept o ps n)
-      → IsTold drafted disk2 v new ((ps ++ h.0) ++ slot_piece o n (kept n)) → SlotsSoFar drafted disk2 v new kept o ps m
+      (n m : ℕ) → 0 < n → m ≡ n - 1 → (h : SlotsSoFar knows drafted disk w body kept o ps n)
+      → IsTold knows drafted disk2 v new ((ps ++ h.0) ++ slot_piece o n (kept n)) → SlotsSoFar knows drafted disk2 v new kept o ps m
   slots_on disk disk2 w v body new kept o ps n m l e h told = (
     h.0 ++ slot_piece o n (kept n),
     append_assoc h.0 (slot_piece o n (kept n)) (slot_pieces kept o m)
         ∙ (ap (λ k. h.0 ++ (slot_piece o n (kept n) ++ slot_pieces kept o k)) e
         ∙ (ap (λ x. h.0 ++ x) (sym (slots_step kept o n l)) ∙ h.1)),
-    told_joined drafted disk2 v new ps h.0 (slot_piece o n (kept n)) (h.0 ++ slot_piece o n (kept n)) refl told,
+    told_joined knows drafted disk2 v new ps h.0 (slot_piece o n (kept n)) (h.0 ++ slot_piece o n (kept n)) refl told,
   )
 
   pub slots_end : (disk : D) (w : RewriteState) (body : List ℕ) (kept : ℕ → Option Kept) (o : ℕ) (ps : List SnapshotPiece) (n : ℕ)
-      → n ≡ 0 → SlotsSoFar drafted disk w body kept o ps n → IsTold drafted disk w body (ps ++ slot_pieces kept o 64)
-  slots_end disk w body kept o ps n e h = told_same drafted disk w body ps h.0 (slot_pieces kept o 64)
+      → n ≡ 0 → SlotsSoFar knows drafted disk w body kept o ps n → IsTold knows drafted disk w body (ps ++ slot_pieces kept o 64)
+  slots_end disk w body kept o ps n e h = told_same knows drafted disk w body ps h.0 (slot_pieces kept o 64)
       (sym (append-nil h.0) ∙ (ap (λ x. h.0 ++ x) (sym (slots_none kept o n e)) ∙ h.1)) h.2
 
 -- ---- ranges

@@ -1,5 +1,5 @@
 -- The whole of a snapshot under way.
-use Rattle.std.proofs.Common.{◌≡◌, ℕ, ◌<◌, ◌==◌, Bool, true, false, if◌then◌else◌, Result, Ok, Err}
+use Rattle.std.proofs.Common.{◌≡◌, ℕ, ◌<◌, ◌≤◌, ◌==◌, Bool, true, false, if◌then◌else◌, Result, Ok, Err}
 use Rattle.std.proofs.Common.{OnOk, List, [], ◌∷◌, ◌++◌, length, refl, sym, ap, subst, ◌∙◌, arith}
 use Rattle.std.proofs.lemmas.Bool.Decides.{nat_tests}
 use Rattle.std.proofs.lemmas.List.{append-nil}
@@ -56,6 +56,9 @@ kept_in opened o (x ∷ xs) h = by (opened x).persistent refl h (λ i. kept_in o
 pub kept_are : (s : Server) (ids : List ℕ) → ids ≡ persistent_in s.opened s.opens → ArePersistent s ids
 kept_are s ids e o h = kept_in s.opened o s.opens (ap (has o) (sym e) ∙ h)
 
+pub some_epoch : (e n : ℕ) → e ≡ n → (e == 0) ≡ false → 0 < n
+some_epoch e n same t = let z : 0 < e = grind (arith, nat_tests) in omega (arith, z, same)
+
 -- no bytes are no pieces
 some_size : (p : SnapshotPiece) → 0 < piece_size p
 unfolding piece_size
@@ -76,8 +79,8 @@ pub both_ok : {T E : Type 0} (r : Result T E) (P Q Z : Type 0) → (P → Q → 
 both_ok (Ok x) P Q Z f p q = f p q
 both_ok (Err e) P Q Z f p q = tt
 
-module _ {D : Type 0} (drafted : D → List ℕ) where
-  pub told_begun : (disk : D) (w : RewriteState) → IsDrafted drafted disk w [] → IsTold drafted disk w [] []
+module _ {D : Type 0} (knows : Type 0) (drafted : D → List ℕ) where
+  pub told_begun : (disk : D) (w : RewriteState) → (knows → IsDrafted drafted disk w []) → IsTold knows drafted disk w [] []
   told_begun disk w d = record {
     bodies = [];
     front = [];
@@ -91,22 +94,26 @@ module _ {D : Type 0} (drafted : D → List ℕ) where
 
   pub whole_is : (disk : D) (w : RewriteState) (body : List ℕ) (s : Server) (order : List ℕ) (ids : List ℕ) (guids : List (ℕ × ℕ))
       → ((ps : List SnapshotPiece) → AreWritablePieces ps → length (pieces_spelling ps) ≡ pieces_size ps)
-      → IsPathOrder order s → ids ≡ persistent_in s.opened s.opens → AreExpired guids s
-      → AllTold drafted disk w body s order ids guids [] → body ≡ [] → IsWholeSnapshot drafted disk w s
-  whole_is disk w body s order ids guids size ordered kept expired h none =
+      → IsPathOrder order s → ids ≡ persistent_in s.opened s.opens → AreExpired guids s → 0 < s.epoch → length guids ≤ 65536
+      → AllTold knows drafted disk w body s order ids guids [] → body ≡ [] → IsWholeSnapshot knows drafted disk w s
+  whole_is disk w body s order ids guids size ordered kept expired begun few h none =
       let t = h.2 in
       let last : t.last ≡ [] = none_left t.last (sym (size t.last t.writable) ∙ ap length (sym t.body_is ∙ none)) in
       record {
         bodies = t.bodies;
-        held = h.0;
-        guids = guids;
-        order = order;
         draft = t.draft;
-        pieces = subst (λ os. AreBodiesOf t.bodies (base_piece s ∷ (file_pieces s h.0 (numbered_entries s order)
-            ++ (open_pieces s os ++ (range_pieces (ranges_that_stay s (s.ranges root))
-            ++ (all_range_pieces s (numbered_entries s order) ++ guid_pieces guids)))))) kept
-            (subst (λ l. AreBodiesOf t.bodies l) (sym (t.all ∙ (ap (λ l. t.front ++ l) last ∙ append-nil t.front))) t.bodies_are);
-        tells = h.1;
-        ordered = ordered;
-        expired = expired;
+        snapshot = record {
+          held = h.0;
+          guids = guids;
+          order = order;
+          pieces = subst (λ os. AreBodiesOf t.bodies (base_piece s ∷ (file_pieces s h.0 (numbered_entries s order)
+              ++ (open_pieces s os ++ (range_pieces (ranges_that_stay s (s.ranges root))
+              ++ (all_range_pieces s (numbered_entries s order) ++ guid_pieces guids)))))) kept
+              (subst (λ l. AreBodiesOf t.bodies l) (sym (t.all ∙ (ap (λ l. t.front ++ l) last ∙ append-nil t.front))) t.bodies_are);
+          tells = h.1;
+          ordered = ordered;
+          expired = expired;
+          begun = begun;
+          few = few;
+        };
       }

@@ -28,20 +28,20 @@ pub record ArePatchesOf (s : Server) (f : ℕ) (patches : List Patch) : Type 0 w
   pub filled : all_filled patches ≡ true
 
 -- the bytes of a file up to a place are told behind these pieces
-abbrev pub PartsSoFar : {D : Type 0} → (D → List ℕ) → D → RewriteState → List ℕ → Server → ℕ → List SnapshotPiece → ℕ → Type 0
-PartsSoFar drafted disk w body s f ps at = (patches : List Patch)
+abbrev pub PartsSoFar : {D : Type 0} → Type 0 → (D → List ℕ) → D → RewriteState → List ℕ → Server → ℕ → List SnapshotPiece → ℕ → Type 0
+PartsSoFar told drafted disk w body s f ps at = (patches : List Patch)
     × (patched patches (ended (length (s.content f)) []) ≡ up_to at (s.content f)) × (all_filled patches ≡ true)
-    × IsTold drafted disk w body (ps ++ bytes_pieces f patches)
+    × IsTold told drafted disk w body (ps ++ bytes_pieces f patches)
 
 -- all of them are
-abbrev pub PartsTold : {D : Type 0} → (D → List ℕ) → D → RewriteState → List ℕ → Server → ℕ → List SnapshotPiece → Type 0
-PartsTold drafted disk w body s f ps = (patches : List Patch) × ArePatchesOf s f patches
-    × IsTold drafted disk w body (ps ++ bytes_pieces f patches)
+abbrev pub PartsTold : {D : Type 0} → Type 0 → (D → List ℕ) → D → RewriteState → List ℕ → Server → ℕ → List SnapshotPiece → Type 0
+PartsTold told drafted disk w body s f ps = (patches : List Patch) × ArePatchesOf s f patches
+    × IsTold told drafted disk w body (ps ++ bytes_pieces f patches)
 
 -- and the file before them
-abbrev pub FileTold : {D : Type 0} → (D → List ℕ) → D → RewriteState → List ℕ → Server → ℕ → List SnapshotPiece → Type 0
-FileTold drafted disk w body s f ps = (patches : List Patch) × ArePatchesOf s f patches
-    × IsTold drafted disk w body (ps ++ front_piece s f ∷ bytes_pieces f patches)
+abbrev pub FileTold : {D : Type 0} → Type 0 → (D → List ℕ) → D → RewriteState → List ℕ → Server → ℕ → List SnapshotPiece → Type 0
+FileTold told drafted disk w body s f ps = (patches : List Patch) × ArePatchesOf s f patches
+    × IsTold told drafted disk w body (ps ++ front_piece s f ∷ bytes_pieces f patches)
 
 -- each number is a file's
 abbrev pub AreFilesOf : Server → List ℕ → Type 0
@@ -52,6 +52,6 @@ pub record TellsFiles (s : Server) (held : ℕ → FileBytes) (fs : List ℕ) : 
   pub stored : (f : ℕ) → has f fs ≡ true → (held f).stored ≡ 0
   pub patches : (f : ℕ) → has f fs ≡ true → ArePatchesOf s f (held f).patches
 
-abbrev pub FilesTold : {D : Type 0} → (D → List ℕ) → D → RewriteState → List ℕ → Server → List ℕ → List SnapshotPiece → Type 0
-FilesTold drafted disk w body s fs ps = (held : ℕ → FileBytes) × TellsFiles s held fs
-    × IsTold drafted disk w body (ps ++ file_pieces s held (numbered_entries s fs))
+abbrev pub FilesTold : {D : Type 0} → Type 0 → (D → List ℕ) → D → RewriteState → List ℕ → Server → List ℕ → List SnapshotPiece → Type 0
+FilesTold told drafted disk w body s fs ps = (held : ℕ → FileBytes) × TellsFiles s held fs
+    × IsTold told drafted disk w body (ps ++ file_pieces s held (numbered_entries s fs))

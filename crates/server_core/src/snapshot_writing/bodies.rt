@@ -54,8 +54,8 @@ fn put_gathered<D: Renewal>(
     body: &mut Vec<u8>,
 ) -> Result<(), Unwritten>
     requires { 0 < length body.old.items }
-    ensures told { D.told → (ps : List SnapshotPiece) → IsTold D.drafted journal.old.disk rewrite.old body.old.items ps
-        → OnOk result (IsTold D.drafted journal.new.disk rewrite.new body.new.items ps) }
+    ensures told { (ps : List SnapshotPiece) → IsTold D.told D.drafted journal.old.disk rewrite.old body.old.items ps
+        → OnOk result (IsTold D.told D.drafted journal.new.disk rewrite.new body.new.items ps) }
     ensures empty { OnOk result (body.new.items ≡ []) }
     ensures goes { DraftGoesOn D.told D.seen D.may_leave D.moment D.left_since D.faults journal.old journal.new result }
 {
@@ -75,8 +75,8 @@ pub fn pass_on<D: Renewal>(
     rewrite: &mut Rewrite,
     body: &mut Vec<u8>,
 ) -> Result<(), Unwritten>
-    ensures told { D.told → (ps : List SnapshotPiece) → IsTold D.drafted journal.old.disk rewrite.old body.old.items ps
-        → OnOk result (IsTold D.drafted journal.new.disk rewrite.new body.new.items ps) }
+    ensures told { (ps : List SnapshotPiece) → IsTold D.told D.drafted journal.old.disk rewrite.old body.old.items ps
+        → OnOk result (IsTold D.told D.drafted journal.new.disk rewrite.new body.new.items ps) }
     ensures goes { DraftGoesOn D.told D.seen D.may_leave D.moment D.left_since D.faults journal.old journal.new result }
 {
     if body.len() < ENOUGH {
@@ -91,8 +91,8 @@ pub fn put_rest<D: Renewal>(
     rewrite: &mut Rewrite,
     body: &mut Vec<u8>,
 ) -> Result<(), Unwritten>
-    ensures told { D.told → (ps : List SnapshotPiece) → IsTold D.drafted journal.old.disk rewrite.old body.old.items ps
-        → OnOk result (IsTold D.drafted journal.new.disk rewrite.new body.new.items ps) }
+    ensures told { (ps : List SnapshotPiece) → IsTold D.told D.drafted journal.old.disk rewrite.old body.old.items ps
+        → OnOk result (IsTold D.told D.drafted journal.new.disk rewrite.new body.new.items ps) }
     ensures empty { OnOk result (body.new.items ≡ []) }
     ensures goes { DraftGoesOn D.told D.seen D.may_leave D.moment D.left_since D.faults journal.old journal.new result }
 {

@@ -28,9 +28,9 @@ pub fn tell_files<D: Renewal>(
     tree: &Tree,
     order: &[u64],
 ) -> Result<(), Unwritten>
-    ensures told { D.told → (s : Server) (ps : List SnapshotPiece) → ShowsFiles tree.now s → AreFilesOf s order.now → Once order.now
-        → IsTold D.drafted journal.old.disk rewrite.old body.old.items ps
-        → OnOk result (FilesTold D.drafted journal.new.disk rewrite.new body.new.items s order.now ps) }
+    ensures told { (s : Server) (ps : List SnapshotPiece) → ShowsFiles tree.now s → AreFilesOf s order.now → Once order.now
+        → IsTold D.told D.drafted journal.old.disk rewrite.old body.old.items ps
+        → OnOk result (FilesTold D.told D.drafted journal.new.disk rewrite.new body.new.items s order.now ps) }
     ensures goes { DraftGoesOn D.told D.seen D.may_leave D.moment D.left_since D.faults journal.old journal.new result }
 {
     for file in order {
@@ -51,9 +51,9 @@ fn tell_one<D: Renewal>(
     tree: &Tree,
     file: u64,
 ) -> Result<(), Unwritten>
-    ensures told { D.told → (s : Server) (ps : List SnapshotPiece) → ShowsFiles tree.now s → exists_in s.entries file ≡ true
-        → IsTold D.drafted journal.old.disk rewrite.old body.old.items ps
-        → OnOk result (FileTold D.drafted journal.new.disk rewrite.new body.new.items s file ps) }
+    ensures told { (s : Server) (ps : List SnapshotPiece) → ShowsFiles tree.now s → exists_in s.entries file ≡ true
+        → IsTold D.told D.drafted journal.old.disk rewrite.old body.old.items ps
+        → OnOk result (FileTold D.told D.drafted journal.new.disk rewrite.new body.new.items s file ps) }
     ensures goes { DraftGoesOn D.told D.seen D.may_leave D.moment D.left_since D.faults journal.old journal.new result }
 {
     match tell_front(journal, rewrite, body, alloc, tree, file) {
@@ -71,9 +71,9 @@ fn tell_front<D: Renewal>(
     tree: &Tree,
     file: u64,
 ) -> Result<(), Unwritten>
-    ensures told { D.told → (s : Server) (ps : List SnapshotPiece) → ShowsFiles tree.now s → exists_in s.entries file ≡ true
-        → IsTold D.drafted journal.old.disk rewrite.old body.old.items ps
-        → OnOk result (IsTold D.drafted journal.new.disk rewrite.new body.new.items (ps ++ front_piece s file ∷ [])) }
+    ensures told { (s : Server) (ps : List SnapshotPiece) → ShowsFiles tree.now s → exists_in s.entries file ≡ true
+        → IsTold D.told D.drafted journal.old.disk rewrite.old body.old.items ps
+        → OnOk result (IsTold D.told D.drafted journal.new.disk rewrite.new body.new.items (ps ++ front_piece s file ∷ [])) }
     ensures goes { DraftGoesOn D.told D.seen D.may_leave D.moment D.left_since D.faults journal.old journal.new result }
 {
     let Some(path) = tree.text(file) else {
@@ -108,9 +108,9 @@ fn tell_parts<D: Renewal>(
     tree: &Tree,
     file: u64,
 ) -> Result<(), Unwritten>
-    ensures told { D.told → (s : Server) (ps : List SnapshotPiece) → ShowsFiles tree.now s → exists_in s.entries file ≡ true
-        → IsTold D.drafted journal.old.disk rewrite.old body.old.items ps
-        → OnOk result (PartsTold D.drafted journal.new.disk rewrite.new body.new.items s file ps) }
+    ensures told { (s : Server) (ps : List SnapshotPiece) → ShowsFiles tree.now s → exists_in s.entries file ≡ true
+        → IsTold D.told D.drafted journal.old.disk rewrite.old body.old.items ps
+        → OnOk result (PartsTold D.told D.drafted journal.new.disk rewrite.new body.new.items s file ps) }
     ensures goes { DraftGoesOn D.told D.seen D.may_leave D.moment D.left_since D.faults journal.old journal.new result }
 {
     let length = tree.length(file);

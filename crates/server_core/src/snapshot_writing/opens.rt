@@ -26,9 +26,9 @@ pub fn tell_opens<D: Renewal>(
     opens: &Opens,
     ids: &[u64],
 ) -> Result<(), Unwritten>
-    ensures told { D.told → (s : Server) (ps : List SnapshotPiece) → ShowsOpens opens.now s → ArePersistent s ids.now
-        → IsTold D.drafted journal.old.disk rewrite.old body.old.items ps
-        → OnOk result (IsTold D.drafted journal.new.disk rewrite.new body.new.items (ps ++ open_pieces s ids.now)) }
+    ensures told { (s : Server) (ps : List SnapshotPiece) → ShowsOpens opens.now s → ArePersistent s ids.now
+        → IsTold D.told D.drafted journal.old.disk rewrite.old body.old.items ps
+        → OnOk result (IsTold D.told D.drafted journal.new.disk rewrite.new body.new.items (ps ++ open_pieces s ids.now)) }
     ensures goes { DraftGoesOn D.told D.seen D.may_leave D.moment D.left_since D.faults journal.old journal.new result }
 {
     for id in ids {
@@ -49,9 +49,9 @@ fn tell_one<D: Renewal>(
     opens: &Opens,
     id: u64,
 ) -> Result<(), Unwritten>
-    ensures told { D.told → (s : Server) (ps : List SnapshotPiece) → ShowsOpens opens.now s → (s.opened id).persistent ≡ true
-        → IsTold D.drafted journal.old.disk rewrite.old body.old.items ps
-        → OnOk result (IsTold D.drafted journal.new.disk rewrite.new body.new.items (ps ++ OpenPiece id (s.opened id) ∷ slot_pieces (s.lock_sequences id) id 64)) }
+    ensures told { (s : Server) (ps : List SnapshotPiece) → ShowsOpens opens.now s → (s.opened id).persistent ≡ true
+        → IsTold D.told D.drafted journal.old.disk rewrite.old body.old.items ps
+        → OnOk result (IsTold D.told D.drafted journal.new.disk rewrite.new body.new.items (ps ++ OpenPiece id (s.opened id) ∷ slot_pieces (s.lock_sequences id) id 64)) }
     ensures goes { DraftGoesOn D.told D.seen D.may_leave D.moment D.left_since D.faults journal.old journal.new result }
 {
     let Some(row) = opens.row(id) else {
@@ -72,9 +72,9 @@ fn tell_row<D: Renewal>(
     id: u64,
     row: &Row,
 ) -> Result<(), Unwritten>
-    ensures told { D.told → (ps : List SnapshotPiece) → row.now.persistent ≡ true
-        → IsTold D.drafted journal.old.disk rewrite.old body.old.items ps
-        → OnOk result (IsTold D.drafted journal.new.disk rewrite.new body.new.items (ps ++ OpenPiece id (open_of row.now) ∷ [])) }
+    ensures told { (ps : List SnapshotPiece) → row.now.persistent ≡ true
+        → IsTold D.told D.drafted journal.old.disk rewrite.old body.old.items ps
+        → OnOk result (IsTold D.told D.drafted journal.new.disk rewrite.new body.new.items (ps ++ OpenPiece id (open_of row.now) ∷ [])) }
     ensures goes { DraftGoesOn D.told D.seen D.may_leave D.moment D.left_since D.faults journal.old journal.new result }
 {
     let Some(guid) = row.guid else {
@@ -104,9 +104,9 @@ fn tell_slots<D: Renewal>(
     id: u64,
     slots: &Slots,
 ) -> Result<(), Unwritten>
-    ensures told { D.told → (kept : ℕ → Option Kept) (ps : List SnapshotPiece) → SlotsShown slots.now kept
-        → IsTold D.drafted journal.old.disk rewrite.old body.old.items ps
-        → OnOk result (IsTold D.drafted journal.new.disk rewrite.new body.new.items (ps ++ slot_pieces kept id 64)) }
+    ensures told { (kept : ℕ → Option Kept) (ps : List SnapshotPiece) → SlotsShown slots.now kept
+        → IsTold D.told D.drafted journal.old.disk rewrite.old body.old.items ps
+        → OnOk result (IsTold D.told D.drafted journal.new.disk rewrite.new body.new.items (ps ++ slot_pieces kept id 64)) }
     ensures goes { DraftGoesOn D.told D.seen D.may_leave D.moment D.left_since D.faults journal.old journal.new result }
 {
     let mut index: u8 = 64;
@@ -128,9 +128,9 @@ fn tell_slot_at<D: Renewal>(
     index: u8,
 ) -> Result<(), Unwritten>
     requires { (1 ≤ index) × (index ≤ 64) }
-    ensures told { D.told → (kept : ℕ → Option Kept) (ps : List SnapshotPiece) → SlotsShown slots.now kept
-        → IsTold D.drafted journal.old.disk rewrite.old body.old.items ps
-        → OnOk result (IsTold D.drafted journal.new.disk rewrite.new body.new.items (ps ++ slot_piece id index (kept index))) }
+    ensures told { (kept : ℕ → Option Kept) (ps : List SnapshotPiece) → SlotsShown slots.now kept
+        → IsTold D.told D.drafted journal.old.disk rewrite.old body.old.items ps
+        → OnOk result (IsTold D.told D.drafted journal.new.disk rewrite.new body.new.items (ps ++ slot_piece id index (kept index))) }
     ensures goes { DraftGoesOn D.told D.seen D.may_leave D.moment D.left_since D.faults journal.old journal.new result }
 {
     match slots.kept(index) {

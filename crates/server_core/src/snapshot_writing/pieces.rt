@@ -26,8 +26,8 @@ pub fn tell_base<D: Renewal>(
     next_file: u64,
     times: &Basic,
 ) -> Result<(), Unwritten>
-    ensures told { D.told → (ps : List SnapshotPiece) → IsTold D.drafted journal.old.disk rewrite.old body.old.items ps
-        → OnOk result (IsTold D.drafted journal.new.disk rewrite.new body.new.items (ps ++ BasePiece version epoch given next_file times.now ∷ [])) }
+    ensures told { (ps : List SnapshotPiece) → IsTold D.told D.drafted journal.old.disk rewrite.old body.old.items ps
+        → OnOk result (IsTold D.told D.drafted journal.new.disk rewrite.new body.new.items (ps ++ BasePiece version epoch given next_file times.now ∷ [])) }
     ensures goes { DraftGoesOn D.told D.seen D.may_leave D.moment D.left_since D.faults journal.old journal.new result }
 {
     match put_base(body, version, epoch, given, next_file, times) {
@@ -47,8 +47,8 @@ pub fn tell_file<D: Renewal>(
     front: &FileFront,
 ) -> Result<(), Unwritten>
     requires { TextFits path.now }
-    ensures told { D.told → (ps : List SnapshotPiece) → IsTold D.drafted journal.old.disk rewrite.old body.old.items ps
-        → OnOk result (IsTold D.drafted journal.new.disk rewrite.new body.new.items (ps ++ FilePiece file path.now front.now.directory front.now.pending front.now.basic
+    ensures told { (ps : List SnapshotPiece) → IsTold D.told D.drafted journal.old.disk rewrite.old body.old.items ps
+        → OnOk result (IsTold D.told D.drafted journal.new.disk rewrite.new body.new.items (ps ++ FilePiece file path.now front.now.directory front.now.pending front.now.basic
         front.now.size front.now.stored ∷ [])) }
     ensures goes { DraftGoesOn D.told D.seen D.may_leave D.moment D.left_since D.faults journal.old journal.new result }
 {
@@ -68,8 +68,8 @@ pub fn tell_bytes<D: Renewal>(
     bytes: &[u8],
 ) -> Result<(), Unwritten>
     requires { length bytes.now < 4294967296 }
-    ensures told { D.told → (ps : List SnapshotPiece) → IsTold D.drafted journal.old.disk rewrite.old body.old.items ps
-        → OnOk result (IsTold D.drafted journal.new.disk rewrite.new body.new.items (ps ++ BytesPiece file at bytes.now ∷ [])) }
+    ensures told { (ps : List SnapshotPiece) → IsTold D.told D.drafted journal.old.disk rewrite.old body.old.items ps
+        → OnOk result (IsTold D.told D.drafted journal.new.disk rewrite.new body.new.items (ps ++ BytesPiece file at bytes.now ∷ [])) }
     ensures goes { DraftGoesOn D.told D.seen D.may_leave D.moment D.left_since D.faults journal.old journal.new result }
 {
     match put_bytes(body, file, at, bytes) {
@@ -89,8 +89,8 @@ pub fn tell_open<D: Renewal>(
     front: &OpenFront,
 ) -> Result<(), Unwritten>
     requires { TextFits user.now }
-    ensures told { D.told → (ps : List SnapshotPiece) → IsTold D.drafted journal.old.disk rewrite.old body.old.items ps
-        → OnOk result (IsTold D.drafted journal.new.disk rewrite.new body.new.items (ps ++ OpenPiece id (row_of user.now front.now) ∷ [])) }
+    ensures told { (ps : List SnapshotPiece) → IsTold D.told D.drafted journal.old.disk rewrite.old body.old.items ps
+        → OnOk result (IsTold D.told D.drafted journal.new.disk rewrite.new body.new.items (ps ++ OpenPiece id (row_of user.now front.now) ∷ [])) }
     ensures goes { DraftGoesOn D.told D.seen D.may_leave D.moment D.left_since D.faults journal.old journal.new result }
 {
     match put_open(alloc, body, id, user, front) {
@@ -109,8 +109,8 @@ pub fn tell_slot<D: Renewal>(
     number: u8,
     status: u32,
 ) -> Result<(), Unwritten>
-    ensures told { D.told → (ps : List SnapshotPiece) → IsTold D.drafted journal.old.disk rewrite.old body.old.items ps
-        → OnOk result (IsTold D.drafted journal.new.disk rewrite.new body.new.items (ps ++ SlotPiece id index number status ∷ [])) }
+    ensures told { (ps : List SnapshotPiece) → IsTold D.told D.drafted journal.old.disk rewrite.old body.old.items ps
+        → OnOk result (IsTold D.told D.drafted journal.new.disk rewrite.new body.new.items (ps ++ SlotPiece id index number status ∷ [])) }
     ensures goes { DraftGoesOn D.told D.seen D.may_leave D.moment D.left_since D.faults journal.old journal.new result }
 {
     match put_slot(body, id, index, number, status) {
@@ -126,8 +126,8 @@ pub fn tell_range<D: Renewal>(
     body: &mut Vec<u8>,
     range: &Range,
 ) -> Result<(), Unwritten>
-    ensures told { D.told → (ps : List SnapshotPiece) → IsTold D.drafted journal.old.disk rewrite.old body.old.items ps
-        → OnOk result (IsTold D.drafted journal.new.disk rewrite.new body.new.items (ps ++ RangePiece range.now ∷ [])) }
+    ensures told { (ps : List SnapshotPiece) → IsTold D.told D.drafted journal.old.disk rewrite.old body.old.items ps
+        → OnOk result (IsTold D.told D.drafted journal.new.disk rewrite.new body.new.items (ps ++ RangePiece range.now ∷ [])) }
     ensures goes { DraftGoesOn D.told D.seen D.may_leave D.moment D.left_since D.faults journal.old journal.new result }
 {
     match put_range(body, range) {
@@ -144,8 +144,8 @@ pub fn tell_guid<D: Renewal>(
     client: u128,
     guid: u128,
 ) -> Result<(), Unwritten>
-    ensures told { D.told → (ps : List SnapshotPiece) → IsTold D.drafted journal.old.disk rewrite.old body.old.items ps
-        → OnOk result (IsTold D.drafted journal.new.disk rewrite.new body.new.items (ps ++ GuidPiece client guid ∷ [])) }
+    ensures told { (ps : List SnapshotPiece) → IsTold D.told D.drafted journal.old.disk rewrite.old body.old.items ps
+        → OnOk result (IsTold D.told D.drafted journal.new.disk rewrite.new body.new.items (ps ++ GuidPiece client guid ∷ [])) }
     ensures goes { DraftGoesOn D.told D.seen D.may_leave D.moment D.left_since D.faults journal.old journal.new result }
 {
     match put_guid(body, client, guid) {

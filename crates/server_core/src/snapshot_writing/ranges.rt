@@ -23,9 +23,9 @@ pub fn tell_all_ranges<D: Renewal>(
     opens: &Opens,
     order: &[u64],
 ) -> Result<(), Unwritten>
-    ensures told { D.told → (s : Server) (ps : List SnapshotPiece) → ShowsOpens opens.now s
-        → IsTold D.drafted journal.old.disk rewrite.old body.old.items ps
-        → OnOk result (IsTold D.drafted journal.new.disk rewrite.new body.new.items (ps ++ all_range_pieces s (numbered_entries s order.now))) }
+    ensures told { (s : Server) (ps : List SnapshotPiece) → ShowsOpens opens.now s
+        → IsTold D.told D.drafted journal.old.disk rewrite.old body.old.items ps
+        → OnOk result (IsTold D.told D.drafted journal.new.disk rewrite.new body.new.items (ps ++ all_range_pieces s (numbered_entries s order.now))) }
     ensures goes { DraftGoesOn D.told D.seen D.may_leave D.moment D.left_since D.faults journal.old journal.new result }
 {
     for file in order {
@@ -45,9 +45,9 @@ pub fn tell_ranges<D: Renewal>(
     opens: &Opens,
     file: u64,
 ) -> Result<(), Unwritten>
-    ensures told { D.told → (s : Server) (ps : List SnapshotPiece) → ShowsOpens opens.now s
-        → IsTold D.drafted journal.old.disk rewrite.old body.old.items ps
-        → OnOk result (IsTold D.drafted journal.new.disk rewrite.new body.new.items (ps ++ range_pieces (ranges_that_stay s (s.ranges file)))) }
+    ensures told { (s : Server) (ps : List SnapshotPiece) → ShowsOpens opens.now s
+        → IsTold D.told D.drafted journal.old.disk rewrite.old body.old.items ps
+        → OnOk result (IsTold D.told D.drafted journal.new.disk rewrite.new body.new.items (ps ++ range_pieces (ranges_that_stay s (s.ranges file)))) }
     ensures goes { DraftGoesOn D.told D.seen D.may_leave D.moment D.left_since D.faults journal.old journal.new result }
 {
     let ranges = opens.ranges(file);
@@ -68,9 +68,9 @@ fn tell_if_kept<D: Renewal>(
     opens: &Opens,
     range: &Range,
 ) -> Result<(), Unwritten>
-    ensures told { D.told → (s : Server) (ps : List SnapshotPiece) → ShowsOpens opens.now s
-        → IsTold D.drafted journal.old.disk rewrite.old body.old.items ps
-        → OnOk result (IsTold D.drafted journal.new.disk rewrite.new body.new.items (ps ++ range_pieces (ranges_that_stay s (range_of range.now ∷ [])))) }
+    ensures told { (s : Server) (ps : List SnapshotPiece) → ShowsOpens opens.now s
+        → IsTold D.told D.drafted journal.old.disk rewrite.old body.old.items ps
+        → OnOk result (IsTold D.told D.drafted journal.new.disk rewrite.new body.new.items (ps ++ range_pieces (ranges_that_stay s (range_of range.now ∷ [])))) }
     ensures goes { DraftGoesOn D.told D.seen D.may_leave D.moment D.left_since D.faults journal.old journal.new result }
 {
     if !is_kept(opens, range.owner) {
@@ -108,9 +108,9 @@ pub fn tell_guids<D: Renewal>(
     body: &mut Vec<u8>,
     guids: &[(u128, u128)],
 ) -> Result<(), Unwritten>
-    ensures told { D.told → (ps : List SnapshotPiece)
-        → IsTold D.drafted journal.old.disk rewrite.old body.old.items ps
-        → OnOk result (IsTold D.drafted journal.new.disk rewrite.new body.new.items (ps ++ guid_pieces guids.now)) }
+    ensures told { (ps : List SnapshotPiece)
+        → IsTold D.told D.drafted journal.old.disk rewrite.old body.old.items ps
+        → OnOk result (IsTold D.told D.drafted journal.new.disk rewrite.new body.new.items (ps ++ guid_pieces guids.now)) }
     ensures goes { DraftGoesOn D.told D.seen D.may_leave D.moment D.left_since D.faults journal.old journal.new result }
 {
     for pair in guids {

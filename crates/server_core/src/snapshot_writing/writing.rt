@@ -1,5 +1,5 @@
 //! The whole snapshot: its pieces one behind the other, and how many bytes they may take.
-ghost use Rattle.std.specs.Prelude.{◌≡◌, ◌++◌, ◌∷◌, [], ℕ, List, true, OnOk};
+ghost use Rattle.std.specs.Prelude.{◌≡◌, ◌<◌, ◌≤◌, ◌++◌, ◌∷◌, [], ℕ, List, length, true, OnOk};
 ghost use Rattle.spec_exchange.specs.State.{Server};
 ghost use Rattle.spec_exchange.specs.Files.{root};
 ghost use Rattle.spec_exchange.specs.Fold.{persistent_in, ranges_that_stay};
@@ -32,6 +32,9 @@ const FILE: u64 = 256;
 
 const OPEN: u64 = 512;
 
+// So many guids expire at most.
+const MOST_EXPIRED: usize = 65536;
+
 /// Writes a snapshot of the tables into a draft that has no bodies yet. Where memory runs out, or the disk has no room, it is given up,
 /// and the journal goes on as it was.
 pub fn write_snapshot<D: Renewal>(
@@ -42,9 +45,9 @@ pub fn write_snapshot<D: Renewal>(
     tree: &Tree,
     opens: &Opens,
 ) -> Result<(), Unwritten>
-    ensures whole { D.told → (s : Server) → Fits s → ShowsFiles tree.now s → ShowsOpens opens.now s → s.version ≡ version
-        → IsDrafted D.drafted journal.old.disk rewrite.old []
-        → OnOk result (IsWholeSnapshot D.drafted journal.new.disk rewrite.new s) }
+    ensures whole { (s : Server) → Fits s → ShowsFiles tree.now s → ShowsOpens opens.now s → s.version ≡ version
+        → (D.told → IsDrafted D.drafted journal.old.disk rewrite.old [])
+        → OnOk result (IsWholeSnapshot D.told D.drafted journal.new.disk rewrite.new s) }
     ensures goes { DraftGoesOn D.told D.seen D.may_leave D.moment D.left_since D.faults journal.old journal.new result }
 {
     let Ok(order) = tree.by_path() else {
@@ -56,6 +59,14 @@ pub fn write_snapshot<D: Renewal>(
     let Ok(Some(guids)) = opens.guids() else {
         return Err(Unwritten::GivenUp);
     };
+    // No reader takes the snapshot of a server that began no epoch, or of more guids than a server lets expire; none comes to either.
+    let epoch = opens.epoch();
+    if epoch == 0 {
+        return Err(Unwritten::GivenUp);
+    }
+    if guids.len() > MOST_EXPIRED {
+        return Err(Unwritten::GivenUp);
+    }
     write_lists(
         journal,
         rewrite,
@@ -81,10 +92,11 @@ fn write_lists<D: Renewal>(
     ids: &[u64],
     guids: &[(u128, u128)],
 ) -> Result<(), Unwritten>
-    ensures whole { D.told → (s : Server) → Fits s → ShowsFiles tree.now s → ShowsOpens opens.now s → s.version ≡ version
+    ensures whole { (s : Server) → Fits s → ShowsFiles tree.now s → ShowsOpens opens.now s → s.version ≡ version
         → IsPathOrder order.now s → ids.now ≡ persistent_in s.opened s.opens → AreExpired guids.now s
-        → IsDrafted D.drafted journal.old.disk rewrite.old []
-        → OnOk result (IsWholeSnapshot D.drafted journal.new.disk rewrite.new s) }
+        → 0 < s.epoch → length guids.now ≤ 65536
+        → (D.told → IsDrafted D.drafted journal.old.disk rewrite.old [])
+        → OnOk result (IsWholeSnapshot D.told D.drafted journal.new.disk rewrite.new s) }
     ensures goes { DraftGoesOn D.told D.seen D.may_leave D.moment D.left_since D.faults journal.old journal.new result }
 {
     largest_law();
@@ -110,10 +122,10 @@ fn tell_all<D: Renewal>(
     ids: &[u64],
     guids: &[(u128, u128)],
 ) -> Result<(), Unwritten>
-    ensures told { D.told → (s : Server) (ps : List SnapshotPiece) → ShowsFiles tree.now s → ShowsOpens opens.now s → s.version ≡ version
+    ensures told { (s : Server) (ps : List SnapshotPiece) → ShowsFiles tree.now s → ShowsOpens opens.now s → s.version ≡ version
         → IsPathOrder order.now s → ArePersistent s ids.now
-        → IsTold D.drafted journal.old.disk rewrite.old body.old.items ps
-        → OnOk result (AllTold D.drafted journal.new.disk rewrite.new body.new.items s order.now ids.now guids.now ps) }
+        → IsTold D.told D.drafted journal.old.disk rewrite.old body.old.items ps
+        → OnOk result (AllTold D.told D.drafted journal.new.disk rewrite.new body.new.items s order.now ids.now guids.now ps) }
     ensures goes { DraftGoesOn D.told D.seen D.may_leave D.moment D.left_since D.faults journal.old journal.new result }
 {
     match tell_numbers(journal, rewrite, body, version, tree, opens) {
@@ -133,9 +145,9 @@ fn tell_numbers<D: Renewal>(
     tree: &Tree,
     opens: &Opens,
 ) -> Result<(), Unwritten>
-    ensures told { D.told → (s : Server) (ps : List SnapshotPiece) → ShowsFiles tree.now s → ShowsOpens opens.now s → s.version ≡ version
-        → IsTold D.drafted journal.old.disk rewrite.old body.old.items ps
-        → OnOk result (IsTold D.drafted journal.new.disk rewrite.new body.new.items (ps ++ base_piece s ∷ [])) }
+    ensures told { (s : Server) (ps : List SnapshotPiece) → ShowsFiles tree.now s → ShowsOpens opens.now s → s.version ≡ version
+        → IsTold D.told D.drafted journal.old.disk rewrite.old body.old.items ps
+        → OnOk result (IsTold D.told D.drafted journal.new.disk rewrite.new body.new.items (ps ++ base_piece s ∷ [])) }
     ensures goes { DraftGoesOn D.told D.seen D.may_leave D.moment D.left_since D.faults journal.old journal.new result }
 {
     let info = tree.info(0);
@@ -166,10 +178,10 @@ fn tell_tables<D: Renewal>(
     ids: &[u64],
     guids: &[(u128, u128)],
 ) -> Result<(), Unwritten>
-    ensures told { D.told → (s : Server) (ps : List SnapshotPiece) → ShowsFiles tree.now s → ShowsOpens opens.now s
+    ensures told { (s : Server) (ps : List SnapshotPiece) → ShowsFiles tree.now s → ShowsOpens opens.now s
         → IsPathOrder order.now s → ArePersistent s ids.now
-        → IsTold D.drafted journal.old.disk rewrite.old body.old.items ps
-        → OnOk result (TablesTold D.drafted journal.new.disk rewrite.new body.new.items s order.now ids.now guids.now ps) }
+        → IsTold D.told D.drafted journal.old.disk rewrite.old body.old.items ps
+        → OnOk result (TablesTold D.told D.drafted journal.new.disk rewrite.new body.new.items s order.now ids.now guids.now ps) }
     ensures goes { DraftGoesOn D.told D.seen D.may_leave D.moment D.left_since D.faults journal.old journal.new result }
 {
     match tell_files(journal, rewrite, body, alloc, tree, order) {
@@ -189,9 +201,9 @@ fn tell_back<D: Renewal>(
     ids: &[u64],
     guids: &[(u128, u128)],
 ) -> Result<(), Unwritten>
-    ensures told { D.told → (s : Server) (ps : List SnapshotPiece) → ShowsOpens opens.now s → ArePersistent s ids.now
-        → IsTold D.drafted journal.old.disk rewrite.old body.old.items ps
-        → OnOk result (IsTold D.drafted journal.new.disk rewrite.new body.new.items (ps ++ (open_pieces s ids.now ++ (range_pieces (ranges_that_stay s (s.ranges root)) ++ (all_range_pieces s (numbered_entries s order.now) ++ guid_pieces guids.now))))) }
+    ensures told { (s : Server) (ps : List SnapshotPiece) → ShowsOpens opens.now s → ArePersistent s ids.now
+        → IsTold D.told D.drafted journal.old.disk rewrite.old body.old.items ps
+        → OnOk result (IsTold D.told D.drafted journal.new.disk rewrite.new body.new.items (ps ++ (open_pieces s ids.now ++ (range_pieces (ranges_that_stay s (s.ranges root)) ++ (all_range_pieces s (numbered_entries s order.now) ++ guid_pieces guids.now))))) }
     ensures goes { DraftGoesOn D.told D.seen D.may_leave D.moment D.left_since D.faults journal.old journal.new result }
 {
     match tell_opens(journal, rewrite, body, alloc, opens, ids) {
@@ -209,9 +221,9 @@ fn tell_locks<D: Renewal>(
     order: &[u64],
     guids: &[(u128, u128)],
 ) -> Result<(), Unwritten>
-    ensures told { D.told → (s : Server) (ps : List SnapshotPiece) → ShowsOpens opens.now s
-        → IsTold D.drafted journal.old.disk rewrite.old body.old.items ps
-        → OnOk result (IsTold D.drafted journal.new.disk rewrite.new body.new.items (ps ++ (range_pieces (ranges_that_stay s (s.ranges root)) ++ (all_range_pieces s (numbered_entries s order.now) ++ guid_pieces guids.now)))) }
+    ensures told { (s : Server) (ps : List SnapshotPiece) → ShowsOpens opens.now s
+        → IsTold D.told D.drafted journal.old.disk rewrite.old body.old.items ps
+        → OnOk result (IsTold D.told D.drafted journal.new.disk rewrite.new body.new.items (ps ++ (range_pieces (ranges_that_stay s (s.ranges root)) ++ (all_range_pieces s (numbered_entries s order.now) ++ guid_pieces guids.now)))) }
     ensures goes { DraftGoesOn D.told D.seen D.may_leave D.moment D.left_since D.faults journal.old journal.new result }
 {
     match tell_ranges(journal, rewrite, body, opens, 0) {
@@ -229,9 +241,9 @@ fn tell_last<D: Renewal>(
     order: &[u64],
     guids: &[(u128, u128)],
 ) -> Result<(), Unwritten>
-    ensures told { D.told → (s : Server) (ps : List SnapshotPiece) → ShowsOpens opens.now s
-        → IsTold D.drafted journal.old.disk rewrite.old body.old.items ps
-        → OnOk result (IsTold D.drafted journal.new.disk rewrite.new body.new.items (ps ++ (all_range_pieces s (numbered_entries s order.now) ++ guid_pieces guids.now))) }
+    ensures told { (s : Server) (ps : List SnapshotPiece) → ShowsOpens opens.now s
+        → IsTold D.told D.drafted journal.old.disk rewrite.old body.old.items ps
+        → OnOk result (IsTold D.told D.drafted journal.new.disk rewrite.new body.new.items (ps ++ (all_range_pieces s (numbered_entries s order.now) ++ guid_pieces guids.now))) }
     ensures goes { DraftGoesOn D.told D.seen D.may_leave D.moment D.left_since D.faults journal.old journal.new result }
 {
     match tell_all_ranges(journal, rewrite, body, opens, order) {

@@ -7,7 +7,7 @@ returns g c = record {
       (let base = due.stands.0.0 in
       let w = due.stands.0.1.1.stands due.stands.1 told in (
         base,
-        disk_stands g.D.Disk.told g.D.Disk.seen g.D.Disk.may_leave g.D.Disk.faults due.last.server.book.server base due.stand.server
+        disk_stands g.D.Disk.told g.D.Disk.seen g.D.Disk.may_leave g.D.Disk.faults due.last.server.disk_book.book.server base due.stand.server
             due.stand.records w.0 w.1,
       ));
 }

@@ -14,7 +14,7 @@ pub returns-then-not-is_short-clause-goes : goal.returns-then-not-is_short-claus
 returns-then-not-is_short-clause-goes g c = goes_given_up g.D.Disk.told g.D.Disk.seen g.D.Disk.may_leave g.D.Disk.moment g.D.Disk.left_since g.D.Disk.faults g.met.D.Disk.only_now c.args.journal.now
 
 pub returns-clause-told : goal.returns-clause-told
-returns-clause-told g c = λ told ps p h. on_ok c.tell_open.result _ _
-    (subst (λ (x : model.Open). IsTold g.D.Renewal.drafted c.tell_open.new.journal.disk c.tell_open.new.rewrite c.tell_open.new.body.items
+returns-clause-told g c = λ ps p h. on_ok c.tell_open.result _ _
+    (subst (λ (x : model.Open). IsTold g.D.Disk.told g.D.Renewal.drafted c.tell_open.new.journal.disk c.tell_open.new.rewrite c.tell_open.new.body.items
     (ps ++ OpenPiece c.args.id x ∷ [])) (row_is c.args.row.now c.in-Some.guid _ p c.in-Some.is refl))
-    (c.tell_open.ensures.told told ps h)
+    (c.tell_open.ensures.told ps h)

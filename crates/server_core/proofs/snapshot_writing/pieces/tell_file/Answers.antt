@@ -2,4 +2,4 @@ use Rattle.server_core.proofs.snapshot_writing.Lemmas.{told_more}
 use Rattle.server_core.proofs.snapshot_writing.pieces.tell_file.Goals as goal
 
 pub returns-in-Ok-clause-told : goal.returns-in-Ok-clause-told
-returns-in-Ok-clause-told g c = λ told ps h. c.pass_on.ensures.told told _ (told_more _ _ _ _ _ _ _ c.in-Ok.ensures h)
+returns-in-Ok-clause-told g c = λ ps h. c.pass_on.ensures.told _ (told_more _ _ _ _ _ _ _ _ c.in-Ok.ensures h)

@@ -5,8 +5,8 @@ use Rattle.server_core.proofs.snapshot_writing.OpenLemmas.{told_joined}
 use Rattle.server_core.proofs.snapshot_writing.writing.tell_last.Goals as goal
 
 pub returns-in-Ok-clause-told : goal.returns-in-Ok-clause-told
-returns-in-Ok-clause-told g c = λ told s ps shows h. on_ok c.tell_guids.result _ _ (told_joined g.D.Renewal.drafted c.tell_guids.new.journal.disk c.tell_guids.new.rewrite c.tell_guids.new.body.items ps _ _ _ refl)
-    (c.tell_guids.ensures.told told _ (c.in-Ok.ensures.told told s ps shows h))
+returns-in-Ok-clause-told g c = λ s ps shows h. on_ok c.tell_guids.result _ _ (told_joined g.D.Disk.told g.D.Renewal.drafted c.tell_guids.new.journal.disk c.tell_guids.new.rewrite c.tell_guids.new.body.items ps _ _ _ refl)
+    (c.tell_guids.ensures.told _ (c.in-Ok.ensures.told s ps shows h))
 
 pub returns-in-Ok-clause-goes : goal.returns-in-Ok-clause-goes
 returns-in-Ok-clause-goes g c = goes_then g.D.Disk.told g.D.Disk.seen g.D.Disk.may_leave g.D.Disk.moment g.D.Disk.left_since g.D.Disk.faults _ _ _ tt _ c.in-Ok.ensures.goes c.tell_guids.ensures.goes
