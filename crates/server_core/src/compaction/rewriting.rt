@@ -1,5 +1,5 @@
 //! The journal as a snapshot of the tables: a draft is begun, the snapshot goes into it, and it takes the disk's place.
-ghost use Rattle.std.specs.Prelude.{◌≡◌, ℕ, List, None};
+ghost use Rattle.std.specs.Prelude.{◌≡◌, ℕ, List, [], None};
 ghost use Rattle.spec_exchange.specs.State as model;
 ghost use Rattle.spec_wire.specs.journal.Moments.{LeavesOnly};
 ghost use Rattle.law_server.specs.tables.Fits.{Fits};
