@@ -16,7 +16,7 @@ use Rattle.serve_turns.specs.event_book.Renewing.{RenewedTo}
 use Rattle.serve_command.specs.Renewing.{Fills, FillsAhead, FillsWhere, LooksAt, Readies, is_short, used_by}
 use Rattle.serve_command.specs.Steps.{server_faults, server_shows, server_stopped}
 use Rattle.serve_command.specs.declared.lasting_book.book.LastingBook.{LastingBook}
-use Rattle.serve_command.proofs.Renewals.{faults_of, never_both, renewed_of, same_count}
+use Rattle.serve_command.proofs.Renewals.{calm_of, faults_of, never_both, renewed_of, same_count}
 
 module _ {D : Type 0} (told : Type 0) (seen : D → List ℕ) (may_leave : D → List ℕ → Type 0) (faults : D → ℕ) where
   -- it was filled or not
@@ -77,3 +77,13 @@ module _ {D : Type 0} (told : Type 0) (seen : D → List ℕ) (may_leave : D →
           subst (λ (x : LastingBook D). StopsAtFault (server_faults faults old) (server_faults faults x) count) (sym same)
               (subst (λ (n : ℕ). StopsAtFault (server_faults faults old) (server_faults faults r.mid) n)
               (same_count (server_stopped r.mid) f.0 count f.1 (sym (ap (λ (x : LastingBook D). server_stopped x) same) ∙ stop)) f.2)
+
+  pub readied_calm : (old new : LastingBook D) (users : Users) (s : model.Server) (L : Logons) (records : List model.Record)
+      → Readies told seen may_leave faults old new → server_shows told seen may_leave old users s L records → server_stopped old ≡ None
+      → server_stopped new ≡ None → server_faults faults new ≡ server_faults faults old
+  readied_calm old new users s L records r h goes on = behind (filled _ old r.mid users s L records r.fills h goes)
+    where
+      behind : GoesOrStops old r.mid users s L records → server_faults faults new ≡ server_faults faults old
+      behind (inl g) = calm_of told seen may_leave faults r.mid new users s L records r.early (r.looks g.0) g.1 g.0 on ∙ g.2
+      behind (inr f) =
+          absurd (never_both _ f.0 on (ap (λ (x : LastingBook D). server_stopped x) (r.halted f.0 f.1) ∙ f.1))
