@@ -75,8 +75,8 @@ module _ {D : Type 0} (told : Type 0) (seen : D → List ℕ) (may_leave : D →
       behind (inr f) =
           let same = r.halted f.0 f.1 in
           subst (λ (x : LastingBook D). StopsAtFault (server_faults faults old) (server_faults faults x) count) (sym same)
-              (subst (λ (n : ℕ). StopsAtFault (server_faults faults old) (server_faults faults r.mid) n)
-              (same_count (server_stopped r.mid) f.0 count f.1 (sym (ap (λ (x : LastingBook D). server_stopped x) same) ∙ stop)) f.2)
+          (subst (λ (n : ℕ). StopsAtFault (server_faults faults old) (server_faults faults r.mid) n)
+          (same_count (server_stopped r.mid) f.0 count f.1 (sym (ap (λ (x : LastingBook D). server_stopped x) same) ∙ stop)) f.2)
 
   pub readied_calm : (old new : LastingBook D) (users : Users) (s : model.Server) (L : Logons) (records : List model.Record)
       → Readies told seen may_leave faults old new → server_shows told seen may_leave old users s L records → server_stopped old ≡ None

@@ -28,7 +28,10 @@ fn has_risen(before: u64, after: u64) -> bool
 }
 
 /// What is left of a server, whose disk had failed so often before.
-pub(crate) fn left_of<D: Renewal + TellsRoom>(last: EventBook<LastingBook<D>>, before: u64) -> Left<D>
+pub(crate) fn left_of<D: Renewal + TellsRoom>(
+    last: EventBook<LastingBook<D>>,
+    before: u64,
+) -> Left<D>
     ensures stopped { result.stopped ≡ has_stopped last }
     ensures risen { result.risen ≡ has_risen before (D.faults (disk_of last.server.disk_book.book.server)) }
     ensures disk { result.disk ≡ disk_of last.server.disk_book.book.server }

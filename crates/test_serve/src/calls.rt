@@ -1,4 +1,6 @@
-use base_outside::{Address, MemClock, MemDisk, MemRenewal, MemSink, MemSource, Net, Renewal};
+use base_outside::{
+    Address, MemClock, MemDisk, MemRenewal, MemSink, MemSource, Net, Renewal, TellsRoom,
+};
 use log::LevelFilter;
 use rand_chacha::ChaCha20Rng;
 use rand_core::SeedableRng;
@@ -44,7 +46,7 @@ pub(crate) fn served_with<W, D, N>(
 ) -> (Ending, Option<D>)
 where
     W: Wait + Threads + Sync,
-    D: Renewal + Drop + Send,
+    D: Renewal + TellsRoom + Drop + Send,
     N: Net + Drop,
 {
     let level = LevelFilter::Info;
@@ -81,7 +83,7 @@ pub(crate) fn served_alone<W, D, N>(
 ) -> Result<Outcome<D>, AllocError>
 where
     W: Wait + Threads + Sync,
-    D: Renewal + Drop + Send,
+    D: Renewal + TellsRoom + Drop + Send,
     N: Net + Drop,
 {
     let mut source = MemSource::new(alloc, Bytes::new(alloc), Bytes::new(alloc))?;

@@ -1,6 +1,6 @@
 ghost use Rattle.std.specs.Prelude.{[]};
 
-use base_outside::{Disk, DiskStep, Failed, Renewal};
+use base_outside::{Disk, DiskStep, Failed, Renewal, TellsRoom};
 use std::alloc::{AllocError, Global};
 use wire_bytes::Bytes;
 
@@ -103,6 +103,12 @@ impl Disk for FullDisk {
 
     fn sync(&mut self) -> Result<(), Failed> {
         Ok(())
+    }
+}
+
+impl TellsRoom for FullDisk {
+    fn write_if_room(&mut self, _at: u64, _from: &[u8]) -> Result<DiskStep, Failed> {
+        Ok(DiskStep::NoRoom)
     }
 }
 
