@@ -1,5 +1,5 @@
 // The server that the client's channels are tried against.
-use base_outside::{Address, MemClock, MemDisk, MemSink, MemSource, Net};
+use base_outside::{Address, MemClock, MemDisk, MemRenewal, MemSink, MemSource, Net};
 use log::LevelFilter;
 use rand_chacha::ChaCha20Rng;
 use rand_core::SeedableRng;
@@ -34,7 +34,8 @@ where
 {
     let mut source = MemSource::new(alloc, Bytes::new(alloc), Bytes::new(alloc))?;
     let mut sink = MemSink::new(alloc, Bytes::new(alloc))?;
-    let disk = MemDisk::new(alloc, Bytes::new(alloc), Bytes::new(alloc))?;
+    let empty = MemDisk::new(alloc, Bytes::new(alloc), Bytes::new(alloc))?;
+    let disk = MemRenewal::new(alloc, empty, 1_048_576);
     let level = LevelFilter::Info;
     let said = Said {
         address: AT,

@@ -89,6 +89,24 @@ fn a_draft_takes_the_journals_place(rt: HostRuntime) -> Result<(), Fail> {
     Ok(())
 }
 
+// A draft that was left is removed by the next server's first call, and one that nobody goes on with by the next write.
+#[test]
+fn a_draft_that_is_left_is_removed(rt: HostRuntime) -> Result<(), Fail> {
+    let shared = Shared::new(rt.alloc());
+    let mut first = JournalFile::new(&rt, &rt, &shared);
+    assert_eq!(rt; first.begin_draft(), Ok(DiskStep::Done));
+    drop(first);
+    assert_eq!(rt; fs::exists(&rt, "smb311.draft")?, true);
+    let mut second = JournalFile::new(&rt, &rt, &shared);
+    assert_eq!(rt; second.write_at(0, b"abc"), Ok(()));
+    assert_eq!(rt; fs::exists(&rt, "smb311.draft")?, false);
+    assert_eq!(rt; second.begin_draft(), Ok(DiskStep::Done));
+    assert_eq!(rt; second.write_at(3, b"def"), Ok(()));
+    assert_eq!(rt; fs::exists(&rt, "smb311.draft")?, false);
+    assert_eq!(rt; second.length(), Ok(6));
+    Ok(())
+}
+
 // The second of two has failed and has changed nothing, until the first has gone.
 #[test]
 fn one_server_has_the_journal(rt: HostRuntime) -> Result<(), Fail> {

@@ -1,4 +1,4 @@
-use base_outside::{Address, Disk, MemClock, MemSink, MemSource, Net};
+use base_outside::{Address, MemClock, MemDisk, MemRenewal, MemSink, MemSource, Net, Renewal};
 use log::LevelFilter;
 use rand_chacha::ChaCha20Rng;
 use rand_core::SeedableRng;
@@ -13,6 +13,24 @@ pub(crate) const AT: Address = Address {
     port: 4450,
 };
 
+/// How many bytes a draft may have.
+const ROOM: u64 = 1_048_576;
+
+/// A disk that holds these bytes, has room for drafts, and fails where its plan says so.
+pub(crate) fn disk_with(
+    alloc: Global,
+    bytes: Bytes,
+    failing: Bytes,
+) -> Result<MemRenewal, AllocError> {
+    let disk = MemDisk::new(alloc, bytes, failing)?;
+    Ok(MemRenewal::new(alloc, disk, ROOM))
+}
+
+/// One without bytes that never fails.
+pub(crate) fn empty_disk(alloc: Global) -> Result<MemRenewal, AllocError> {
+    disk_with(alloc, Bytes::new(alloc), Bytes::new(alloc))
+}
+
 /// How the command ends that is to serve so many links at an address, and the disk where it is given back.
 pub(crate) fn served_with<W, D, N>(
     rt: &W,
@@ -26,7 +44,7 @@ pub(crate) fn served_with<W, D, N>(
 ) -> (Ending, Option<D>)
 where
     W: Wait + Threads + Sync,
-    D: Disk + Drop + Send,
+    D: Renewal + Drop + Send,
     N: Net + Drop,
 {
     let level = LevelFilter::Info;
@@ -63,7 +81,7 @@ pub(crate) fn served_alone<W, D, N>(
 ) -> Result<Outcome<D>, AllocError>
 where
     W: Wait + Threads + Sync,
-    D: Disk + Drop + Send,
+    D: Renewal + Drop + Send,
     N: Net + Drop,
 {
     let mut source = MemSource::new(alloc, Bytes::new(alloc), Bytes::new(alloc))?;

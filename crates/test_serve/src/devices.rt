@@ -1,6 +1,6 @@
-use crate::calls::{AT, Outcome, served_alone, served_with};
+use crate::calls::{AT, Outcome, disk_with, empty_disk, served_alone, served_with};
 use crate::files::{CREATE, OPEN, logged_on, while_one_creates};
-use base_outside::{Link, MemDisk, MemNet, MemSink, MemSource, Net};
+use base_outside::{Link, MemNet, MemRenewal, MemSink, MemSource, Net};
 use serve_command::Ending;
 use std::alloc::{AllocError, Global};
 use std::process::Abort;
@@ -9,10 +9,6 @@ use std::test::Fail;
 use std::thread::{self, Threads};
 use test_peer::{Client, FailingNet, failing_at};
 use wire_bytes::Bytes;
-
-fn empty_disk(alloc: Global) -> Result<MemDisk, AllocError> {
-    MemDisk::new(alloc, Bytes::new(alloc), Bytes::new(alloc))
-}
 
 /// Whether a file was made, and how many bytes were written, as a peer was told.
 type Told = (bool, Option<u32>);
@@ -57,7 +53,7 @@ fn found_by<N: Net + Drop>(alloc: Global, mut net: N) -> Option<Found> {
 fn found_on<W: Wait + Threads + Sync>(
     rt: &W,
     alloc: Global,
-    disk: Option<MemDisk>,
+    disk: Option<MemRenewal>,
 ) -> Result<(Ending, Option<Found>), Fail> {
     let Some(disk) = disk else {
         return Err(Fail::new("no disk"));
@@ -76,7 +72,7 @@ fn found_on<W: Wait + Threads + Sync>(
     Ok((ending, found))
 }
 
-type Both<T> = (Result<Outcome<MemDisk>, AllocError>, T);
+type Both<T> = (Result<Outcome<MemRenewal>, AllocError>, T);
 
 // Two links of which the first fails at the server's end.
 fn while_a_link_fails<W: Wait + Threads + Sync>(
@@ -128,33 +124,34 @@ fn a_link_that_fails_ends_its_connection(rt: HostRuntime) -> Result<(), Fail> {
     Ok(())
 }
 
-// A start on an empty disk makes twelve calls. An event's records take four: their bytes, a sync, their gate, and a sync.
+// A start on an empty disk makes twelve calls. In front of the first event the journal is written anew by five: a draft, its mark, a body, a
+// gate, and that it takes the journal's place. An event's records take four: their bytes, a sync, their gate, and a sync.
 fn a_disk_fails<W: Wait + Threads + Sync + Abort>(
     rt: &W,
     alloc: Global,
     call: usize,
 ) -> Result<(), Fail> {
     let failing = failing_at(alloc, call)?;
-    let disk = MemDisk::new(alloc, Bytes::new(alloc), failing)?;
+    let disk = disk_with(alloc, Bytes::new(alloc), failing)?;
     let (served, created) = while_one_creates(rt, alloc, disk)?;
     let Outcome { ending, sink, disk } = served?;
-    let due = if call <= 15 {
+    let due = if call <= 20 {
         Ending::DiskFailed
     } else {
         Ending::Done
     };
     assert_eq!(rt; ending, due, "{call}");
-    let lines = if call <= 15 {
+    let lines = if call <= 20 {
         ""
     } else {
         "INFO connection 1 closed\n"
     };
     assert_eq!(rt; sink.bytes(), lines.as_bytes(), "{call}");
-    let answered = if call <= 11 { None } else { Some(call > 15) };
+    let answered = if call <= 16 { None } else { Some(call > 20) };
     assert_eq!(rt; created, answered, "{call}");
-    // With its gate open the body stands, answered or not. Call 16 is the first one of the new server.
-    let of_a = if call <= 14 { None } else { Some(0) };
-    let found = if call <= 15 {
+    // With its gate open the body stands, answered or not. Call 21 is the first one of the new server.
+    let of_a = if call <= 19 { None } else { Some(0) };
+    let found = if call <= 20 {
         (Ending::Done, Some((of_a, None)))
     } else {
         (Ending::DiskFailed, None)
@@ -165,7 +162,7 @@ fn a_disk_fails<W: Wait + Threads + Sync + Abort>(
 
 #[test]
 fn a_disk_that_fails_ends_the_server_without_an_answer(rt: HostRuntime) -> Result<(), Fail> {
-    for call in 0..17 {
+    for call in 0..22 {
         a_disk_fails(&rt, rt.alloc(), call)?;
     }
     Ok(())

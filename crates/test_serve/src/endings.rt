@@ -1,6 +1,6 @@
-use crate::calls::{AT, Outcome, served_alone, served_with};
+use crate::calls::{AT, Outcome, disk_with, served_alone, served_with};
 use crate::full_disk::FullDisk;
-use base_outside::{Address, MemDisk, MemNet, MemSink, MemSource, Printed, Watch};
+use base_outside::{Address, MemNet, MemRenewal, MemSink, MemSource, Printed, Watch};
 use serve_command::{config_in, usage};
 use std::alloc::{AllocError, Global};
 use std::process::Abort;
@@ -51,9 +51,9 @@ fn source_of(alloc: Global, outside: &Outside<'_>) -> Result<MemSource, AllocErr
     MemSource::new(alloc, bytes_of(alloc, outside.settings)?, failing)
 }
 
-fn disk_of(alloc: Global, outside: &Outside<'_>) -> Result<MemDisk, AllocError> {
+fn disk_of(alloc: Global, outside: &Outside<'_>) -> Result<MemRenewal, AllocError> {
     let failing = first_call(alloc, outside.disk_fails)?;
-    MemDisk::new(alloc, bytes_of(alloc, outside.disk)?, failing)
+    disk_with(alloc, bytes_of(alloc, outside.disk)?, failing)
 }
 
 // A side of a net over which no link can be opened.
@@ -72,7 +72,7 @@ fn ended<W: Wait + Threads + Sync>(
     rt: &W,
     alloc: Global,
     outside: &Outside<'_>,
-) -> Result<Outcome<MemDisk>, AllocError> {
+) -> Result<Outcome<MemRenewal>, AllocError> {
     let mut source = source_of(alloc, outside)?;
     let mut sink = MemSink::new(alloc, first_call(alloc, outside.sink_fails)?)?;
     let disk = disk_of(alloc, outside)?;

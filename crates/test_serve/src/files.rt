@@ -1,5 +1,5 @@
-use crate::calls::{AT, Outcome, served_alone};
-use base_outside::{MemDisk, MemNet, Net};
+use crate::calls::{AT, Outcome, empty_disk, served_alone};
+use base_outside::{MemNet, MemRenewal, Net};
 use serve_command::Ending;
 use std::alloc::{AllocError, Global};
 use std::process::Abort;
@@ -45,12 +45,12 @@ fn creates<N: Net + Drop>(alloc: Global, mut net: N) -> Option<bool> {
     Some(client.create("a", CREATE).is_some())
 }
 
-type Both<T> = (Result<Outcome<MemDisk>, AllocError>, Option<T>);
+type Both<T> = (Result<Outcome<MemRenewal>, AllocError>, Option<T>);
 
 fn while_one_writes<W: Wait + Threads + Sync>(
     rt: &W,
     alloc: Global,
-    disk: MemDisk,
+    disk: MemRenewal,
 ) -> Result<Both<u32>, AllocError> {
     let (ours, theirs) = MemNet::new(rt, alloc, 1, Bytes::new(alloc), Bytes::new(alloc))?;
     Ok(thread::join(
@@ -60,10 +60,10 @@ fn while_one_writes<W: Wait + Threads + Sync>(
     ))
 }
 
-fn while_one_reads<W: Wait + Threads + Sync>(
+pub(crate) fn while_one_reads<W: Wait + Threads + Sync>(
     rt: &W,
     alloc: Global,
-    disk: MemDisk,
+    disk: MemRenewal,
 ) -> Result<Both<Bytes>, AllocError> {
     let (ours, theirs) = MemNet::new(rt, alloc, 1, Bytes::new(alloc), Bytes::new(alloc))?;
     Ok(thread::join(
@@ -76,7 +76,7 @@ fn while_one_reads<W: Wait + Threads + Sync>(
 pub(crate) fn while_one_creates<W: Wait + Threads + Sync>(
     rt: &W,
     alloc: Global,
-    disk: MemDisk,
+    disk: MemRenewal,
 ) -> Result<Both<bool>, AllocError> {
     let (ours, theirs) = MemNet::new(rt, alloc, 1, Bytes::new(alloc), Bytes::new(alloc))?;
     Ok(thread::join(
@@ -86,7 +86,7 @@ pub(crate) fn while_one_creates<W: Wait + Threads + Sync>(
     ))
 }
 
-fn is_done<W: Abort>(rt: &W, served: &Outcome<MemDisk>) {
+pub(crate) fn is_done<W: Abort>(rt: &W, served: &Outcome<MemRenewal>) {
     assert_eq!(rt; served.ending, Ending::Done);
     assert_eq!(rt;
         served.sink.bytes(),
@@ -97,7 +97,7 @@ fn is_done<W: Abort>(rt: &W, served: &Outcome<MemDisk>) {
 #[test]
 fn a_file_outlives_its_server(rt: HostRuntime) -> Result<(), Fail> {
     let alloc = rt.alloc();
-    let disk = MemDisk::new(alloc, Bytes::new(alloc), Bytes::new(alloc))?;
+    let disk = empty_disk(alloc)?;
     let (served, count) = while_one_writes(&rt, alloc, disk)?;
     let served = served?;
     assert_eq!(rt; count, Some(2));

@@ -1,6 +1,6 @@
 ghost use Rattle.std.specs.Prelude.{[]};
 
-use base_outside::{Disk, Failed};
+use base_outside::{Disk, DiskStep, Failed, Renewal};
 use std::alloc::{AllocError, Global};
 use wire_bytes::Bytes;
 
@@ -103,5 +103,21 @@ impl Disk for FullDisk {
 
     fn sync(&mut self) -> Result<(), Failed> {
         Ok(())
+    }
+}
+
+impl Renewal for FullDisk {
+    ghost drafted = { λ _. [] };
+
+    fn begin_draft(&mut self) -> Result<DiskStep, Failed> {
+        Ok(DiskStep::NoRoom)
+    }
+
+    fn put_draft(&mut self, _from: &[u8]) -> Result<DiskStep, Failed> {
+        Ok(DiskStep::NoRoom)
+    }
+
+    fn adopt(&mut self) -> Result<DiskStep, Failed> {
+        Ok(DiskStep::NoRoom)
     }
 }

@@ -2,7 +2,7 @@
 //! because a crate with tests is proved twice. Nothing stands on it.
 //!
 //! Tests of the command that serves: how it ends, what its words say, that a file outlives its server, what becomes of it where each call
-//! of a device fails, and that links are served at the same time. They stand in a crate of their own, so that the crates that they call
+//! of a device fails, that its journal is written anew, and that links are served at the same time. They stand in a crate of their own, so that the crates that they call
 //! aren't proved a second time for them.
 #![tactic(auto)]
 
@@ -20,5 +20,7 @@ mod full_disk;
 mod links;
 #[cfg(test)]
 mod meeting;
+#[cfg(test)]
+mod renewal;
 #[cfg(test)]
 mod words;

@@ -1,6 +1,6 @@
-use crate::calls::{AT, Outcome, served_alone};
+use crate::calls::{AT, Outcome, empty_disk, served_alone};
 use crate::meeting::{MeetingNet, Replies};
-use base_outside::{Failed, Link, MemDisk, MemNet, Net};
+use base_outside::{Failed, Link, MemNet, MemRenewal, Net};
 use std::alloc::{AllocError, Global};
 use std::sync::Wait;
 use std::test::Fail;
@@ -37,7 +37,7 @@ fn meet<N: Net + Drop>(mut net: N, message: &[u8]) -> Result<(bool, bool), Faile
 }
 
 type Met = (
-    Result<Outcome<MemDisk>, AllocError>,
+    Result<Outcome<MemRenewal>, AllocError>,
     Result<(bool, bool), Failed>,
 );
 
@@ -45,7 +45,7 @@ fn in_two_threads<W: Wait + Threads + Sync + time::Clock>(
     rt: &W,
     alloc: Global,
     replies: &Replies,
-    disk: MemDisk,
+    disk: MemRenewal,
     message: &[u8],
 ) -> Result<Met, AllocError> {
     let (ours, theirs) = MemNet::new(rt, alloc, 2, Bytes::new(alloc), Bytes::new(alloc))?;
@@ -62,7 +62,7 @@ fn in_two_threads<W: Wait + Threads + Sync + time::Clock>(
 fn two_links_meet(rt: HostRuntime) -> Result<(), Fail> {
     let alloc = rt.alloc();
     let message = hex::decode(alloc, NEGOTIATE)?;
-    let disk = MemDisk::new(alloc, Bytes::new(alloc), Bytes::new(alloc))?;
+    let disk = empty_disk(alloc)?;
     let replies = Replies::new();
     let (served, met) = in_two_threads(&rt, alloc, &replies, disk, message.as_slice())?;
     let Outcome {
@@ -106,7 +106,7 @@ fn a_third_and_a_fourth_link_come_behind_ended_ones(rt: HostRuntime) -> Result<(
     let alloc = rt.alloc();
     let message = hex::decode(alloc, NEGOTIATE)?;
     let message = message.as_slice();
-    let disk = MemDisk::new(alloc, Bytes::new(alloc), Bytes::new(alloc))?;
+    let disk = empty_disk(alloc)?;
     let (ours, theirs) = MemNet::new(&rt, alloc, 4, Bytes::new(alloc), Bytes::new(alloc))?;
     let (served, came) = thread::join(
         &rt,

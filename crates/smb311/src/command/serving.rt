@@ -7,7 +7,7 @@ ghost use Rattle.serve_turns.specs.link_serving.Passage.{IsOfNet};
 ghost use Rattle.serve_command.specs.declared.ending.Ending.{Ending};
 ghost use Rattle.smb311.specs.command.Top.{Serves, serve_status};
 
-use base_outside::{Clock, Disk, Net, Sink, Source};
+use base_outside::{Clock, Net, Renewal, Sink, Source};
 use rand_core::Rng;
 use serve_command::{Finished, read_words, serve, usage};
 use std::alloc::Global;
@@ -38,7 +38,7 @@ where
     W: Wait + Threads + Sync,
     S: Source,
     O: Sink,
-    D: Disk + Drop + Send,
+    D: Renewal + Drop + Send,
     N: Net + Drop,
     C: Clock + Drop + Send,
     R: Rng + Drop + Send,
@@ -75,7 +75,7 @@ where
     W: Wait + Threads + Sync,
     S: Source,
     O: Sink,
-    D: Disk + Drop + Send,
+    D: Renewal + Drop + Send,
     N: Net + Drop,
     C: Clock + Drop + Send,
     R: Rng + Drop + Send,

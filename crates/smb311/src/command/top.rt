@@ -15,7 +15,7 @@ ghost use Rattle.smb311.specs.command.Top.{Runs, Serves, asks_client, asks_serve
 use crate::command::running::{Left, run_by};
 use crate::command::serving::{Ran, served};
 use crate::command::words::{asks_client, asks_server};
-use base_outside::{Clock, Disk, Net, Sink, Source};
+use base_outside::{Clock, Net, Renewal, Sink, Source};
 use drill_command::smb311_drill;
 use rand_core::Rng;
 use std::alloc::Global;
@@ -45,7 +45,7 @@ where
     W: Wait + Threads + Sync,
     S: Source,
     O: Sink,
-    D: Disk + Drop + Send,
+    D: Renewal + Drop + Send,
     N: Net + Drop + Send,
     C: Clock + Drop + Send,
     R: Rng + Drop + Send,
