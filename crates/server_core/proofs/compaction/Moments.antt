@@ -9,7 +9,7 @@ use Rattle.journal.specs.disk_journal.Journal.{JournalState, JournalSettled}
 use Rattle.journal.specs.disk_journal.Rewrite.{DraftStops, OnlyDrafted}
 use Rattle.server_checks.specs.declared.setups.error.EventError.{EventError}
 use Rattle.server_checks.specs.declared.setups.error.EventError.TheVariants.{Memory, DiskFault, Stopped}
-use Rattle.server_core.specs.compaction.Compacts.{HasBodies, IsAnew, JournalRewrites, RewriteLeaves}
+use Rattle.server_core.specs.compaction.Compacts.{HasNewBodies, IsAnew, JournalRewrites, RewriteLeaves}
 use Rattle.server_core.specs.snapshot_writing.Told.{IsDraftWritten}
 use Rattle.server_core.specs.snapshot_writing.Whole.{IsSnapshotOf}
 use Rattle.server_core.proofs.snapshot_writing.Lemmas.{stopped_same, stops_then, written_then}

@@ -1,5 +1,5 @@
 use Rattle.std.proofs.Common.{Ok, subst}
-use Rattle.server_core.specs.compaction.Compacts.{HasBodies, IsAnew, JournalRewrites}
+use Rattle.server_core.specs.compaction.Compacts.{HasNewBodies, IsAnew, JournalRewrites}
 use Rattle.server_core.proofs.compaction.Anew.{SnapshotLaws, pieces_of}
 use Rattle.server_core.proofs.compaction.Held.{anew_holds, compaction_leaves}
 use Rattle.server_core.proofs.compaction.Moments.{leaves_more}
@@ -16,7 +16,7 @@ returns-in-Ok-true-clause-compacts g c = λ base s L records h.
     } in
     let new = c.rewrite_journal-written.new.journal in
     let a : IsAnew g.D.Disk.told g.D.Disk.seen g.D.Disk.may_leave new s =
-    subst (λ b. HasBodies g.D.Disk.told g.D.Disk.seen g.D.Disk.may_leave new s (Ok b)) c.in-Ok-true.field-0-test
+    subst (λ b. HasNewBodies g.D.Disk.told g.D.Disk.seen g.D.Disk.may_leave new s (Ok b)) c.in-Ok-true.field-0-test
     (c.in-Ok-true.ensures.anew s h.fits h.shown.tables.files h.shown.tables.opens h.shown.tables.version_is) in
     let cause = subst (λ b. JournalRewrites g.D.Disk.faults c.args.server.now.journal (Ok b) new) c.in-Ok-true.field-0-test
     c.in-Ok-true.ensures.cause in (
