@@ -1,2 +1,2 @@
 mod Behind
-mod Over
+pub mod Over

@@ -21,9 +21,9 @@ abbrev pub disk_of : {D : Type 0} → Server D → D
 disk_of x = x.state.journal.disk
 
 -- entries without checksums
-abbrev pub is_plain : Form → Bool
-is_plain Plain = true
-is_plain Summed = false
+abbrev pub has_no_sums : Form → Bool
+has_no_sums Plain = true
+has_no_sums Summed = false
 
 abbrev pub config_of : {D : Type 0} → Server D → Config
 config_of x = x.state.tables.config

@@ -41,7 +41,7 @@ pub struct Server<D: Disk> {
 }
 
 impl<D: Disk> Server<D> {
-    ghost use Rattle.server_core.specs.Shown.{HoldsServerOver, config_of, disk_of, is_plain, journal_of, state_of, stopped_of};
+    ghost use Rattle.server_core.specs.Shown.{HoldsServerOver, config_of, disk_of, has_no_sums, journal_of, state_of, stopped_of};
 
     /// A server on the disk that an earlier one left, or on an empty one: it holds what the journal's records stand for, under the
     /// next epoch, which goes into the journal.
@@ -160,7 +160,7 @@ impl<D: Disk> Server<D> {
 
     /// Whether the journal's entries have no checksums, as those of earlier programs.
     pub fn is_first_form(&self) -> bool
-        ensures { result ≡ is_plain (journal_of self.now).form }
+        ensures { result ≡ has_no_sums (journal_of self.now).form }
     {
         match self.state.journal.form() {
             Form::Plain => true,

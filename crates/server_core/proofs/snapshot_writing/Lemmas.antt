@@ -140,17 +140,17 @@ module _ {D : Type 0} (told : Type 0) (seen : D → List ℕ) (may_leave : D →
     };
   }
 
-  written_then : (a b c : JournalState D) → IsDraftWritten faults a b → IsDraftWritten faults b c → IsDraftWritten faults a c
+  pub written_then : (a b c : JournalState D) → IsDraftWritten faults a b → IsDraftWritten faults b c → IsDraftWritten faults a c
   written_then a b c p q = (
     q.0 ∙ ap (λ (j : JournalState D). record j { disk = c.disk; room = c.room }) p.0,
     omega (arith, p.1, q.1),
     q.2 ∙ p.2,
   )
 
-  stopped_same : (a b : JournalState D) → IsDraftWritten faults a b → b.stopped ≡ a.stopped
+  pub stopped_same : (a b : JournalState D) → IsDraftWritten faults a b → b.stopped ≡ a.stopped
   stopped_same a b p = ap (λ (j : JournalState D). j.stopped) p.0
 
-  stops_then : (a b c : JournalState D) (n : ℕ) → IsDraftWritten faults a b → DraftStops faults n b c → DraftStops faults n a c
+  pub stops_then : (a b c : JournalState D) (n : ℕ) → IsDraftWritten faults a b → DraftStops faults n b c → DraftStops faults n a c
   stops_then a b c n p q = (
     sym (stopped_same a b p) ∙ q.0,
     subst (λ k. Rose k n) p.2 q.1,

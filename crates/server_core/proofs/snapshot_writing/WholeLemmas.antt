@@ -1,5 +1,5 @@
 -- The whole of a snapshot under way.
-use Rattle.std.proofs.Common.{◌≡◌, ℕ, ◌<◌, ◌≤◌, ◌==◌, Bool, true, false, if◌then◌else◌, Result, Ok, Err}
+use Rattle.std.proofs.Common.{◌≡◌, ℕ, zero, suc, ◌<◌, ◌≤◌, ◌==◌, Bool, true, false, if◌then◌else◌, Result, Ok, Err}
 use Rattle.std.proofs.Common.{OnOk, List, [], ◌∷◌, ◌++◌, length, refl, sym, ap, subst, ◌∙◌, arith}
 use Rattle.std.proofs.lemmas.Bool.Decides.{nat_tests}
 use Rattle.std.proofs.lemmas.List.{append-nil}
@@ -56,8 +56,9 @@ kept_in opened o (x ∷ xs) h = by (opened x).persistent refl h (λ i. kept_in o
 pub kept_are : (s : Server) (ids : List ℕ) → ids ≡ persistent_in s.opened s.opens → ArePersistent s ids
 kept_are s ids e o h = kept_in s.opened o s.opens (ap (has o) (sym e) ∙ h)
 
-pub some_epoch : (e n : ℕ) → e ≡ n → (e == 0) ≡ false → 0 < n
-some_epoch e n same t = let z : 0 < e = grind (arith, nat_tests) in omega (arith, z, same)
+pub some_epoch : (e n : ℕ) → e ≡ n → (e ≡ 0 → ⊥) → 0 < n
+some_epoch zero n same t = absurd (t refl)
+some_epoch (suc k) n same t = omega (arith, same)
 
 -- no bytes are no pieces
 some_size : (p : SnapshotPiece) → 0 < piece_size p

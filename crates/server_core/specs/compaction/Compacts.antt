@@ -81,17 +81,17 @@ IsAnew told seen may_leave journal s = (bodies : List (List ℕ)) × IsSnapshotO
     × (told → JournalSettled seen may_leave journal bodies)
 
 -- it has them where it was done, and else those that it had
-abbrev pub HasBodies : {D : Type 0} → Type 0 → (D → List ℕ) → (D → List ℕ → Type 0) → JournalState D → model.Server
+abbrev pub HasNewBodies : {D : Type 0} → Type 0 → (D → List ℕ) → (D → List ℕ → Type 0) → JournalState D → model.Server
     → Result Bool EventError → Type 0
-HasBodies told seen may_leave journal s (Ok true) = IsAnew told seen may_leave journal s
-HasBodies told seen may_leave journal s (Ok false) = ⊤
-HasBodies told seen may_leave journal s (Err x) = ⊤
+HasNewBodies told seen may_leave journal s (Ok true) = IsAnew told seen may_leave journal s
+HasNewBodies told seen may_leave journal s (Ok false) = ⊤
+HasNewBodies told seen may_leave journal s (Err x) = ⊤
 
-abbrev pub KeepsBodies : {D : Type 0} → (D → List ℕ) → (D → List ℕ → Type 0) → JournalState D → List (List ℕ) → Result Bool EventError
+abbrev pub HasOldBodies : {D : Type 0} → (D → List ℕ) → (D → List ℕ → Type 0) → JournalState D → List (List ℕ) → Result Bool EventError
     → Type 0
-KeepsBodies seen may_leave journal bodies (Ok true) = ⊤
-KeepsBodies seen may_leave journal bodies (Ok false) = JournalSettled seen may_leave journal bodies
-KeepsBodies seen may_leave journal bodies (Err x) = ⊤
+HasOldBodies seen may_leave journal bodies (Ok true) = ⊤
+HasOldBodies seen may_leave journal bodies (Ok false) = JournalSettled seen may_leave journal bodies
+HasOldBodies seen may_leave journal bodies (Err x) = ⊤
 
 -- a crash leaves the bodies before, or those of a snapshot
 abbrev pub RewriteLeaves : model.Server → List (List ℕ) → List ℕ → Type 0

@@ -1,5 +1,5 @@
 //! The journal as a snapshot of the tables: a draft is begun, the snapshot goes into it, and it takes the disk's place.
-ghost use Rattle.std.specs.Prelude.{◌≡◌, ℕ, List, None};
+ghost use Rattle.std.specs.Prelude.{◌≡◌, ℕ, List, [], None};
 ghost use Rattle.spec_exchange.specs.State as model;
 ghost use Rattle.spec_wire.specs.journal.Moments.{LeavesOnly};
 ghost use Rattle.law_server.specs.tables.Fits.{Fits};
@@ -8,7 +8,7 @@ ghost use Rattle.journal.specs.disk_journal.Rewrite.{IsDrafted};
 ghost use Rattle.store_files.specs.file_tree.Shown.{ShowsFiles};
 ghost use Rattle.store_opens.specs.open_table.Shown.{ShowsOpens};
 ghost use Rattle.server_core.specs.snapshot_writing.Whole.{IsWholeSnapshot};
-ghost use Rattle.server_core.specs.compaction.Compacts.{HasBodies, JournalRewrites, KeepsBodies, RewriteLeaves, given_up_by};
+ghost use Rattle.server_core.specs.compaction.Compacts.{HasNewBodies, JournalRewrites, HasOldBodies, RewriteLeaves, given_up_by};
 
 use crate::snapshot_writing::{Unwritten, write_snapshot};
 use base_outside::{DiskStep, Renewal};
@@ -28,9 +28,9 @@ pub fn rewrite_journal<D: Renewal>(
     opens: &Opens,
 ) -> Result<bool, EventError>
     ensures anew { (s : model.Server) → Fits s → ShowsFiles tree.now s → ShowsOpens opens.now s → s.version ≡ version
-        → HasBodies D.told D.seen D.may_leave journal.new s result }
+        → HasNewBodies D.told D.seen D.may_leave journal.new s result }
     ensures goes_on { D.told → (bodies : List (List ℕ)) → JournalSettled D.seen D.may_leave journal.old bodies
-        → KeepsBodies D.seen D.may_leave journal.new bodies result }
+        → HasOldBodies D.seen D.may_leave journal.new bodies result }
     ensures any_moment { D.told → (s : model.Server) (bodies : List (List ℕ)) → Fits s → ShowsFiles tree.now s → ShowsOpens opens.now s
         → s.version ≡ version → JournalSettled D.seen D.may_leave journal.old bodies
         → LeavesOnly D.moment D.left_since journal.old.disk journal.new.disk (RewriteLeaves s bodies) }
@@ -55,9 +55,9 @@ fn write_and_adopt<D: Renewal>(
     requires { journal.old.stopped ≡ None }
     ensures anew { (s : model.Server) → Fits s → ShowsFiles tree.now s → ShowsOpens opens.now s → s.version ≡ version
         → (D.told → IsDrafted D.drafted journal.old.disk rewrite [])
-        → HasBodies D.told D.seen D.may_leave journal.new s result }
+        → HasNewBodies D.told D.seen D.may_leave journal.new s result }
     ensures goes_on { D.told → (bodies : List (List ℕ)) → JournalSettled D.seen D.may_leave journal.old bodies
-        → KeepsBodies D.seen D.may_leave journal.new bodies result }
+        → HasOldBodies D.seen D.may_leave journal.new bodies result }
     ensures any_moment { D.told → (s : model.Server) (bodies : List (List ℕ)) → Fits s → ShowsFiles tree.now s → ShowsOpens opens.now s
         → s.version ≡ version → (D.told → IsDrafted D.drafted journal.old.disk rewrite [])
         → JournalSettled D.seen D.may_leave journal.old bodies
@@ -76,9 +76,9 @@ fn write_and_adopt<D: Renewal>(
 fn adopt_draft<D: Renewal>(journal: &mut Journal<D>, draft: &Rewrite) -> Result<bool, EventError>
     requires { journal.old.stopped ≡ None }
     ensures anew { (s : model.Server) → IsWholeSnapshot D.told D.drafted journal.old.disk draft.now s
-        → HasBodies D.told D.seen D.may_leave journal.new s result }
+        → HasNewBodies D.told D.seen D.may_leave journal.new s result }
     ensures goes_on { D.told → (bodies : List (List ℕ)) → JournalSettled D.seen D.may_leave journal.old bodies
-        → KeepsBodies D.seen D.may_leave journal.new bodies result }
+        → HasOldBodies D.seen D.may_leave journal.new bodies result }
     ensures any_moment { D.told → (s : model.Server) (bodies : List (List ℕ))
         → IsWholeSnapshot D.told D.drafted journal.old.disk draft.now s → JournalSettled D.seen D.may_leave journal.old bodies
         → LeavesOnly D.moment D.left_since journal.old.disk journal.new.disk (RewriteLeaves s bodies) }

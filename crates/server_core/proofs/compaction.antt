@@ -1,0 +1,6 @@
+mod Ascending
+mod Orders
+mod Spelled
+mod Anew
+mod Moments
+mod Held
