@@ -40,10 +40,10 @@ use Rattle.serve_turns.specs.declared.event_book.turn.Answer.{Answer}
 use Rattle.serve_turns.specs.declared.event_book.turn.Asks.{Asks}
 use Rattle.serve_turns.specs.declared.event_book.turn.What.{What}
 use Rattle.serve_turns.specs.declared.event_book.turn.What.TheVariants.{Accept, Message, End}
-use Rattle.serve_turns.specs.event_book.History.{AllMeet, Course, GivenIf, Meets, MeetsAt, On, Off, Placed, Stand, Standing}
+use Rattle.serve_turns.specs.event_book.History.{Course, GivenIf, MeetsFrom, On, Off, Placed, Stand, Standing}
 use Rattle.serve_turns.specs.event_book.History.{StandsAt}
 use Rattle.conn_core.specs.served.Serving.{LeftBy}
-use Rattle.serve_command.specs.Alone.{AloneFrames, FindsBehind, InARow}
+use Rattle.serve_command.specs.Alone.{AllAsFound, AloneFrames, FindsBehind, InARow}
 
 some_same : {X : Type 0} (a b : X) → Some a ≡ Some b → a ≡ b
 some_same a b e = cc
@@ -243,7 +243,7 @@ module _ (z : ServerSettings) (h : Course) (k now : ℕ) (fresh : List ℕ) (f :
   befell_at : (place : ℕ) (d : Dealt) (c : Checked) (m : model.Message) (g : Given) (o : Option Given) (old : Stand) (told_at : ℕ)
       (what : What) (t : Answer) (to : Standing) → old.server ≡ d.going.server → old.logons ≡ d.going.logons → told_at ≡ now
       → HasBytes fresh what → IsTurnFor k f c what → heard_message z d.going.logons k f c ≡ Some m → h.found (place + 1) ≡ to
-      → o ≡ Some g → Meets z (On old) (record { seat = 0; event = record { now = told_at; what = what }; reply = t }) o to
+      → o ≡ Some g → MeetsFrom z (On old) (record { seat = 0; event = record { now = told_at; what = what }; reply = t }) o to
       → Befell place d c m g
   befell_at place d c m g o old told_at (Accept j) t to servers logons moment bytes shown heard there some meets = absurd shown
   befell_at place d c m g o old told_at (Message a) t to servers logons moment bytes shown heard there some meets =
@@ -287,12 +287,13 @@ module _ (z : ServerSettings) (h : Course) (k now : ℕ) (fresh : List ℕ) (f :
 
   -- the turn at a place that found what the messages so far left
   befell : (place : ℕ) (d : Dealt) (c : Checked) (m : model.Message) (g : Given) (x : Placed) → FoundAs place d.going → x.0 ≡ place
-      → x.1.event.now ≡ now → HasBytes fresh x.1.event.what → IsTurnFor k f c x.1.event.what → h.given x.0 ≡ Some g → MeetsAt z h x
+      → x.1.event.now ≡ now → HasBytes fresh x.1.event.what → IsTurnFor k f c x.1.event.what → h.given x.0 ≡ Some g
+      → MeetsFrom z (h.found x.0) x.1 (h.given x.0) (h.found (x.0 + 1))
       → heard_message z d.going.logons k f c ≡ Some m → Befell place d c m g
   befell place d c m g x found is moment bytes shown some meets heard =
       befell_at place d c m g (h.given x.0) found.0 x.1.event.now x.1.event.what x.1.reply (h.found (x.0 + 1)) found.2 found.3 moment bytes
       shown heard (ap (λ (n : ℕ). h.found (n + 1)) (sym is)) some
-      (subst (λ (s : Standing). Meets z s x.1 (h.given x.0) (h.found (x.0 + 1))) (ap h.found is ∙ found.1) meets)
+      (subst (λ (s : Standing). MeetsFrom z s x.1 (h.given x.0) (h.found (x.0 + 1))) (ap h.found is ∙ found.1) meets)
 
   -- ---- all messages
 
@@ -314,7 +315,7 @@ module _ (z : ServerSettings) (h : Course) (k now : ℕ) (fresh : List ℕ) (f :
   abbrev Rest : List Checked → Type 0
   Rest cs = (w : Owned) (n : ℕ) (given : List Given) (turns : List Placed) (place last : ℕ) → last ≡ place + length turns
       → w.dealt.missing ≡ false → n + length cs ≤ 4096
-      → AreFor k f (asked_all z k now fresh f (dealt_with w.dealt given n) cs) turns → AreGiven h turns given → AllMeet z h turns
+      → AreFor k f (asked_all z k now fresh f (dealt_with w.dealt given n) cs) turns → AreGiven h turns given → AllAsFound z h turns
       → Row now fresh place turns → Found place w.dealt → Single last given w cs
 
   none_given : (turns : List Placed) (given : List Given) → AreFor k f [] turns → AreGiven h turns given → given ≡ []
@@ -391,7 +392,7 @@ module _ (z : ServerSettings) (h : Course) (k now : ℕ) (fresh : List ℕ) (f :
       (turns : List Placed) (place last : ℕ) → last ≡ place + length turns → w.dealt.missing ≡ false → n + length (c ∷ cs) ≤ 4096
       → heard_message z w.dealt.going.logons k f c ≡ Some m
       → AreFor k f (c ∷ asked_all z k now fresh f (dealt_next z k f (dealt_with w.dealt given n) c given) cs) turns → AreGiven h turns given
-      → AllMeet z h turns → Row now fresh place turns → FoundAs place w.dealt.going → SingleEvent last given w c m cs true
+      → AllAsFound z h turns → Row now fresh place turns → FoundAs place w.dealt.going → SingleEvent last given w c m cs true
   event_rows cs rest w c m n given [] place last end full room heard fors are meet row found = absurd fors
   event_rows cs rest w c m n [] (x ∷ xs) place last end full room heard fors are meet row found = absurd are
   event_rows cs rest w c m n (g ∷ gs) (x ∷ xs) place last end full room heard fors are meet row found =
@@ -425,7 +426,7 @@ module _ (z : ServerSettings) (h : Course) (k now : ℕ) (fresh : List ℕ) (f :
       ++ asked_all z k now fresh f (if not event
       then record (dealt_with w.dealt given n) { going = went_heard z k now fresh f w.dealt.going c (Some m) }
       else if beyond then record (dealt_with w.dealt given n) { going = went_refused f w.dealt.going c insufficient_resources }
-      else dealt_next z k f (dealt_with w.dealt given n) c given) cs) turns → AreGiven h turns given → AllMeet z h turns
+      else dealt_next z k f (dealt_with w.dealt given n) c given) cs) turns → AreGiven h turns given → AllAsFound z h turns
       → Row now fresh place turns → FoundAs place w.dealt.going → SingleEvent last given w c m cs event
   by_event cs rest w c m n given turns place last false beyond end full is early room heard fors are meet row found =
       let less : n + length cs ≤ 4096 = omega (arith, room) in
@@ -441,7 +442,7 @@ module _ (z : ServerSettings) (h : Course) (k now : ℕ) (fresh : List ℕ) (f :
       → heard_message z w.dealt.going.logons k f c ≡ o
       → AreFor k f ((if asks_it (dealt_with w.dealt given n) c o then c ∷ [] else [])
       ++ asked_all z k now fresh f (dealt_heard z k now fresh f (dealt_with w.dealt given n) c o) cs) turns → AreGiven h turns given
-      → AllMeet z h turns → Row now fresh place turns → FoundAs place w.dealt.going → SingleHere last given w c o cs
+      → AllAsFound z h turns → Row now fresh place turns → FoundAs place w.dealt.going → SingleHere last given w c o cs
   heard_rows cs rest w c None n given turns place last end full room heard fors are meet row found =
       let less : n + length cs ≤ 4096 = omega (arith, room) in
       let r = rest (owned_aside z k now fresh f w c None) n given turns place last end full less fors are meet row (λ none. found) in
@@ -464,7 +465,7 @@ module _ (z : ServerSettings) (h : Course) (k now : ℕ) (fresh : List ℕ) (f :
       (turns : List Placed) (place last : ℕ) → last ≡ place + length turns → w.dealt.missing ≡ false → n + length (c ∷ cs) ≤ 4096
       → AreFor k f (asked_in z k f (dealt_with w.dealt given n) t
       ++ asked_all z k now fresh f (dealt_turn z k now fresh f (dealt_with w.dealt given n) c t) cs) turns → AreGiven h turns given
-      → AllMeet z h turns → Row now fresh place turns → FoundAs place w.dealt.going → SingleTurn last given w c t cs
+      → AllAsFound z h turns → Row now fresh place turns → FoundAs place w.dealt.going → SingleTurn last given w c t cs
   turn_rows cs rest w c (Goes e) n given turns place last end full room fors are meet row found =
       let r = heard_rows cs rest w e (heard_message z w.dealt.going.logons k f e) n given turns place last end full room refl fors are meet
       row
@@ -501,7 +502,7 @@ module _ (z : ServerSettings) (h : Course) (k now : ℕ) (fresh : List ℕ) (f :
       → n + length (c ∷ cs) ≤ 4096
       → AreFor k f (if stopped then [] else asked_in z k f (dealt_with w.dealt given n) (turn_of w.dealt.going.carried c)
       ++ asked_all z k now fresh f (dealt_turn z k now fresh f (dealt_with w.dealt given n) c (turn_of w.dealt.going.carried c)) cs) turns
-      → AreGiven h turns given → AllMeet z h turns → Row now fresh place turns → Found place w.dealt → SingleIf last given w c cs stopped
+      → AreGiven h turns given → AllAsFound z h turns → Row now fresh place turns → Found place w.dealt → SingleIf last given w c cs stopped
   stop_rows cs rest w c n given turns place last true end full is room fors are meet row found =
       let u : Owned = record w { mishaps = [] } in
       let t = turn_of w.dealt.going.carried c in
@@ -555,7 +556,7 @@ record Alone (z : ServerSettings) (h : Course) (k now : ℕ) (fresh : List ℕ) 
 rows_of : (z : ServerSettings) (h : Course) (k now : ℕ) (fresh : List ℕ) (f : ServerEnd) (cs : List Checked) (server : model.Server)
     (logons : Logons) (before : ℕ) (given : List Given) (turns : List Placed) (place : ℕ) (s : Stand) → before + length cs ≤ 4096
     → AreFor k f (asked_all z k now fresh f (dealt_with (owning server logons f []).dealt given before) cs) turns → AreGiven h turns given
-    → AllMeet z h turns → InARow place turns → AreAtOnce now fresh turns → FindsFirst h turns server logons → h.found place ≡ On s
+    → AllAsFound z h turns → InARow place turns → AreAtOnce now fresh turns → FindsFirst h turns server logons → h.found place ≡ On s
     → Alone z h k now fresh f given server logons cs place turns
 rows_of z h k now fresh f cs server logons before given [] place s room fors are meet row once first found =
     let any : Stand = record { server = server; logons = logons; records = [] } in

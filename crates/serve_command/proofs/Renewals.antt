@@ -1,6 +1,6 @@
 -- What a server shows behind a look at its journal.
 use Rattle.std.proofs.Common.{◌≡◌, ◌⊎◌, inl, inr, ℕ, ◌<◌, ◌≤◌, Bool, true, false, List, Option, Some, None, Result, Ok, Err, ap, ◌∙◌}
-use Rattle.std.proofs.Common.{is_some, refl, subst, sym}
+use Rattle.std.proofs.Common.{is_some, refl, subst, sym, IfOk}
 use Rattle.std.proofs.lemmas.Bool.{cases_lt}
 use Rattle.spec_crypto.specs.tokens.Tokens.{Users}
 use Rattle.spec_exchange.specs.State as model
@@ -86,6 +86,15 @@ module _ {D : Type 0} (told : Type 0) (seen : D → List ℕ) (may_leave : D →
     faults_by s L records base (Err (errors.Stopped at)) k goes count stop = absurd (never_both _ at goes k.0)
     faults_by s L records base (Err errors.Memory) k goes count stop = absurd k
 
+    calm_by : (s : model.Server) (L : Logons) (records : List model.Record) (base : List SnapshotPiece)
+        (result : Result Bool EventError) → IfOk result (λ (done : Bool). server_faults faults new ≡ server_faults faults old)
+        → Compacts told seen may_leave faults base (state_of old.disk_book.book.server) (state_of new.disk_book.book.server) s L records result
+        → server_stopped old ≡ None → server_stopped new ≡ None → server_faults faults new ≡ server_faults faults old
+    calm_by s L records base (Ok done) calm k goes none = calm
+    calm_by s L records base (Err (errors.DiskFault at)) calm k goes none = absurd (never_both _ at none k.1)
+    calm_by s L records base (Err (errors.Stopped at)) calm k goes none = absurd (never_both _ at goes k.0)
+    calm_by s L records base (Err errors.Memory) calm k goes none = absurd k
+
     looked : (due : Bool) (size : ℕ) → LooksWhere told seen may_leave faults due old new size → (users : Users) (s : model.Server) (L : Logons)
         (records : List model.Record) → server_shows told seen may_leave old users s L records → server_stopped old ≡ None
         → Behind users s L records
@@ -101,6 +110,13 @@ module _ {D : Type 0} (told : Type 0) (seen : D → List ℕ) (may_leave : D →
         faults_by s L records h.0 w.0 (w.1.compacts h.0 s L records h.1.1) goes count stop
     looked_fault false size w users s L records h goes count stop =
         absurd (never_both _ count (ap (λ (x : LastingBook D). server_stopped x) w ∙ goes) stop)
+
+    looked_calm : (due : Bool) (size : ℕ) → LooksWhere told seen may_leave faults due old new size → (users : Users) (s : model.Server)
+        (L : Logons) (records : List model.Record) → server_shows told seen may_leave old users s L records → server_stopped old ≡ None
+        → server_stopped new ≡ None → server_faults faults new ≡ server_faults faults old
+    looked_calm true size w users s L records h goes none =
+        calm_by s L records h.0 w.0 w.1.calm (w.1.compacts h.0 s L records h.1.1) goes none
+    looked_calm false size w users s L records h goes none = ap (λ (x : LastingBook D). server_faults faults x) w
 
     -- the same by what is told where the mark is met, and where it isn't
     pub renewed_of : (users : Users) (s : model.Server) (L : Logons) (records : List model.Record)
@@ -125,3 +141,14 @@ module _ {D : Type 0} (told : Type 0) (seen : D → List ℕ) (may_leave : D →
             → StopsAtFault (server_faults faults old) (server_faults faults new) count
         meets (inr m) = looked_fault _ (looks m).0 (looks m).1 users s L records h goes count stop
         meets (inl m) = absurd (never_both _ count (ap (λ (x : LastingBook D). server_stopped x) (early m) ∙ goes) stop)
+
+    pub calm_of : (users : Users) (s : model.Server) (L : Logons) (records : List model.Record)
+        → (used_by old < old.mark → new ≡ old)
+        → (old.mark ≤ used_by old → (size : ℕ) × LooksAt told seen may_leave faults old new size)
+        → server_shows told seen may_leave old users s L records → server_stopped old ≡ None
+        → server_stopped new ≡ None → server_faults faults new ≡ server_faults faults old
+    calm_of users s L records early looks h goes none = meets (cases_lt (used_by old) old.mark)
+      where
+        meets : (used_by old < old.mark) ⊎ (old.mark ≤ used_by old) → server_faults faults new ≡ server_faults faults old
+        meets (inr m) = looked_calm _ (looks m).0 (looks m).1 users s L records h goes none
+        meets (inl m) = ap (λ (x : LastingBook D). server_faults faults x) (early m)

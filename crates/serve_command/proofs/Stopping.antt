@@ -36,7 +36,8 @@ use Rattle.serve_turns.specs.declared.link_serving.ended.ConnEnd.TheVariants as 
 use Rattle.serve_turns.specs.declared.link_serving.ended.Ended.{Ended}
 use Rattle.serve_turns.specs.declared.link_serving.ended.Ended.TheVariants.{By, Closed}
 use Rattle.serve_turns.specs.declared.shared_book.view.Entry.{Entry}
-use Rattle.serve_turns.specs.event_book.History.{Course, GivenIf, Meets, MeetsOn, Off, On, Placed, RunsBy, Stand, Standing}
+use Rattle.serve_turns.specs.event_book.History.{Course, GivenIf, IsRenewed, Meets, MeetsFrom, MeetsOn, Off, On, Placed, RunsBy, Stand}
+use Rattle.serve_turns.specs.event_book.History.{Standing}
 use Rattle.serve_turns.specs.event_book.History.{StopsAt}
 use Rattle.serve_turns.specs.shared_book.Histories.{entries_of, entry_if}
 
@@ -218,10 +219,20 @@ module _ (z : ServerSettings) (to : Standing) where
       (told_message z old.logons a.told meets.message (message_in a.frame.bytes.items meets.message)) t.reply meets.given
 
   -- of a message that was given a stop
+  given_from : (mid : Standing) (e : Entry event.Turn Answer) (g : Option Given) (count : ℕ) → MeetsFrom z mid e g to
+      → g ≡ Some (Stops count) → to ≡ Off count
+  given_from (On old) e g count meets stop = by_what old e.event.now e.event.what e.reply g count meets stop
+  given_from (Off n) e g count meets stop = meets.stays ∙ ap Off (one_stop g n count meets.given stop)
+
   off_given : (found : Standing) (e : Entry event.Turn Answer) (g : Option Given) (count : ℕ) → Meets z found e g to → g ≡ Some (Stops count)
       → to ≡ Off count
-  off_given (On old) e g count meets stop = by_what old e.event.now e.event.what e.reply g count meets stop
-  off_given (Off n) e g count meets stop = meets.stays ∙ ap Off (one_stop g n count meets.given stop)
+  off_given found e g count meets stop = given_from meets.0 e g count meets.2 stop
+
+  -- of one that finds a server that has stopped
+  off_stays : (mid : Standing) (e : Entry event.Turn Answer) (g : Option Given) (count : ℕ) → IsRenewed (Off count) mid
+      → MeetsFrom z mid e g to → to ≡ Off count
+  off_stays (On s) e g count renewed meets = absurd renewed
+  off_stays (Off n) e g count renewed meets = meets.stays ∙ ap Off (sym renewed)
 
   stops_at : (r : Result Reply ServeError) (reply : EventAnswer) (count : ℕ) → reply ≡ Some r → StopsAt r to
       → reply ≡ Some (Err (errors.Stopped count)) → to ≡ Off count
@@ -231,19 +242,27 @@ module _ (z : ServerSettings) (to : Standing) where
       one a b e = cc
 
   -- of a connection that is made or lost, which was answered so
+  made_from : (mid : Standing) (e : Entry event.Turn Answer) (g : Option Given) (k count : ℕ) → MeetsFrom z mid e g to
+      → e.event.what ≡ Accept k → e.reply.reply ≡ Some (Err (errors.Stopped count)) → to ≡ Off count
+  made_from (Off n) e g k count meets is stop = meets.stays ∙ ap Off (one_reply e.reply.reply n count meets.reply stop)
+  made_from (On old) e g k count meets is stop =
+      let m : MeetsOn z old e.event.now (Accept k) e.reply g to = subst (λ (w : What). MeetsOn z old e.event.now w e.reply g to) is meets in
+      stops_at m.reply e.reply.reply count m.is m.stops stop
+
   off_made : (found : Standing) (e : Entry event.Turn Answer) (g : Option Given) (k count : ℕ) → Meets z found e g to
       → e.event.what ≡ Accept k → e.reply.reply ≡ Some (Err (errors.Stopped count)) → to ≡ Off count
-  off_made (Off n) e g k count meets is stop = meets.stays ∙ ap Off (one_reply e.reply.reply n count meets.reply stop)
-  off_made (On old) e g k count meets is stop =
-      let m : MeetsOn z old e.event.now (Accept k) e.reply g to = subst (λ (w : What). MeetsOn z old e.event.now w e.reply g to) is meets in
+  off_made found e g k count meets is stop = made_from meets.0 e g k count meets.2 is stop
+
+  lost_from : (mid : Standing) (e : Entry event.Turn Answer) (g : Option Given) (k count : ℕ) → MeetsFrom z mid e g to
+      → e.event.what ≡ End k → e.reply.reply ≡ Some (Err (errors.Stopped count)) → to ≡ Off count
+  lost_from (Off n) e g k count meets is stop = meets.stays ∙ ap Off (one_reply e.reply.reply n count meets.reply stop)
+  lost_from (On old) e g k count meets is stop =
+      let m : MeetsOn z old e.event.now (End k) e.reply g to = subst (λ (w : What). MeetsOn z old e.event.now w e.reply g to) is meets in
       stops_at m.reply e.reply.reply count m.is m.stops stop
 
   off_lost : (found : Standing) (e : Entry event.Turn Answer) (g : Option Given) (k count : ℕ) → Meets z found e g to
       → e.event.what ≡ End k → e.reply.reply ≡ Some (Err (errors.Stopped count)) → to ≡ Off count
-  off_lost (Off n) e g k count meets is stop = meets.stays ∙ ap Off (one_reply e.reply.reply n count meets.reply stop)
-  off_lost (On old) e g k count meets is stop =
-      let m : MeetsOn z old e.event.now (End k) e.reply g to = subst (λ (w : What). MeetsOn z old e.event.now w e.reply g to) is meets in
-      stops_at m.reply e.reply.reply count m.is m.stops stop
+  off_lost found e g k count meets is stop = lost_from meets.0 e g k count meets.2 is stop
 
 -- ---- how ends are told
 
@@ -321,7 +340,8 @@ module _ (z : ServerSettings) (h : Course) (log : List (Entry event.Turn Answer)
   stays_off (suc rest) place count all off =
       let at = entry_at log place (omega (arith, all)) in
       let meets = subst (λ (s : Standing). Meets z s at.0 (h.given place) (h.found (place + 1))) off (runs.meets place at.0 at.1) in
-      stays_off rest (place + 1) count (omega (arith, all)) meets.stays
+      stays_off rest (place + 1) count (omega (arith, all))
+      (off_stays z (h.found (place + 1)) meets.0 at.0 (h.given place) count meets.1 meets.2)
 
   ends_off : (place count : ℕ) (e : Entry event.Turn Answer) → slice_get log place ≡ Some e → h.found (place + 1) ≡ Off count → to ≡ Off count
   ends_off place count e here off =

@@ -12,7 +12,7 @@ use Rattle.std.proofs.Common.{◌++◌}
 use Rattle.server_checks.specs.declared.tables.Config.{Config}
 use Rattle.server_core.specs.journaled_tables.Holds.{JournaledStands}
 use Rattle.server_core.specs.server_start.Begun.{ServerBegins}
-use Rattle.server_core.specs.declared.disk_server.book.DiskBook.{DiskBook}
+use Rattle.serve_command.specs.declared.lasting_book.book.LastingBook.{LastingBook}
 use Rattle.server_core.specs.declared.server.Server.{Server}
 use Rattle.server_core.specs.Shown.{HoldsServerOver, disk_of, journal_of, state_of, stopped_of}
 use Rattle.serve_turns.specs.declared.event_book.turn.Answer.{Answer}
@@ -26,7 +26,7 @@ use Rattle.serve_turns.specs.link_serving.Passage.{Passage}
 use Rattle.serve_turns.specs.shared_book.Histories.{Replays, entries_of}
 use Rattle.serve_turns.specs.shared_book.Numbers.{IsOneOf, IsWhole, numbers_in, numbers_of}
 use Rattle.serve_turns.specs.shared_book.Seats.{Closes}
-use Rattle.serve_turns.proofs.event_book.Faults.{at_fault}
+use Rattle.serve_turns.proofs.event_book.Faults.{turn_fault}
 use Rattle.serve_turns.proofs.event_book.Courses.{course_of, found_by, own_meet, runs_by}
 use Rattle.serve_command.specs.Serving.{AreServedBy, ServingOpens}
 use Rattle.serve_command.specs.Steps.{ServerBook, server_faults, server_shows, server_steps, server_stopped}
@@ -45,13 +45,13 @@ entry_at (e ∷ es) zero within = (e, refl)
 entry_at (e ∷ es) (suc i) within = entry_at es i (omega (arith, within))
 
 module _ {D : Type 0} (told : Type 0) (seen : D → List ℕ) (may_leave : D → List ℕ → Type 0) (faults : D → ℕ) where
-  abbrev shows : DiskBook D → Users → model.Server → Logons → List model.Record → Type 0
+  abbrev shows : LastingBook D → Users → model.Server → Logons → List model.Record → Type 0
   shows = server_shows told seen may_leave
 
-  abbrev stopped : DiskBook D → Option ℕ
+  abbrev stopped : LastingBook D → Option ℕ
   stopped = server_stopped
 
-  abbrev counts : DiskBook D → ℕ
+  abbrev counts : LastingBook D → ℕ
   counts = server_faults faults
 
   -- ---- a server that has just begun
@@ -134,7 +134,7 @@ module _ {D : Type 0} (told : Type 0) (seen : D → List ℕ) (may_leave : D →
     rose = λ i s count within on off.
         (let z = settings_of opening.server.disk_book.book.server in
         let at = entry_at log i within in
-        (at_fault shows stopped counts z s (k.books i) (k.books (i + 1)) at.0.event at.0.reply at.0.event.what count (k.steps i at.0 at.1)
+        (turn_fault shows stopped counts z s (k.books i) (k.books (i + 1)) at.0.event at.0.reply count (k.steps i at.0 at.1)
         (subst (λ (x : Standing). ShowsStanding shows stopped counts z.users (k.books i) x) on (k.stands i (omega (arith, within))))
         (subst (λ (x : Standing). ShowsStanding shows stopped counts z.users (k.books (i + 1)) x) off
         (k.stands (i + 1) (omega (arith, within)))).0).0);

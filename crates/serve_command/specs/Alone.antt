@@ -8,12 +8,17 @@ use Rattle.spec_world.specs.Hearing.{Frame, check_frame}
 use Rattle.spec_world.specs.Mishaps.{AreLeft, Mishap, owned_step}
 use Rattle.spec_world.specs.Settings.{ServerSettings}
 use Rattle.serve_turns.specs.connection_turns.Frames.{TakesFrame}
-use Rattle.serve_turns.specs.event_book.History.{AllMeet, Course, On, Placed, Stand}
+use Rattle.serve_turns.specs.event_book.History.{Course, MeetsFrom, On, Placed, Stand}
 
 -- turns that stand in a row from a place on
 abbrev pub InARow : ℕ → List Placed → Type 0
 InARow place [] = ⊤
 InARow place (x ∷ xs) = (x.0 ≡ place) × InARow (place + 1) xs
+
+-- each of their events met what its place found: in front of none the journal was written anew
+abbrev pub AllAsFound : ServerSettings → Course → List Placed → Type 0
+AllAsFound z h [] = ⊤
+AllAsFound z h (x ∷ xs) = MeetsFrom z (h.found x.0) x.1 (h.given x.0) (h.found (x.0 + 1)) × AllAsFound z h xs
 
 -- Unless the server stopped, the place behind such turns found what the frame's step left. Behind no turns nothing is told.
 abbrev pub FindsBehind : Course → ℕ → List Placed → ConnectionStep → Type 0
@@ -33,10 +38,10 @@ pub record IsOfWhole (z : ServerSettings) (h : Course) (k now : ℕ) (fresh : Li
   pub behind : FindsBehind h place turns step
 
 -- It is so of each frame that its check lets pass and that was taken, not of one that ended for memory, whose turns stand in a row from a
--- place where the server went on, if its connection has random bytes left for as many SESSION_SETUPs as the frame has messages: from the
+-- place where the server went on and that the journal wasn't written anew between, if its connection has random bytes left for as many SESSION_SETUPs as the frame has messages: from the
 -- state on that this place found, or whatever a frame without turns may begin at.
 abbrev pub AloneFrames : Type 0
 AloneFrames = (z : ServerSettings) (h : Course) (k : ℕ) (f : ServerEnd) (before : ℕ) (frame : List ℕ) (turns : List Placed) (G : GivenStep)
-    (t : TakesFrame z h k f before frame turns G) (x : Frame) (place : ℕ) (s : Stand) → AllMeet z h turns → check_frame f frame ≡ Ok x
+    (t : TakesFrame z h k f before frame turns G) (x : Frame) (place : ℕ) (s : Stand) → AllAsFound z h turns → check_frame f frame ≡ Ok x
     → before + length x.messages ≤ 4096 → InARow place turns → h.found place ≡ On s
     → IsOfWhole z h k t.now t.fresh t.server t.logons f frame place turns G.step

@@ -1,11 +1,11 @@
 -- When a server writes its journal anew, and what that makes of it.
 use Rattle.std.specs.Prelude.{◌≡◌, ℕ, ◌+◌, ◌-◌, ◌*◌, ◌/◌, min, max, Bool, true, false, ◌&&◌, ◌||◌, nat_lt, nat_le, List, if◌then◌else◌}
-use Rattle.std.specs.Prelude.{Result, Ok, Err}
+use Rattle.std.specs.Prelude.{Result, Ok, Err, IfOk}
 use Rattle.law_snapshots.specs.snapshots.Pieces.{SnapshotPiece}
 use Rattle.spec_exchange.specs.State as model
 use Rattle.spec_world.specs.Ends.{Logons}
 use Rattle.server_checks.specs.declared.setups.error.EventError.{EventError}
-use Rattle.server_core.specs.Shown.{HoldsServerOver, config_of, is_plain, journal_of, state_of}
+use Rattle.server_core.specs.Shown.{HoldsServerOver, config_of, disk_of, is_plain, journal_of, state_of}
 use Rattle.server_core.specs.compaction.Compacts.{Compacts}
 use Rattle.serve_command.specs.declared.lasting_book.book.LastingBook.{LastingBook}
 
@@ -51,6 +51,7 @@ module _ {D : Type 0} (told : Type 0) (seen : D → List ℕ) (may_leave : D →
         → Compacts told seen may_leave faults base (state_of old.disk_book.book.server) (state_of new.disk_book.book.server) s L records
         result
     pub config : config_of new.disk_book.book.server ≡ config_of old.disk_book.book.server
+    pub calm : IfOk result (λ (done : Bool). faults (disk_of new.disk_book.book.server) ≡ faults (disk_of old.disk_book.book.server))
     pub mark : new.mark ≡ mark_after result old.mark (used_by old) (used_by new)
 
   -- it is written anew where that is due, and else only looked at again later

@@ -188,7 +188,8 @@ impl<D: Renewal> Server<D> {
     /// moment leaves what stood for the server before, or a snapshot that stands for it.
     ///
     /// `DiskFault` comes only where the disk's count of faults rose, and carries it: the tables are as before, but which of both the disk
-    /// has isn't known, and each later call answers `Stopped` with that count and changes nothing. `Memory` never comes.
+    /// has isn't known, and each later call answers `Stopped` with that count and changes nothing. Else the count stays. `Memory` never
+    /// comes.
     pub fn compact(&mut self) -> Result<bool, EventError>
         ensures compacts { (base : List SnapshotPiece) (s : model.Server) (L : Logons) (records : List model.Record)
             → HoldsServerOver D.told D.seen D.may_leave base self.old s L records
@@ -201,6 +202,7 @@ impl<D: Renewal> Server<D> {
         ensures stopped { (count : ℕ) → stopped_of self.old ≡ Some count
             → (result ≡ Err (errors.Stopped count)) × (self.new ≡ self.old) }
         ensures config { config_of self.new ≡ config_of self.old }
+        ensures calm { IfOk result (λ done. D.faults (disk_of self.new) ≡ D.faults (disk_of self.old)) }
         ensures halts { CompactionHalts (stopped_of self.old) (stopped_of self.new) result }
     {
         compact_state(&mut self.state)

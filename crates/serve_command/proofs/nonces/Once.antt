@@ -20,16 +20,20 @@ use Rattle.serve_turns.specs.event_book.History.{Course, On, Placed, RunsBy, Sta
 use Rattle.serve_turns.specs.shared_book.Histories.{entries_of, entry_if}
 use Rattle.serve_command.specs.Whole.{AreApart, AreOnce, EndedConnection, WasServed, number_of}
 use Rattle.serve_command.proofs.nonces.Frames.{Sealed, all_sealed}
-use Rattle.serve_command.proofs.nonces.Tables.{TablesAt, drawn_at, drawn_entry, drawn_next, grows, kept}
+use Rattle.serve_command.proofs.nonces.Tables.{Mids, TablesAt, drawn_at, drawn_entry, drawn_next, grows, kept, mids_of, renewed_tables}
 use Rattle.serve_command.proofs.nonces.Turns.{DrawnHere, GoOn, go_front}
 
 module _ (z : ServerSettings) (h : Course) (log : List (Entry Turn Answer)) (from : Stand) (to : Standing)
     (runs : RunsBy z (On from) log h to) (first : NonceTables from.server from.logons (λ x. 0)) where
+  -- what each event found
+  abbrev mids : Mids z h log
+  mids = mids_of z h log (On from) to runs
+
   abbrev drawn : ℕ → ℕ → ℕ
-  drawn = drawn_at z h log
+  drawn = drawn_at z mids.at log
 
   grow : (n m : ℕ) (x : ℕ) → drawn n x ≤ drawn (n + m) x
-  grow = grows z h log from to (λ n. kept z h log from to runs first n)
+  grow = grows z h log mids from to (λ n. kept z h log mids from to runs first n)
 
   inside : (es : List (Entry Turn Answer)) (n : ℕ) (e : Entry Turn Answer) → slice_get es n ≡ Some e → n ≤ length es
   inside [] zero e here = omega arith
@@ -37,31 +41,33 @@ module _ (z : ServerSettings) (h : Course) (log : List (Entry Turn Answer)) (fro
   inside (x ∷ es) zero e here = omega arith
   inside (x ∷ es) (suc n) e here = let less = inside es n e here in omega (arith, less)
 
-  tables : (n : ℕ) (e : Entry Turn Answer) → slice_get log n ≡ Some e → TablesAt (h.found n) (drawn n)
-  tables n e here = (kept z h log from to runs first n).tables (inside log n e here)
+  tables : (n : ℕ) (e : Entry Turn Answer) → slice_get log n ≡ Some e → TablesAt (mids.at n) (drawn n)
+  tables n e here =
+      renewed_tables (h.found n) (mids.at n) (drawn n) (mids.renewed n e here)
+      ((kept z h log mids from to runs first n).tables (inside log n e here))
 
-  next_is : (n : ℕ) (e : Entry Turn Answer) → slice_get log n ≡ Some e → drawn (n + 1) ≡ drawn_entry z (h.found n) (Some e) (drawn n)
-  next_is = drawn_next z h log from to
+  next_is : (n : ℕ) (e : Entry Turn Answer) → slice_get log n ≡ Some e → drawn (n + 1) ≡ drawn_entry z (mids.at n) (Some e) (drawn n)
+  next_is = drawn_next z h log mids from to
 
   -- ---- the turns of a seat, in order
 
-  lower : (seat place later : ℕ) (xs : List Placed) → place ≤ later → GoOn z h log seat later xs → GoOn z h log seat place xs
+  lower : (seat place later : ℕ) (xs : List Placed) → place ≤ later → GoOn z h log mids seat later xs → GoOn z h log mids seat place xs
   lower seat place later [] le on = tt
-  lower seat place later (x ∷ xs) le on = (let there = on.0 in omega (arith, le, there), on.1, on.2, on.3, on.4)
+  lower seat place later (x ∷ xs) le on = (let there = on.0 in omega (arith, le, there), on.1, on.2, on.3)
 
   entries_go : (seat place : ℕ) (es : List (Entry Turn Answer)) → ((i : ℕ) → slice_get log (place + i) ≡ slice_get es i)
-      → GoOn z h log seat place (entries_of seat place es)
+      → GoOn z h log mids seat place (entries_of seat place es)
   entries_go seat place [] same = tt
   entries_go seat place (e ∷ es) same =
       let here : slice_get log place ≡ Some e = ap (slice_get log) (let q : place ≡ place + 0 = omega arith in q) ∙ same 0 in
       let rest = entries_go seat (place + 1) es
       (λ i. ap (slice_get log) (let q : (place + 1) + i ≡ place + suc i = omega arith in q) ∙ same (suc i)) in
-      elim (e.seat == seat) as (λ b. e.seat == seat ≡ b → GoOn z h log seat place (entry_if b place e ++ entries_of seat (place + 1) es)) [
-        | true ↦ λ is. (omega arith, here, eqb-true e.seat seat is, runs.meets place e here, rest)
+      elim (e.seat == seat) as (λ b. e.seat == seat ≡ b → GoOn z h log mids seat place (entry_if b place e ++ entries_of seat (place + 1) es)) [
+        | true ↦ λ is. (omega arith, here, eqb-true e.seat seat is, rest)
         | false ↦ λ is. lower seat place (place + 1) (entries_of seat (place + 1) es) (omega arith) rest
       ] refl
 
-  own_go : (seat : ℕ) → GoOn z h log seat 0 (entries_of seat 0 log)
+  own_go : (seat : ℕ) → GoOn z h log mids seat 0 (entries_of seat 0 log)
   own_go seat = entries_go seat 0 log (λ i. ap (slice_get log) (let q : 0 + i ≡ i = omega arith in q))
 
   -- ---- one connection
@@ -70,7 +76,7 @@ module _ (z : ServerSettings) (h : Course) (log : List (Entry Turn Answer)) (fro
     pub ends : ℕ → Sealer
     pub most : ℕ → ℕ
     pub numbered : NonceNumbered seals ends most
-    pub origins : SealsFrom (DrawnHere z h log seat) seals
+    pub origins : SealsFrom (DrawnHere z h log mids seat) seals
 
   abbrev off : ℕ → Sealer
   off = λ j. record { is_on = false; session = 0; channel = 0; counter = 0 }
@@ -78,15 +84,15 @@ module _ (z : ServerSettings) (h : Course) (log : List (Entry Turn Answer)) (fro
   none_alone : (seat : ℕ) (seals : List Seal) → seals ≡ [] → OnceAlone seat seals
   none_alone seat seals none =
       subst (λ (us : List Seal). OnceAlone seat us) (sym none)
-      (record { ends = off; most = λ x. 0; numbered = none_sealed off (λ k. refl); origins = none_from (DrawnHere z h log seat) })
+      (record { ends = off; most = λ x. 0; numbered = none_sealed off (λ k. refl); origins = none_from (DrawnHere z h log mids seat) })
 
   begins_sealed : (seat : ℕ) (salt : List ℕ) (place : ℕ)
-      → Sealed z h log seat grow tables next_is [] (first_server_end salt) place
+      → Sealed z h log mids seat grow tables next_is [] (first_server_end salt) place
   begins_sealed seat salt place = record {
     ends = off;
     is = refl;
     numbered = grow_keeps [] off (λ x. 0) (drawn place) (λ x. omega arith) (none_sealed off (λ k. refl));
-    from = none_from (DrawnHere z h log seat);
+    from = none_from (DrawnHere z h log mids seat);
     end = λ keys e. absurd (let q : None ≡ Some keys = e in cc);
   }
 
@@ -95,12 +101,12 @@ module _ (z : ServerSettings) (h : Course) (log : List (Entry Turn Answer)) (fro
       → OnceAlone seat seals
   taken_alone seat k own came wrote faults faults' closed end seals is w =
       let fs = w.frames in
-      let all : GoOn z h log seat 0 (w.made ∷ (w.turns ++ w.lost ∷ [])) =
-      subst (λ (xs : List Placed). GoOn z h log seat 0 xs) (sym is ∙ w.own_are) (own_go seat) in
-      let turns = go_front z h log seat (w.made.0 + 1) w.turns (w.lost ∷ []) all.4 in
-      let answered = go_front z h log seat (w.made.0 + 1) fs.answered fs.last
-      (subst (λ (xs : List Placed). GoOn z h log seat (w.made.0 + 1) xs) fs.turns_are turns) in
-      let s = all_sealed z h log seat grow tables next_is [] k (first_server_end w.salt) 0 fs.frames fs.answered fs.said fs.behind fs.setups
+      let all : GoOn z h log mids seat 0 (w.made ∷ (w.turns ++ w.lost ∷ [])) =
+      subst (λ (xs : List Placed). GoOn z h log mids seat 0 xs) (sym is ∙ w.own_are) (own_go seat) in
+      let turns = go_front z h log mids seat (w.made.0 + 1) w.turns (w.lost ∷ []) all.3 in
+      let answered = go_front z h log mids seat (w.made.0 + 1) fs.answered fs.last
+      (subst (λ (xs : List Placed). GoOn z h log mids seat (w.made.0 + 1) xs) fs.turns_are turns) in
+      let s = all_sealed z h log mids seat grow tables next_is [] k (first_server_end w.salt) 0 fs.frames fs.answered fs.said fs.behind fs.setups
       seals (w.made.0 + 1) fs.answers (begins_sealed seat w.salt (w.made.0 + 1)) answered in
       record { ends = s.ends; most = _; numbered = s.numbered; origins = s.from }
 
@@ -130,7 +136,7 @@ module _ (z : ServerSettings) (h : Course) (log : List (Entry Turn Answer)) (fro
     ] refl
   ] refl
 
-  one_seat : (s t x n : ℕ) → DrawnHere z h log s x n → DrawnHere z h log t x n → s ≡ t
+  one_seat : (s t x n : ℕ) → DrawnHere z h log mids s x n → DrawnHere z h log mids t x n → s ≡ t
   one_seat s t x n a b =
       let same : a.place ≡ b.place = one_place a.place b.place x n a.above a.below b.above b.below in
       let entries : Some a.entry ≡ Some b.entry = sym a.here ∙ (ap (slice_get log) same ∙ b.here) in
@@ -147,9 +153,9 @@ module _ (z : ServerSettings) (h : Course) (log : List (Entry Turn Answer)) (fro
       let ba = ox.numbered.bounds p a (mine, fa.1) in
       let bb = oy.numbered.bounds q b (yours, fb.1) in
       let same = same_place a.channel a.counter b.channel b.counter ba.0 ba.1 bb.0 bb.1 one.bytes in
-      let drew : DrawnHere z h log y.seat a.session a.channel =
-      subst (λ (n : ℕ). DrawnHere z h log y.seat n a.channel) (sym one.session)
-      (subst (λ (n : ℕ). DrawnHere z h log y.seat b.session n) (sym same.channels) fb.0) in
+      let drew : DrawnHere z h log mids y.seat a.session a.channel =
+      subst (λ (n : ℕ). DrawnHere z h log mids y.seat n a.channel) (sym one.session)
+      (subst (λ (n : ℕ). DrawnHere z h log mids y.seat b.session n) (sym same.channels) fb.0) in
       let places : i ≡ j = (apart i j x y there here).1 (one_seat x.seat y.seat a.session a.channel fa.0 drew) in
       let alike : Some y ≡ Some x = sym here ∙ (ap (slice_get xs) (sym places) ∙ there) in
       let is : y ≡ x = (let q = alike in cc) in

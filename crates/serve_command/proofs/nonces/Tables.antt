@@ -5,6 +5,7 @@ use Rattle.std.proofs.lemmas.Bool.{ltb-true, ltb-false}
 use Rattle.std.proofs.Common.{length, slice_get, Option, Some, None, Result, Ok, Err, refl, sym, ap, subst, ◌∙◌, arith}
 use Rattle.spec_crypto.specs.declared.sessions.material.Keys.{Keys}
 use Rattle.spec_crypto.specs.tokens.Tokens.{Users}
+use Rattle.spec_exchange.specs.Files.{exists}
 use Rattle.spec_exchange.specs.Network.{answer_to}
 use Rattle.spec_exchange.specs.State as model
 use Rattle.spec_exchange.specs.Table.{put}
@@ -12,6 +13,7 @@ use Rattle.spec_world.specs.Ends.{Logons}
 use Rattle.spec_world.specs.Given.{Given}
 use Rattle.spec_world.specs.Logon.{Progress, Stays, Interim, Final, progress}
 use Rattle.spec_world.specs.Settings.{ServerSettings}
+use Rattle.law_server.specs.tables.Fits.{Fits}
 use Rattle.law_nonces.specs.event_nonces.Events.{EventDraws, IsFaultDenied, KeysBehind, NonceTables}
 use Rattle.law_nonces.specs.server_nonces.Numbering.{next_drawn}
 use Rattle.law_nonces.proofs.event_nonces.Tables.{alone_draws, heard_draws, other_draws}
@@ -35,7 +37,8 @@ use Rattle.serve_turns.specs.declared.event_book.turn.Turn.{Turn}
 use Rattle.serve_turns.specs.declared.event_book.turn.What.{What}
 use Rattle.serve_turns.specs.declared.event_book.turn.What.TheVariants.{Accept, Message, End}
 use Rattle.serve_turns.specs.declared.shared_book.view.Entry.{Entry}
-use Rattle.serve_turns.specs.event_book.History.{Course, GivenIf, Meets, MeetsMessage, Off, On, RunsBy, Stand, Standing, StandsAt}
+use Rattle.serve_turns.specs.event_book.History.{Course, GivenIf, IsRenewed, MeetsFrom, MeetsMessage, Off, On, RunsBy, Stand, Standing}
+use Rattle.serve_turns.specs.event_book.History.{StandsAt}
 use Rattle.serve_turns.specs.event_book.History.{StopsAt}
 use Rattle.serve_turns.proofs.event_book.Places.{asked_is}
 
@@ -68,9 +71,10 @@ module _ (z : ServerSettings) where
   drawn_entry (On old) None drawn = drawn
   drawn_entry (Off count) e drawn = drawn
 
-  pub drawn_at : Course → List (Entry Turn Answer) → ℕ → ℕ → ℕ
-  drawn_at h log zero = λ x. 0
-  drawn_at h log (suc n) = drawn_entry (h.found n) (slice_get log n) (drawn_at h log n)
+  -- by what each event found
+  pub drawn_at : (ℕ → Standing) → List (Entry Turn Answer) → ℕ → ℕ → ℕ
+  drawn_at mids log zero = λ x. 0
+  drawn_at mids log (suc n) = drawn_entry (mids n) (slice_get log n) (drawn_at mids log n)
 
 -- ---- what holds at a place
 
@@ -203,24 +207,106 @@ module _ (z : ServerSettings) where
   lost_behind old now k (Err (errors.Stopped count)) to drawn i serves stops = off_behind count to drawn stops
 
   what_behind : (old : Stand) (now : ℕ) (what : What) (t : Answer) (g : Option Given) (to : Standing) (drawn : ℕ → ℕ)
-      → Meets z (On old) (record { seat = 0; event = record { now = now; what = what }; reply = t }) g to
+      → MeetsFrom z (On old) (record { seat = 0; event = record { now = now; what = what }; reply = t }) g to
       → NonceTables old.server old.logons drawn → Behind to drawn (drawn_what z old now what t.reply drawn)
   what_behind old now (Accept k) t g to drawn m i = made_behind old now k m.reply to drawn i m.serves m.stops
   what_behind old now (Message a) t g to drawn m i = asks_behind old now a t g to drawn m i
   what_behind old now (End k) t g to drawn m i = lost_behind old now k m.reply to drawn i m.serves m.stops
 
-  entry_behind : (from : Standing) (e : Entry Turn Answer) (g : Option Given) (to : Standing) (drawn : ℕ → ℕ) → Meets z from e g to
+  entry_behind : (from : Standing) (e : Entry Turn Answer) (g : Option Given) (to : Standing) (drawn : ℕ → ℕ) → MeetsFrom z from e g to
       → TablesAt from drawn → Behind to drawn (drawn_entry z from (Some e) drawn)
   entry_behind (On old) e g to drawn m i = what_behind old e.event.now e.event.what e.reply g to drawn m i
   entry_behind (Off count) e g to drawn m i = off_behind count to drawn m.stays
 
+-- ---- the journal in front of an event: no number is drawn by its bytes
+
+journal_fits : (s : model.Server) (n : ℕ) → Fits s → Fits (record s { journal = n })
+unfolding exists
+journal_fits s n f = record {
+  attached = f.attached;
+  plain_attached = f.plain_attached;
+  guid_open = f.guid_open;
+  open_guid = f.open_guid;
+  persistent_guid = f.persistent_guid;
+  deadlines = f.deadlines;
+  listed = f.listed;
+  ascending = f.ascending;
+  open_ids = f.open_ids;
+  given = f.given;
+  begun = f.begun;
+  session_ids = f.session_ids;
+  making_ids = f.making_ids;
+  making_once = f.making_once;
+  on_present = f.on_present;
+  on_made = f.on_made;
+  no_trees = f.no_trees;
+  no_closed = f.no_closed;
+  no_refused = f.no_refused;
+  no_guids = f.no_guids;
+  next_tree = f.next_tree;
+  tree_ids = f.tree_ids;
+  range_owners = f.range_owners;
+  not_root = f.not_root;
+  root_stays = f.root_stays;
+  open_files = f.open_files;
+  next_file = f.next_file;
+  file_numbers = f.file_numbers;
+  room = f.room;
+  limit = f.limit;
+}
+
+journal_tables : (s : model.Server) (L : Logons) (drawn : ℕ → ℕ) (n : ℕ) → NonceTables s L drawn
+    → NonceTables (record s { journal = n }) L drawn
+journal_tables s L drawn n t = record {
+  fits = journal_fits s n t.fits;
+  draws = t.draws;
+  named = t.named;
+}
+
+pub renewed_tables : (from mid : Standing) (drawn : ℕ → ℕ) → IsRenewed from mid → TablesAt from drawn → TablesAt mid drawn
+renewed_tables (On a) (On b) drawn (inl is) t = subst (λ (s : Stand). NonceTables s.server s.logons drawn) (sym is) t
+renewed_tables (On a) (On b) drawn (inr anew) t =
+    subst (λ (s : Stand). NonceTables s.server s.logons drawn) (sym anew.1) (journal_tables a.server a.logons drawn anew.0 t)
+renewed_tables (On a) (Off count) drawn renewed t = tt
+renewed_tables (Off count) (On b) drawn renewed t = absurd renewed
+renewed_tables (Off count) (Off other) drawn renewed t = tt
+
+-- what each event of a history found
+pub record Mids (z : ServerSettings) (h : Course) (log : List (Entry Turn Answer)) : Type 0 where
+  pub at : ℕ → Standing
+  pub renewed : (n : ℕ) (e : Entry Turn Answer) → slice_get log n ≡ Some e → IsRenewed (h.found n) (at n)
+  pub meets : (n : ℕ) (e : Entry Turn Answer) → slice_get log n ≡ Some e → MeetsFrom z (at n) e (h.given n) (h.found (n + 1))
+
+module _ (z : ServerSettings) (h : Course) (log : List (Entry Turn Answer)) (from to : Standing) (runs : RunsBy z from log h to) where
+  mid_by : (n : ℕ) (o : Option (Entry Turn Answer)) → slice_get log n ≡ o → Standing
+  mid_by n None is = h.found n
+  mid_by n (Some e) is = (runs.meets n e is).0
+
+  mid_is : (n : ℕ) (o : Option (Entry Turn Answer)) (is : slice_get log n ≡ o) (e : Entry Turn Answer) → o ≡ Some e
+      → IsRenewed (h.found n) (mid_by n o is) × MeetsFrom z (mid_by n o is) e (h.given n) (h.found (n + 1))
+  unfolding mid_by
+  mid_is n None is e here = absurd (let q : None ≡ Some e = here in cc)
+  mid_is n (Some x) is e here =
+      let same : x ≡ e = (let q = here in cc) in (
+        (runs.meets n x is).1,
+        subst (λ (v : Entry Turn Answer). MeetsFrom z (runs.meets n x is).0 v (h.given n) (h.found (n + 1))) same (runs.meets n x is).2,
+      )
+
+  pub mids_of : Mids z h log
+  mids_of = record {
+    at = λ n. mid_by n (slice_get log n) refl;
+    renewed = λ n e here. (mid_is n (slice_get log n) refl e here).0;
+    meets = λ n e here. (mid_is n (slice_get log n) refl e here).1;
+  }
+
+module _ (z : ServerSettings) where
   -- ---- the whole history
 
-  module _ (h : Course) (log : List (Entry Turn Answer)) (from : Stand) (to : Standing) where
+  module _ (h : Course) (log : List (Entry Turn Answer)) (mids : Mids z h log) (from : Stand) (to : Standing) where
     -- the tables at each place of the history, and numbers that only grow
     pub record Kept (n : ℕ) : Type 0 where
-      pub tables : n ≤ length log → TablesAt (h.found n) (drawn_at z h log n)
-      pub grown : (x : ℕ) → drawn_at z h log n x ≤ drawn_at z h log (n + 1) x
+      pub tables : n ≤ length log → TablesAt (h.found n) (drawn_at z mids.at log n)
+      pub grown : (x : ℕ) → drawn_at z mids.at log n x ≤ drawn_at z mids.at log (n + 1) x
 
     entry_there : (n : ℕ) → n < length log → (e : Entry Turn Answer) × (slice_get log n ≡ Some e)
     entry_there n inside = found_there log n inside
@@ -240,31 +326,32 @@ module _ (z : ServerSettings) where
     none_drawn (On old) drawn x = omega arith
     none_drawn (Off count) drawn x = omega arith
 
-    step_at : RunsBy z (On from) log h to → (n : ℕ) → n < length log → TablesAt (h.found n) (drawn_at z h log n)
-        → Behind (h.found (n + 1)) (drawn_at z h log n) (drawn_at z h log (n + 1))
+    step_at : RunsBy z (On from) log h to → (n : ℕ) → n < length log → TablesAt (h.found n) (drawn_at z mids.at log n)
+        → Behind (h.found (n + 1)) (drawn_at z mids.at log n) (drawn_at z mids.at log (n + 1))
     unfolding drawn_at
     step_at runs n inside tables =
         let e = entry_there n inside in
-        subst (λ (m : ℕ). Behind (h.found (n + 1)) (drawn_at z h log n) (drawn_at z h log m)) (let q : suc n ≡ n + 1 = omega arith in q)
-        (subst (λ (o : Option (Entry Turn Answer)). Behind (h.found (n + 1)) (drawn_at z h log n)
-        (drawn_entry z (h.found n) o (drawn_at z h log n))) (sym e.1)
-        (entry_behind (h.found n) e.0 (h.given n) (h.found (n + 1)) (drawn_at z h log n) (runs.meets n e.0 e.1) tables))
+        subst (λ (m : ℕ). Behind (h.found (n + 1)) (drawn_at z mids.at log n) (drawn_at z mids.at log m)) (let q : suc n ≡ n + 1 = omega arith in q)
+        (subst (λ (o : Option (Entry Turn Answer)). Behind (h.found (n + 1)) (drawn_at z mids.at log n)
+        (drawn_entry z (mids.at n) o (drawn_at z mids.at log n))) (sym e.1)
+        (entry_behind z (mids.at n) e.0 (h.given n) (h.found (n + 1)) (drawn_at z mids.at log n) (mids.meets n e.0 e.1)
+        (renewed_tables (h.found n) (mids.at n) (drawn_at z mids.at log n) (mids.renewed n e.0 e.1) tables)))
 
-    past_at : (n : ℕ) → length log ≤ n → (x : ℕ) → drawn_at z h log n x ≤ drawn_at z h log (n + 1) x
+    past_at : (n : ℕ) → length log ≤ n → (x : ℕ) → drawn_at z mids.at log n x ≤ drawn_at z mids.at log (n + 1) x
     unfolding drawn_at
     past_at n past x =
-        subst (λ (m : ℕ). drawn_at z h log n x ≤ drawn_at z h log m x) (let q : suc n ≡ n + 1 = omega arith in q)
-        (subst (λ (o : Option (Entry Turn Answer)). drawn_at z h log n x ≤ drawn_entry z (h.found n) o (drawn_at z h log n) x)
-        (sym (past_none log n past)) (none_drawn (h.found n) (drawn_at z h log n) x))
+        subst (λ (m : ℕ). drawn_at z mids.at log n x ≤ drawn_at z mids.at log m x) (let q : suc n ≡ n + 1 = omega arith in q)
+        (subst (λ (o : Option (Entry Turn Answer)). drawn_at z mids.at log n x ≤ drawn_entry z (mids.at n) o (drawn_at z mids.at log n) x)
+        (sym (past_none log n past)) (none_drawn (mids.at n) (drawn_at z mids.at log n) x))
 
     tables_at : RunsBy z (On from) log h to → NonceTables from.server from.logons (λ x. 0) → (n : ℕ) → n ≤ length log
-        → TablesAt (h.found n) (drawn_at z h log n)
+        → TablesAt (h.found n) (drawn_at z mids.at log n)
     unfolding drawn_at
     tables_at runs first zero inside = subst (λ (s : Standing). TablesAt s (λ x. 0)) (sym runs.begins) first
     tables_at runs first (suc n) inside =
         let less : n < length log = omega (arith, inside) in
         let within : n ≤ length log = omega (arith, inside) in
-        subst (λ (m : ℕ). TablesAt (h.found m) (drawn_at z h log m)) (let q : n + 1 ≡ suc n = omega arith in q)
+        subst (λ (m : ℕ). TablesAt (h.found m) (drawn_at z mids.at log m)) (let q : n + 1 ≡ suc n = omega arith in q)
         (step_at runs n less (tables_at runs first n within)).tables
 
     pub kept : RunsBy z (On from) log h to → NonceTables from.server from.logons (λ x. 0) → (n : ℕ) → Kept n
@@ -273,25 +360,25 @@ module _ (z : ServerSettings) where
       grown = λ x. by_place x;
     }
       where
-        by_place : (x : ℕ) → drawn_at z h log n x ≤ drawn_at z h log (n + 1) x
-        by_place x = elim (nat_lt n (length log)) as (λ b. nat_lt n (length log) ≡ b → drawn_at z h log n x ≤ drawn_at z h log (n + 1) x) [
+        by_place : (x : ℕ) → drawn_at z mids.at log n x ≤ drawn_at z mids.at log (n + 1) x
+        by_place x = elim (nat_lt n (length log)) as (λ b. nat_lt n (length log) ≡ b → drawn_at z mids.at log n x ≤ drawn_at z mids.at log (n + 1) x) [
           | true ↦ λ e. (let less = ltb-true n (length log) e in
               (step_at runs n less (tables_at runs first n (omega (arith, less)))).grown x)
           | false ↦ λ e. past_at n (ltb-false n (length log) e) x
         ] refl
 
-    pub grows : ((n : ℕ) → Kept n) → (n m : ℕ) (x : ℕ) → drawn_at z h log n x ≤ drawn_at z h log (n + m) x
-    grows all n zero x = subst (λ (q : ℕ). drawn_at z h log n x ≤ drawn_at z h log q x) (let q : n ≡ n + 0 = omega arith in q) (omega arith)
+    pub grows : ((n : ℕ) → Kept n) → (n m : ℕ) (x : ℕ) → drawn_at z mids.at log n x ≤ drawn_at z mids.at log (n + m) x
+    grows all n zero x = subst (λ (q : ℕ). drawn_at z mids.at log n x ≤ drawn_at z mids.at log q x) (let q : n ≡ n + 0 = omega arith in q) (omega arith)
     grows all n (suc m) x =
         let one = grows all n m x in
         let two = (all (n + m)).grown x in
-        subst (λ (q : ℕ). drawn_at z h log n x ≤ drawn_at z h log q x) (let q : (n + m) + 1 ≡ n + suc m = omega arith in q)
+        subst (λ (q : ℕ). drawn_at z mids.at log n x ≤ drawn_at z mids.at log q x) (let q : (n + m) + 1 ≡ n + suc m = omega arith in q)
         (omega (arith, one, two))
 
     -- by the entry that stands there
     pub drawn_next : (n : ℕ) (e : Entry Turn Answer) → slice_get log n ≡ Some e
-        → drawn_at z h log (n + 1) ≡ drawn_entry z (h.found n) (Some e) (drawn_at z h log n)
+        → drawn_at z mids.at log (n + 1) ≡ drawn_entry z (mids.at n) (Some e) (drawn_at z mids.at log n)
     unfolding drawn_at
     drawn_next n e here =
-        ap (λ (m : ℕ). drawn_at z h log m) (let q : n + 1 ≡ suc n = omega arith in q)
-        ∙ ap (λ (o : Option (Entry Turn Answer)). drawn_entry z (h.found n) o (drawn_at z h log n)) here
+        ap (λ (m : ℕ). drawn_at z mids.at log m) (let q : n + 1 ≡ suc n = omega arith in q)
+        ∙ ap (λ (o : Option (Entry Turn Answer)). drawn_entry z (mids.at n) o (drawn_at z mids.at log n)) here

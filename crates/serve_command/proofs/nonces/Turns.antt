@@ -36,8 +36,8 @@ use Rattle.serve_turns.specs.declared.event_book.turn.Turn as events
 use Rattle.serve_turns.specs.declared.event_book.turn.What.{What}
 use Rattle.serve_turns.specs.declared.event_book.turn.What.TheVariants.{Accept, Message, End}
 use Rattle.serve_turns.specs.declared.shared_book.view.Entry.{Entry}
-use Rattle.serve_turns.specs.event_book.History.{Course, GivenIf, Meets, MeetsAt, MeetsMessage, Off, On, Placed, Stand, Standing}
-use Rattle.serve_command.proofs.nonces.Tables.{TablesAt, due_at, drawn_at, drawn_entry, drawn_if, drawn_what, has_drawn, took}
+use Rattle.serve_turns.specs.event_book.History.{Course, GivenIf, MeetsFrom, MeetsMessage, Off, On, Placed, Stand, Standing}
+use Rattle.serve_command.proofs.nonces.Tables.{Mids, TablesAt, due_at, drawn_at, drawn_entry, drawn_if, drawn_what, has_drawn, took}
 use Rattle.serve_command.proofs.nonces.Tables.{asked_denied}
 
 -- ---- what one turn drew, by what was given there
@@ -110,12 +110,12 @@ module _ (z : ServerSettings) (k : ℕ) (f : ServerEnd) (c : Checked) where
       (next ∙ ap (λ (o : Option code.Checked). drawn_if (took t.reply) old now (due_at z old a o) drawn) m.here)
 
   what_draws : (from : Standing) (e : Entry events.Turn Answer) (what : What) (g : Option Given) (given : Given) (to : Standing)
-      (drawn behind : ℕ → ℕ) → e.event.what ≡ what → Meets z from e g to → IsTurnFor k f c what → g ≡ Some given → TablesAt from drawn
+      (drawn behind : ℕ → ℕ) → e.event.what ≡ what → MeetsFrom z from e g to → IsTurnFor k f c what → g ≡ Some given → TablesAt from drawn
       → behind ≡ drawn_entry z from (Some e) drawn → TurnDraws z k f c given drawn behind
   what_draws (On old) e (Accept j) g given to drawn behind is meets shown some tables next = absurd shown
   what_draws (On old) e (Message a) g given to drawn behind is meets shown some tables next =
       asks_draw old e.event.now a e.reply g given to drawn behind
-      (subst (λ (w : What). Meets z (On old) (record { seat = e.seat; event = record { now = e.event.now; what = w }; reply = e.reply }) g to)
+      (subst (λ (w : What). MeetsFrom z (On old) (record { seat = e.seat; event = record { now = e.event.now; what = w }; reply = e.reply }) g to)
       is meets) shown some tables
       (next ∙ ap (λ (w : What). drawn_what z old e.event.now w e.reply.reply drawn) is)
   what_draws (On old) e (End j) g given to drawn behind is meets shown some tables next = absurd shown
@@ -124,10 +124,10 @@ module _ (z : ServerSettings) (k : ℕ) (f : ServerEnd) (c : Checked) where
 
 -- ---- turns of one seat, in the order of their places
 
-module _ (z : ServerSettings) (h : Course) (log : List (Entry events.Turn Answer)) (seat : ℕ) where
+module _ (z : ServerSettings) (h : Course) (log : List (Entry events.Turn Answer)) (mids : Mids z h log) (seat : ℕ) where
   abbrev pub GoOn : ℕ → List Placed → Type 0
   GoOn place [] = Unit {0}
-  GoOn place (x ∷ xs) = (place ≤ x.0) × (slice_get log x.0 ≡ Some x.1) × (x.1.seat ≡ seat) × MeetsAt z h x × GoOn (x.0 + 1) xs
+  GoOn place (x ∷ xs) = (place ≤ x.0) × (slice_get log x.0 ≡ Some x.1) × (x.1.seat ≡ seat) × GoOn (x.0 + 1) xs
 
   abbrev pub past : ℕ → List Placed → ℕ
   past place [] = place
@@ -135,11 +135,11 @@ module _ (z : ServerSettings) (h : Course) (log : List (Entry events.Turn Answer
 
   pub go_front : (place : ℕ) (xs ys : List Placed) → GoOn place (xs ++ ys) → GoOn place xs
   go_front place [] ys on = tt
-  go_front place (x ∷ xs) ys on = (on.0, on.1, on.2, on.3, go_front (x.0 + 1) xs ys on.4)
+  go_front place (x ∷ xs) ys on = (on.0, on.1, on.2, go_front (x.0 + 1) xs ys on.3)
 
   pub go_back : (place : ℕ) (xs ys : List Placed) → GoOn place (xs ++ ys) → GoOn (past place xs) ys
   go_back place [] ys on = on
-  go_back place (x ∷ xs) ys on = go_back (x.0 + 1) xs ys on.4
+  go_back place (x ∷ xs) ys on = go_back (x.0 + 1) xs ys on.3
 
   -- a number of a session that was drawn at a place of this seat
   pub record DrawnHere (x n : ℕ) : Type 0 where
@@ -147,13 +147,13 @@ module _ (z : ServerSettings) (h : Course) (log : List (Entry events.Turn Answer
     pub entry : Entry events.Turn Answer
     pub here : slice_get log place ≡ Some entry
     pub mine : entry.seat ≡ seat
-    pub above : drawn_at z h log place x < n
-    pub below : n ≤ drawn_at z h log (place + 1) x
+    pub above : drawn_at z mids.at log place x < n
+    pub below : n ≤ drawn_at z mids.at log (place + 1) x
 
   -- ---- the replies so far
 
   pub record Along (first : ℕ → ℕ) (place : ℕ) (rs : List SaidReply) : Type 0 where
-    pub along : DrawsAlong first rs (drawn_at z h log place)
+    pub along : DrawsAlong first rs (drawn_at z mids.at log place)
     pub from : RepliesFrom DrawnHere rs
 
   along_grown : (first mid behind : ℕ → ℕ) (rs : List SaidReply) → DrawsAlong first rs mid → ((x : ℕ) → mid x ≤ behind x)
@@ -178,7 +178,7 @@ module _ (z : ServerSettings) (h : Course) (log : List (Entry events.Turn Answer
   quiet_with : (first : ℕ → ℕ) (place : ℕ) (rs : List SaidReply) (r : SaidReply) → r.progress ≡ Stays → Along first place rs
       → Along first place (rs ++ r ∷ [])
   quiet_with first place rs r quiet i =
-      let d = drawn_at z h log place in
+      let d = drawn_at z mids.at log place in
       let on : DrawsOn d r.keys.session r.progress = subst (λ (p : Progress). DrawsOn d r.keys.session p) (sym quiet) tt in
       let more : (x : ℕ) → next_drawn d r.keys.session r.progress x ≤ d x =
       subst (λ (p : Progress). (x : ℕ) → next_drawn d r.keys.session p x ≤ d x) (sym quiet) (λ x. omega arith) in
@@ -188,59 +188,59 @@ module _ (z : ServerSettings) (h : Course) (log : List (Entry events.Turn Answer
       }
 
   further : (first : ℕ → ℕ) (place later : ℕ) (rs : List SaidReply)
-      → ((x : ℕ) → drawn_at z h log place x ≤ drawn_at z h log later x) → Along first place rs → Along first later rs
+      → ((x : ℕ) → drawn_at z mids.at log place x ≤ drawn_at z mids.at log later x) → Along first place rs → Along first later rs
   further first place later rs grown i =
-      record { along = along_grown first (drawn_at z h log place) (drawn_at z h log later) rs i.along grown; from = i.from }
+      record { along = along_grown first (drawn_at z mids.at log place) (drawn_at z mids.at log later) rs i.along grown; from = i.from }
 
   -- one that tells the number drawn at this place
   here_from : (e : Entry events.Turn Answer) (place x : ℕ) (p : Progress) → slice_get log place ≡ Some e → e.seat ≡ seat
-      → DrawsOn (drawn_at z h log place) x p → drawn_at z h log (place + 1) ≡ next_drawn (drawn_at z h log place) x p
+      → DrawsOn (drawn_at z mids.at log place) x p → drawn_at z mids.at log (place + 1) ≡ next_drawn (drawn_at z mids.at log place) x p
       → ReplyFrom DrawnHere x p
   here_from e place x Stays here mine on next = tt
   here_from e place x (Interim binding) here mine on next = tt
   here_from e place x (Final binding channel encrypts) here mine on next =
-      let at : drawn_at z h log (place + 1) x ≡ channel = ap (λ (d : ℕ → ℕ). d x) next ∙ put_here (drawn_at z h log place) x channel in
+      let at : drawn_at z mids.at log (place + 1) x ≡ channel = ap (λ (d : ℕ → ℕ). d x) next ∙ put_here (drawn_at z mids.at log place) x channel in
       record { place = place; entry = e; here = here; mine = mine; above = on.0; below = omega (arith, at) }
     where
       put_here : (d : ℕ → ℕ) (y n : ℕ) → put d y n y ≡ n
       put_here d y n = grind arith
 
   final_with : (first : ℕ → ℕ) (e : Entry events.Turn Answer) (place : ℕ) (rs : List SaidReply) (r : SaidReply)
-      → slice_get log place ≡ Some e → e.seat ≡ seat → DrawsOn (drawn_at z h log place) r.keys.session r.progress
-      → drawn_at z h log (place + 1) ≡ next_drawn (drawn_at z h log place) r.keys.session r.progress → Along first place rs
+      → slice_get log place ≡ Some e → e.seat ≡ seat → DrawsOn (drawn_at z mids.at log place) r.keys.session r.progress
+      → drawn_at z mids.at log (place + 1) ≡ next_drawn (drawn_at z mids.at log place) r.keys.session r.progress → Along first place rs
       → Along first (place + 1) (rs ++ r ∷ [])
   final_with first e place rs r here mine on next i =
       record {
-        along = along_with first (drawn_at z h log place) (drawn_at z h log (place + 1)) rs r i.along on
-            (λ x. subst (λ (d : ℕ → ℕ). next_drawn (drawn_at z h log place) r.keys.session r.progress x ≤ d x) (sym next) (omega arith));
+        along = along_with first (drawn_at z mids.at log place) (drawn_at z mids.at log (place + 1)) rs r i.along on
+            (λ x. subst (λ (d : ℕ → ℕ). next_drawn (drawn_at z mids.at log place) r.keys.session r.progress x ≤ d x) (sym next) (omega arith));
         from = from_with rs r i.from (here_from e place r.keys.session r.progress here mine on next);
       }
 
   -- ---- what an event gives
 
-  module _ (grows : (n m : ℕ) (x : ℕ) → drawn_at z h log n x ≤ drawn_at z h log (n + m) x)
-      (tables : (n : ℕ) (e : Entry events.Turn Answer) → slice_get log n ≡ Some e → TablesAt (h.found n) (drawn_at z h log n))
+  module _ (grows : (n m : ℕ) (x : ℕ) → drawn_at z mids.at log n x ≤ drawn_at z mids.at log (n + m) x)
+      (tables : (n : ℕ) (e : Entry events.Turn Answer) → slice_get log n ≡ Some e → TablesAt (mids.at n) (drawn_at z mids.at log n))
       (next_drawn_is : (n : ℕ) (e : Entry events.Turn Answer) → slice_get log n ≡ Some e
-      → drawn_at z h log (n + 1) ≡ drawn_entry z (h.found n) (Some e) (drawn_at z h log n)) where
-    one_on : (n : ℕ) (x : ℕ) → drawn_at z h log n x ≤ drawn_at z h log (n + 1) x
+      → drawn_at z mids.at log (n + 1) ≡ drawn_entry z (mids.at n) (Some e) (drawn_at z mids.at log n)) where
+    one_on : (n : ℕ) (x : ℕ) → drawn_at z mids.at log n x ≤ drawn_at z mids.at log (n + 1) x
     one_on n x = grows n 1 x
 
-    up_to : (place later : ℕ) → place ≤ later → (x : ℕ) → drawn_at z h log place x ≤ drawn_at z h log later x
+    up_to : (place later : ℕ) → place ≤ later → (x : ℕ) → drawn_at z mids.at log place x ≤ drawn_at z mids.at log later x
     up_to place later le x =
-        subst (λ (n : ℕ). drawn_at z h log place x ≤ drawn_at z h log n x) (let q : place + (later - place) ≡ later = omega (arith, le) in q)
+        subst (λ (n : ℕ). drawn_at z mids.at log place x ≤ drawn_at z mids.at log n x) (let q : place + (later - place) ≡ later = omega (arith, le) in q)
         (grows place (later - place) x)
 
     answered_with : (first : ℕ → ℕ) (k : ℕ) (f : ServerEnd) (c : Checked) (moment : ℕ) (fresh : List ℕ) (L : Logons) (A : model.Answer)
         (e : Entry events.Turn Answer) (place : ℕ) (g : Going) (o : Option model.Message) → heard_message z L k f c ≡ o
         → slice_get log place ≡ Some e → e.seat ≡ seat
-        → TurnDraws z k f c (Answered moment fresh L A) (drawn_at z h log place) (drawn_at z h log (place + 1))
+        → TurnDraws z k f c (Answered moment fresh L A) (drawn_at z mids.at log place) (drawn_at z mids.at log (place + 1))
         → Along first place g.replies
         → Along first (place + 1) (went_answered z k moment fresh f (record g { logons = L }) c o A).replies
     answered_with first k f c moment fresh L A e place g None is here mine draws i =
         further first place (place + 1) g.replies (one_on place) i
     answered_with first k f c moment fresh L A e place g (Some m) is here mine draws i =
         let d = draws m is in
-        let drawn = drawn_at z h log place in
+        let drawn = drawn_at z mids.at log place in
         let p = progress m.command A.reply in
         let r = said_to z k moment fresh f L g.window c m.command A in
         let session : m.session_id ≡ c.header.session = heard_session z L k f c m is in
@@ -248,7 +248,7 @@ module _ (z : ServerSettings) (h : Course) (log : List (Entry events.Turn Answer
         let named : IsAt p r.keys.session c.header.session = said_at z L k f c p keyed in
         let on : DrawsOn drawn r.keys.session p =
         draws_at drawn p r.keys.session c.header.session named (subst (λ (n : ℕ). DrawsOn drawn n p) session d.on) in
-        let next : drawn_at z h log (place + 1) ≡ next_drawn drawn r.keys.session p =
+        let next : drawn_at z mids.at log (place + 1) ≡ next_drawn drawn r.keys.session p =
         d.next ∙ (ap (λ (n : ℕ). next_drawn drawn n p) session ∙ sym (drawn_same drawn p r.keys.session c.header.session named)) in
         final_with first e place g.replies r here mine on next i
 
@@ -266,14 +266,14 @@ module _ (z : ServerSettings) (h : Course) (log : List (Entry events.Turn Answer
 
       given_out : (d : gives.Dealt) (c : Checked) (rest : List Checked) (x : Placed) (xs : List Placed) (g : Given) (place : ℕ)
           → AreFor k f rest xs → AreGiven h xs d.left → GoOn place (x ∷ xs)
-          → TurnDraws z k f c g (drawn_at z h log x.0) (drawn_at z h log (x.0 + 1)) → Along first place d.going.replies
+          → TurnDraws z k f c g (drawn_at z mids.at log x.0) (drawn_at z mids.at log (x.0 + 1)) → Along first place d.going.replies
           → Left rest (x ∷ xs) place (dealt_by z k f d c g)
       given_out d c rest x xs (Answered moment fresh L A) place fors given on draws i = record {
         later = xs;
         next = x.0 + 1;
         fors = fors;
         given = given;
-        on = on.4;
+        on = on.3;
         end = refl;
         replies = answered_with first k f c moment fresh L A x.1 x.0 d.going (heard_message z L k f c) refl on.1 on.2 draws
             (further first place x.0 d.going.replies (up_to place x.0 on.0) i);
@@ -283,7 +283,7 @@ module _ (z : ServerSettings) (h : Course) (log : List (Entry events.Turn Answer
         next = x.0 + 1;
         fors = fors;
         given = given;
-        on = on.4;
+        on = on.3;
         end = refl;
         replies = quiet_with first (x.0 + 1) d.going.replies (said_failed f d.going.window c no_memory) refl
             (further first place (x.0 + 1) d.going.replies (up_to place (x.0 + 1) (let le = on.0 in omega (arith, le))) i);
@@ -293,7 +293,7 @@ module _ (z : ServerSettings) (h : Course) (log : List (Entry events.Turn Answer
         next = x.0 + 1;
         fors = fors;
         given = given;
-        on = on.4;
+        on = on.3;
         end = refl;
         replies = further first place (x.0 + 1) d.going.replies (up_to place (x.0 + 1) (let le = on.0 in omega (arith, le))) i;
       }
@@ -305,9 +305,9 @@ module _ (z : ServerSettings) (h : Course) (log : List (Entry events.Turn Answer
       next_out d c rest (x ∷ xs) place [] fors given on i = absurd given
       next_out d c rest (x ∷ xs) place (g ∷ gs) fors given on i =
           let one = record d { left = gs } in
-          let draws : TurnDraws z k f c g (drawn_at z h log x.0) (drawn_at z h log (x.0 + 1)) =
-          what_draws z k f c (h.found x.0) x.1 x.1.event.what (h.given x.0) g (h.found (x.0 + 1)) (drawn_at z h log x.0)
-          (drawn_at z h log (x.0 + 1)) refl on.3 fors.0 given.0 (tables x.0 x.1 on.1) (next_drawn_is x.0 x.1 on.1) in
+          let draws : TurnDraws z k f c g (drawn_at z mids.at log x.0) (drawn_at z mids.at log (x.0 + 1)) =
+          what_draws z k f c (mids.at x.0) x.1 x.1.event.what (h.given x.0) g (h.found (x.0 + 1)) (drawn_at z mids.at log x.0)
+          (drawn_at z mids.at log (x.0 + 1)) refl (mids.meets x.0 x.1 on.1) fors.0 given.0 (tables x.0 x.1 on.1) (next_drawn_is x.0 x.1 on.1) in
           either (λ (e : gives.Dealt). Left rest (x ∷ xs) place (dealt_by z k f e c g)) (is_setup c.header)
           (record one { setups = one.setups + 1 }) one
           (λ _. given_out (record one { setups = one.setups + 1 }) c rest x xs g place fors.1 given.1 on draws i)

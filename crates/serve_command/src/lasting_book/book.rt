@@ -118,6 +118,9 @@ impl<D: Renewal> Lasting for LastingBook<D> {
             → server_shows D.told D.seen D.may_leave self.old users s L records → server_stopped self.old ≡ None
             → (count : ℕ) → server_stopped self.new ≡ Some count
             → StopsAtFault (server_faults D.faults self.old) (server_faults D.faults self.new) count }
+        ensures calm { (users : Users) (s : model.Server) (L : Logons) (records : List model.Record)
+            → server_shows D.told D.seen D.may_leave self.old users s L records → server_stopped self.old ≡ None
+            → server_stopped self.new ≡ None → server_faults D.faults self.new ≡ server_faults D.faults self.old }
         ensures stays { (count : ℕ) → server_stopped self.old ≡ Some count → self.new ≡ self.old }
         ensures early { used_by self.old < self.old.mark → self.new ≡ self.old }
         ensures looks { server_stopped self.old ≡ None → self.old.mark ≤ used_by self.old

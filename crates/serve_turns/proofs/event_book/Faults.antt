@@ -1,5 +1,6 @@
 -- A server that stops in an event tells its disk's own count of faults, which rose in it.
-use Rattle.std.proofs.Common.{◌≡◌, ℕ, List, Option, None, Some, Result, Ok, Err, refl, sym, subst, ◌∙◌}
+use Rattle.std.proofs.Common.{◌≡◌, inl, inr, ℕ, List, [], Option, None, Some, Result, Ok, Err, refl, sym, ap, subst, ◌∙◌}
+use Rattle.base_outside.specs.streams.Faults.{Rose}
 use Rattle.spec_crypto.specs.tokens.Tokens.{Users}
 use Rattle.spec_exchange.specs.State as model
 use Rattle.spec_world.specs.Ends.{Logons}
@@ -19,7 +20,8 @@ use Rattle.serve_turns.specs.declared.event_book.turn.Turn.{Turn}
 use Rattle.serve_turns.specs.declared.event_book.turn.What.{What}
 use Rattle.serve_turns.specs.declared.event_book.turn.What.TheVariants.{Accept, End, Message}
 use Rattle.serve_turns.specs.event_book.History.{On, Stand}
-use Rattle.serve_turns.specs.event_book.Steps.{AsksEvent, EventStepsFor, GoesOn, ShowsStanding}
+use Rattle.serve_turns.specs.event_book.Steps.{AsksEvent, EventSteps, EventStepsFor, GoesOn, RenewsBook, ShowsStanding, StaysHalted}
+use Rattle.serve_turns.specs.event_book.Renewing.{RenewedTo}
 use Rattle.serve_turns.proofs.event_book.Answering.{had_stopped}
 use Rattle.serve_turns.proofs.event_book.Places.{asked_is}
 
@@ -70,7 +72,7 @@ module _ {S : Type 0} (shows : S → Users → model.Server → Logons → List 
       (asks.answers.fault z.users s.server s.logons s.records stands told.0 told.1)
 
   -- of a server that went on
-  pub at_fault : (z : ServerSettings) (s : Stand) (b c : EventBook S) (e : Turn) (t : Answer) (what : What) (count : ℕ)
+  at_fault : (z : ServerSettings) (s : Stand) (b c : EventBook S) (e : Turn) (t : Answer) (what : What) (count : ℕ)
       → EventStepsFor shows stopped faults what b e t c → ShowsStanding shows stopped faults z.users b (On s)
       → stopped c.server ≡ Some count → AtFault b c count
   at_fault z s b c e t (Accept k) count steps stands stop =
@@ -80,3 +82,44 @@ module _ {S : Type 0} (shows : S → Users → model.Server → Logons → List 
   at_fault z s b c e t (End k) count steps stands stop =
       by_reply b c steps.reply count (steps.halts z.users s.server s.logons s.records stands.0)
       (λ n is. steps.fault z.users s.server s.logons s.records stands n is) stop
+
+  -- ---- a whole turn: what comes in front of the event, and the event
+
+  -- a server that had stopped in front of the event is as it was behind it
+  halted_by : (b c : EventBook S) (e : Turn) (t : Answer) (what : What) → EventStepsFor shows stopped faults what b e t c
+      → StaysHalted shows stopped faults b t.reply c
+  halted_by b c e t (Accept k) steps = steps.halted
+  halted_by b c e t (Message a) steps = steps.answers.halted
+  halted_by b c e t (End k) steps = steps.halted
+
+  -- the count stays where the server goes on in front of the event
+  counts_on : (b m c : EventBook S) (count : ℕ) → faults m.server ≡ faults b.server → AtFault m c count → AtFault b c count
+  counts_on b m c count calm fault = (subst (λ (n : ℕ). Rose n count) calm fault.0, fault.1)
+
+  -- it stopped in front of the event
+  stopped_before : (b m c : EventBook S) (e : Turn) (t : Answer) (n count : ℕ) → EventStepsFor shows stopped faults e.what m e t c
+      → AtFault b m n → stopped m.server ≡ Some n → stopped c.server ≡ Some count → AtFault b c count
+  stopped_before b m c e t n count steps fault stop stops =
+      let same = (halted_by m c e t e.what steps n stop).1 in
+      subst (AtFault b c) (one_count (stopped c.server) n count (ap stopped same ∙ stop) stops)
+      (fault.0, fault.1 ∙ sym (ap faults same))
+
+  by_renewal : (z : ServerSettings) (s : Stand) (b m c : EventBook S) (e : Turn) (t : Answer) (count : ℕ)
+      → RenewsBook shows stopped faults b m → EventStepsFor shows stopped faults e.what m e t c
+      → ShowsStanding shows stopped faults z.users b (On s) → stopped c.server ≡ Some count
+      → RenewedTo (shows m.server z.users) (stopped m.server) s.server s.logons s.records → AtFault b c count
+  by_renewal z s b m c e t count renews steps stands stop (inl so) =
+      counts_on b m c count (renews.calm z.users s.server s.logons s.records stands so.0)
+      (at_fault z s m c e t e.what count steps (so.1, so.0) stop)
+  by_renewal z s b m c e t count renews steps stands stop (inr (inl so)) =
+      let anew : Stand = record { server = record s.server { journal = so.1 }; logons = s.logons; records = [] } in
+      counts_on b m c count (renews.calm z.users s.server s.logons s.records stands so.0)
+      (at_fault z anew m c e t e.what count steps (so.2, so.0) stop)
+  by_renewal z s b m c e t count renews steps stands stop (inr (inr so)) =
+      stopped_before b m c e t so.0 count steps (renews.fault z.users s.server s.logons s.records stands so.0 so.1) so.1 stop
+
+  pub turn_fault : (z : ServerSettings) (s : Stand) (b c : EventBook S) (e : Turn) (t : Answer) (count : ℕ)
+      → EventSteps shows stopped faults b e t c → ShowsStanding shows stopped faults z.users b (On s) → stopped c.server ≡ Some count
+      → AtFault b c count
+  turn_fault z s b c e t count steps stands stop =
+      by_renewal z s b steps.0 c e t count steps.1 steps.2 stands stop (steps.1.renewed z.users s.server s.logons s.records stands)

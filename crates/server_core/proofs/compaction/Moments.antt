@@ -85,7 +85,7 @@ module _ {D : Type 0} (told : Type 0) (seen : D → List ℕ) (may_leave : D →
   -- behind a draft that was begun or written
   pub rewrites_then : (faults : D → ℕ) (a b c : JournalState D) (r : Result Bool EventError) → a.stopped ≡ None
       → IsDraftWritten faults a b → JournalRewrites faults b r c → JournalRewrites faults a r c
-  rewrites_then faults a b c (Ok true) goes w h = (goes, h.1)
+  rewrites_then faults a b c (Ok true) goes w h = (goes, h.1, h.2 ∙ w.2)
   rewrites_then faults a b c (Ok false) goes w h = (goes, written_then told seen may_leave moment left_since faults a b c w h.1)
   rewrites_then faults a b c (Err Memory) goes w h = absurd h
   rewrites_then faults a b c (Err (DiskFault n)) goes w h = stops_then told seen may_leave moment left_since faults a b c n w h

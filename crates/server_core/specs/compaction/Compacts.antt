@@ -61,7 +61,7 @@ stop_of (Stopped count) = Some count
 
 -- what writing it anew comes to
 abbrev pub JournalRewrites : {D : Type 0} → (D → ℕ) → JournalState D → Result Bool EventError → JournalState D → Type 0
-JournalRewrites faults old (Ok true) new = (old.stopped ≡ None) × (new.stopped ≡ None)
+JournalRewrites faults old (Ok true) new = (old.stopped ≡ None) × (new.stopped ≡ None) × (faults new.disk ≡ faults old.disk)
 JournalRewrites faults old (Ok false) new = (old.stopped ≡ None) × IsDraftWritten faults old new
 JournalRewrites faults old (Err Memory) new = ⊥
 JournalRewrites faults old (Err (DiskFault count)) new = DraftStops faults count old new

@@ -1,5 +1,5 @@
 //! A server's journal is written anew, and the tables count the bytes that it uses then.
-ghost use Rattle.std.specs.Prelude.{◌≡◌, ℕ, Err, List, None, Some};
+ghost use Rattle.std.specs.Prelude.{◌≡◌, ℕ, Err, IfOk, List, None, Some};
 ghost use Rattle.spec_exchange.specs.State as model;
 ghost use Rattle.spec_wire.specs.journal.Moments.{LeavesOnly};
 ghost use Rattle.spec_world.specs.Ends.{Logons};
@@ -27,6 +27,7 @@ pub fn compact_state<D: Renewal>(server: &mut ServerState<D>) -> Result<bool, Ev
     ensures stopped { (count : ℕ) → server.old.stopped ≡ Some count
         → (result ≡ Err (errors.Stopped count)) × (server.new ≡ server.old) }
     ensures config { server.new.tables.config ≡ server.old.tables.config }
+    ensures calm { IfOk result (λ done. D.faults server.new.journal.disk ≡ D.faults server.old.journal.disk) }
     ensures halts { CompactionHalts server.old.stopped server.new.stopped result }
 {
     match server.stopped {
@@ -46,6 +47,7 @@ fn compact_on<D: Renewal>(server: &mut ServerState<D>) -> Result<bool, EventErro
         → JournaledGoesOn D.seen D.may_leave base server.old s records bodies
         → LeavesOnly D.moment D.left_since server.old.journal.disk server.new.journal.disk (CompactionLeaves s bodies) }
     ensures config { server.new.tables.config ≡ server.old.tables.config }
+    ensures calm { IfOk result (λ done. D.faults server.new.journal.disk ≡ D.faults server.old.journal.disk) }
     ensures halts { CompactionHalts server.old.stopped server.new.stopped result }
 {
     order_law();
