@@ -9,7 +9,7 @@ use Rattle.law_snapshots.specs.snapshots.Pieces.{SnapshotPiece}
 use Rattle.server_checks.specs.declared.setups.error.EventError.{EventError}
 use Rattle.server_checks.specs.declared.setups.error.EventError.TheVariants as errors
 use Rattle.server_checks.specs.declared.tables.Config.{Config}
-use Rattle.server_core.specs.Shown.{config_of, is_plain, journal_of, state_of}
+use Rattle.server_core.specs.Shown.{config_of, has_no_sums, journal_of, state_of}
 use Rattle.server_core.specs.compaction.Compacts.{Compacts}
 use Rattle.conn_core.specs.served.Serving.{StopsAtFault}
 use Rattle.serve_turns.specs.event_book.Renewing.{RenewedTo}
@@ -46,13 +46,13 @@ module _ {D : Type 0} (told : Type 0) (seen : D → List ℕ) (may_leave : D →
         is ∙ (ap (λ (x : Bool). is_due x used size) p ∙ ap (λ (x : ℕ). is_due first' x size) q)
 
     pub looks_due : (first due : Bool) (used size : ℕ) (result : Result Bool EventError) → due ≡ is_due first used size
-        → first ≡ is_plain (journal_of old.disk_book.book.server).form → used ≡ used_by old → due ≡ true
+        → first ≡ has_no_sums (journal_of old.disk_book.book.server).form → used ≡ used_by old → due ≡ true
         → WritesAnew told seen may_leave faults old new result → LooksAt told seen may_leave faults old new size
     looks_due first due used size result is p q ask w =
         subst (λ (b : Bool). LooksWhere told seen may_leave faults b old new size) (sym ask ∙ is_asked first _ due used size is p q) (result, w)
 
     pub looks_later : (first due : Bool) (used size : ℕ) → due ≡ is_due first used size
-        → first ≡ is_plain (journal_of old.disk_book.book.server).form → used ≡ used_by old → due ≡ false
+        → first ≡ has_no_sums (journal_of old.disk_book.book.server).form → used ≡ used_by old → due ≡ false
         → new ≡ record old { mark = look_again (used_by old) size } → LooksAt told seen may_leave faults old new size
     looks_later first due used size is p q ask w =
         subst (λ (b : Bool). LooksWhere told seen may_leave faults b old new size) (sym ask ∙ is_asked first _ due used size is p q) w

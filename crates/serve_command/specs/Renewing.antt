@@ -5,7 +5,7 @@ use Rattle.law_snapshots.specs.snapshots.Pieces.{SnapshotPiece}
 use Rattle.spec_exchange.specs.State as model
 use Rattle.spec_world.specs.Ends.{Logons}
 use Rattle.server_checks.specs.declared.setups.error.EventError.{EventError}
-use Rattle.server_core.specs.Shown.{HoldsServerOver, config_of, disk_of, is_plain, journal_of, state_of}
+use Rattle.server_core.specs.Shown.{HoldsServerOver, config_of, disk_of, has_no_sums, journal_of, state_of}
 use Rattle.server_core.specs.compaction.Compacts.{Compacts}
 use Rattle.serve_command.specs.declared.lasting_book.book.LastingBook.{LastingBook}
 
@@ -61,4 +61,4 @@ module _ {D : Type 0} (told : Type 0) (seen : D → List ℕ) (may_leave : D →
 
   -- a look at its journal, where a snapshot is said to take so many bytes
   abbrev pub LooksAt : (old new : LastingBook D) → ℕ → Type 0
-  LooksAt old new size = LooksWhere (is_due (is_plain (journal_of old.disk_book.book.server).form) (used_by old) size) old new size
+  LooksAt old new size = LooksWhere (is_due (has_no_sums (journal_of old.disk_book.book.server).form) (used_by old) size) old new size
