@@ -1,19 +1,18 @@
 -- What a server shows behind the space that its journal took ahead, and the look at its journal behind that.
-use Rattle.std.proofs.Common.{◌≡◌, inl, inr, ℕ, ◌<◌, ◌≤◌, Bool, true, false, List, [], Option, Some, None, Result, Ok, Err, ap, ◌∙◌}
-use Rattle.std.proofs.Common.{refl, subst, sym}
-use Rattle.std.proofs.lemmas.Bool.{cases_lt}
+use Rattle.std.proofs.Common.{◌≡◌, inl, inr, ℕ, Bool, true, false, List, Some, None, Result, Ok, Err, ap, ◌∙◌}
+use Rattle.std.proofs.Common.{refl, subst, sym, ◌⊎◌}
 use Rattle.spec_crypto.specs.tokens.Tokens.{Users}
 use Rattle.spec_exchange.specs.State as model
 use Rattle.spec_world.specs.Ends.{Logons}
 use Rattle.server_checks.specs.declared.setups.error.EventError.{EventError}
 use Rattle.server_checks.specs.declared.setups.error.EventError.TheVariants as errors
 use Rattle.server_checks.specs.declared.tables.Config.{Config}
-use Rattle.server_core.specs.Shown.{config_of, disk_of, journal_of, state_of, stopped_of}
+use Rattle.server_core.specs.Shown.{config_of, state_of}
 use Rattle.server_core.specs.space_ahead.Space.{TakesSpace}
 use Rattle.law_snapshots.specs.snapshots.Pieces.{SnapshotPiece}
 use Rattle.conn_core.specs.served.Serving.{StopsAtFault}
 use Rattle.serve_turns.specs.event_book.Renewing.{RenewedTo}
-use Rattle.serve_command.specs.Renewing.{Fills, FillsAhead, FillsWhere, LooksAt, Readies, is_short, used_by}
+use Rattle.serve_command.specs.Renewing.{Fills, FillsWhere, Readies, is_short, used_by}
 use Rattle.serve_command.specs.Steps.{server_faults, server_shows, server_stopped}
 use Rattle.serve_command.specs.declared.lasting_book.book.LastingBook.{LastingBook}
 use Rattle.serve_command.proofs.Renewals.{calm_of, faults_of, never_both, renewed_of, same_count}
@@ -25,7 +24,7 @@ module _ {D : Type 0} (told : Type 0) (seen : D → List ℕ) (may_leave : D →
   filled_where short old new is w = subst (λ (b : Bool). FillsWhere told seen may_leave faults b old new) is w
 
   -- what a server goes on with behind it, or where it stopped
-  GoesOrStops : (old new : LastingBook D) → Users → model.Server → Logons → List model.Record → Type 0
+  abbrev GoesOrStops : (old new : LastingBook D) → Users → model.Server → Logons → List model.Record → Type 0
   GoesOrStops old new users s L records =
       ((server_stopped new ≡ None) × server_shows told seen may_leave new users s L records
       × (server_faults faults new ≡ server_faults faults old))
@@ -38,10 +37,10 @@ module _ {D : Type 0} (told : Type 0) (seen : D → List ℕ) (may_leave : D →
       → (server_stopped new ≡ None → server_faults faults new ≡ server_faults faults old) → server_stopped old ≡ None
       → GoesOrStops old new users s L records
   taken old new users s L records base (Ok whole) p q t calm goes =
-      inl (t.1, ((base, (ap (λ (x : Config). x.users) q ∙ p, t.2)), calm t.1))
+      inl (t.1, (base, (ap (λ (x : Config). x.users) q ∙ p, t.2)), calm t.1)
   taken old new users s L records base (Err errors.Memory) p q t calm goes =
-      inl (t.1, ((base, (ap (λ (x : Config). x.users) q ∙ p, t.2)), calm t.1))
-  taken old new users s L records base (Err (errors.DiskFault count)) p q t calm goes = inr (count, (t.1, (t.2, t.3)))
+      inl (t.1, (base, (ap (λ (x : Config). x.users) q ∙ p, t.2)), calm t.1)
+  taken old new users s L records base (Err (errors.DiskFault count)) p q t calm goes = inr (count, t.1, (t.2, t.3))
   taken old new users s L records base (Err (errors.Stopped count)) p q t calm goes = absurd (never_both _ count goes t.0)
 
   filled : (short : Bool) (old new : LastingBook D) (users : Users) (s : model.Server) (L : Logons) (records : List model.Record)
@@ -50,7 +49,7 @@ module _ {D : Type 0} (told : Type 0) (seen : D → List ℕ) (may_leave : D →
   filled true old new users s L records w h goes =
       taken old new users s L records h.0 w.result h.1.0 w.config (w.takes h.0 s L records h.1.1) w.calm goes
   filled false old new users s L records w h goes = subst (λ (x : LastingBook D). GoesOrStops old x users s L records) (sym w)
-      (inl (goes, (h, refl)))
+      (inl (goes, h, refl))
 
   -- ---- both
 

@@ -1,6 +1,6 @@
 -- When a server writes its journal anew, and what that makes of it.
 use Rattle.std.specs.Prelude.{◌≡◌, ℕ, ◌+◌, ◌-◌, ◌*◌, ◌/◌, min, max, Bool, true, false, ◌&&◌, ◌||◌, nat_lt, nat_le, List, if◌then◌else◌}
-use Rattle.std.specs.Prelude.{Result, Ok, Err, IfOk}
+use Rattle.std.specs.Prelude.{Result, Ok, Err, IfOk, None, Some, ◌<◌, ◌≤◌}
 use Rattle.law_snapshots.specs.snapshots.Pieces.{SnapshotPiece}
 use Rattle.spec_exchange.specs.State as model
 use Rattle.spec_world.specs.Ends.{Logons}

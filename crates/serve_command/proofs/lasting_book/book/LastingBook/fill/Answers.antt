@@ -1,4 +1,4 @@
-use Rattle.std.proofs.Common.{refl, ap, ◌∙◌}
+use Rattle.std.proofs.Common.{refl, ap, ℕ, ◌∙◌}
 use Rattle.serve_command.specs.Renewing.{ahead_after}
 use Rattle.serve_command.proofs.lasting_book.book.LastingBook.fill.Goals as goal
 
@@ -10,5 +10,6 @@ returns g c = record {
   used = c.take_ahead-taken.ensures.used;
   calm = c.take_ahead-taken.ensures.calm;
   mark = refl;
-  ahead = c.ahead_after-self.ensures ∙ ap (λ (n : _). ahead_after c.take_ahead-taken.result _ n) c.requires;
+  ahead = c.ahead_after-self.ensures
+      ∙ ap (λ (n : ℕ). ahead_after c.take_ahead-taken.result c.args.self.now.ahead n) c.requires;
 }
