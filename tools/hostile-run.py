@@ -26,12 +26,14 @@ import hostile_links
 import hostile_load
 import hostile_model
 import hostile_patience
+import hostile_renewal
 import hostile_trial
 import hostile_words
 from hostile_client import Closed, Refused, Wrong
 from hostile_server import CHECKS, Failed, Run, Skipped
 
-PARTS = (hostile_disk, hostile_links, hostile_patience, hostile_load, hostile_words, hostile_images, hostile_kills, hostile_frames)
+PARTS = (hostile_disk, hostile_links, hostile_patience, hostile_load, hostile_words, hostile_images, hostile_kills,
+         hostile_renewal, hostile_frames)
 
 
 def in_order():

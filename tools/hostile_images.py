@@ -14,6 +14,7 @@ import recorded_disk
 from hostile_client import Closed
 from hostile_kills import CLIENTS, State, Worker
 from hostile_server import DISK_FAILED, JOURNAL, NOT_A_JOURNAL, Failed, Server, Skipped, check, expect
+from hostile_work import gates as gates_of
 
 IMAGES_OF_A_RUN = 50
 STARTED = 60  # seconds
@@ -160,36 +161,11 @@ def refused_calls(run):
 
 # ---- bytes that rot
 
-def checksum_table():
-    found = []
-    for byte in range(256):
-        for _ in range(8):
-            byte = byte >> 1 ^ (0x82F63B78 if byte & 1 else 0)  # Castagnoli's polynomial, its bits turned round (RFC 3720, B.4)
-        found.append(byte)
-    return found
-
-
-TABLE = checksum_table()
-
-
-def checksum(data):
-    found = 0xFFFFFFFF
-    for byte in data:
-        found = found >> 8 ^ TABLE[(found ^ byte) & 255]
-    return found ^ 0xFFFFFFFF
-
-
 def with_checksums(journal):
-    """A journal of the first form in the second one: behind each gate the length, a checksum of length and body, and the body. The bytes,
-    and the places of the open gates."""
-    expect(journal[:8] == b"smb311j1", "a new journal isn't in the first form")
-    found, gates, at = bytearray(b"smb311j2"), [], 8
-    while at + 5 <= len(journal) and journal[at] == 1:
-        entry = journal[at + 1:at + 5 + struct.unpack_from("<I", journal, at + 1)[0]]
-        gates.append(len(found))
-        found += b"\1" + entry[:4] + struct.pack("<I", checksum(entry)) + entry[4:]
-        at += 1 + len(entry)
-    return bytes(found + b"\0"), gates
+    """A journal up to its closed gate, and the places of its open gates."""
+    expect(journal[:8] == b"smb311j2", "behind its first event a journal has no checksums")
+    found = gates_of(journal)
+    return with_last(journal, found) + b"\0", found
 
 
 def begun_over(run, journal):

@@ -95,9 +95,10 @@ def refused_by(call):
 
 
 def gates(journal):
-    """The places of the open gates of a journal: behind 8 bytes of a mark a gate, a length of 4 bytes and as many bytes, and so on."""
-    found, at = [], 8
-    while at + 5 <= len(journal) and journal[at] == 1:
+    """The places of the open gates of a journal: behind 8 bytes of a mark a gate, a length of 4 bytes, in the second form a checksum of 4,
+    and as many bytes, and so on."""
+    found, at, around = [], 8, 9 if journal[:8] == b"smb311j2" else 5
+    while at + around <= len(journal) and journal[at] == 1:
         found.append(at)
-        at += 5 + struct.unpack_from("<I", journal, at + 1)[0]
+        at += around + struct.unpack_from("<I", journal, at + 1)[0]
     return found

@@ -1,5 +1,5 @@
 -- One more body behind those that were read: of pieces, or of records.
-use Rattle.std.proofs.Common.{◌≡◌, ◌⊎◌, inl, inr, ℕ, ◌&&◌, Bool, true, false, List, [], ◌∷◌, ◌++◌, length, take, refl, sym, ap, subst}
+use Rattle.std.proofs.Common.{◌≡◌, ◌⊎◌, inl, inr, ℕ, Bool, true, false, List, [], ◌∷◌, ◌++◌, refl, sym, ap, subst}
 use Rattle.std.proofs.Common.{◌∙◌, arith}
 use Rattle.std.proofs.lemmas.List.{append-nil}
 use Rattle.std.proofs.Common.{append_assoc}
@@ -17,7 +17,7 @@ use Rattle.journal_bytes.specs.declared.piece_bytes.value.Piece.{Piece}
 use Rattle.journal_bytes.specs.record_bytes.Meaning.{records_of}
 use Rattle.journal.specs.declared.disk_journal.journal.JournalError.TheVariants.{NotAJournal}
 use Rattle.server_core.specs.Over.{based, found_over}
-use Rattle.server_core.specs.Reading.{AppliedBy, BodyRefused, FoldedBy, IsReadOver, NoServerAdds, NoSnapshotHas, PiecedBy, PiecesRefused}
+use Rattle.server_core.specs.Reading.{AppliedBy, BodyRefused, FoldedBy, IsReadOver, NoServerAdds, NoSnapshotHas, PiecedBy}
 use Rattle.server_core.specs.Reading.{SpellFrom, SpellOver, begins_pieces}
 use Rattle.server_core.specs.durable_state.Durable.{DurableShown}
 use Rattle.server_core.specs.declared.durable_state.durable.Durable.{Durable}

@@ -1,7 +1,7 @@
 -- Bodies of a snapshot, with bodies of records behind them.
-use Rattle.std.proofs.Common.{◌≡◌, ℕ, Bool, true, false, ◌&&◌, List, [], ◌∷◌, ◌++◌, refl, sym, ap, subst, ◌∙◌, append_assoc, arith}
+use Rattle.std.proofs.Common.{◌≡◌, ℕ, true, List, [], ◌∷◌, ◌++◌, refl, sym, ap, subst, ◌∙◌, append_assoc}
 use Rattle.std.proofs.lemmas.List.{append-nil}
-use Rattle.spec_exchange.specs.Fold.{nothing_yet, fold_from}
+use Rattle.spec_exchange.specs.Fold.{nothing_yet}
 use Rattle.spec_exchange.specs.State as model
 use Rattle.spec_exchange.specs.State.{Server}
 use Rattle.law_server.proofs.tables.Logic.{front_of, back_of, both}
@@ -12,7 +12,7 @@ use Rattle.journal_bytes.specs.record_bytes.Grammar.{SpellsRecords}
 use Rattle.journal_bytes.specs.record_bytes.Meaning.{records_of}
 use Rattle.journal_bytes.specs.declared.record_bytes.value.Record.{Record}
 use Rattle.server_core.specs.Over.{based, found_over}
-use Rattle.server_core.specs.Reading.{BodiesSpell, PiecesFrom, SpellFrom, SpellOver}
+use Rattle.server_core.specs.Reading.{BodiesSpell, PiecesFrom, SpellOver}
 use Rattle.server_core.proofs.Bodies.{spell_more}
 
 -- ---- pieces one behind the other

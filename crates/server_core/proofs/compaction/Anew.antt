@@ -1,11 +1,10 @@
 -- A snapshot of a server stands for it, without records behind it.
-use Rattle.std.proofs.Common.{◌≡◌, Bool, true, ◌&&◌, if◌then◌else◌, ℕ, List, [], ◌∷◌, ◌++◌, Option, Some, None, refl, sym, ap, subst, ◌∙◌}
+use Rattle.std.proofs.Common.{◌≡◌, true, if◌then◌else◌, ℕ, List, [], ◌∷◌, Option, Some, None, refl, sym, ap, subst, ◌∙◌}
 use Rattle.std.proofs.lemmas.List.{append-nil}
 use Rattle.spec_exchange.specs.State as model
 use Rattle.spec_exchange.specs.State.{Entry, Range, Server}
 use Rattle.spec_exchange.specs.Fold.{fold_from, nothing_yet, ranges_that_stay, stays, stays_by_guid}
 use Rattle.law_records.specs.fold.Order.{FilesAscend, numbers}
-use Rattle.law_records.specs.recovery.Recovers.{RecordRecovers}
 use Rattle.law_server.specs.tables.Fits.{Fits, all_sound, is_ascending}
 use Rattle.law_snapshots.specs.snapshots.Kept.{IsOrderOf, Keeps, ListsGuids, TellsBytes}
 use Rattle.law_snapshots.specs.snapshots.Pieces.{FileBytes, SnapshotPiece, snapshot_in, unfolded, with_pieces}

@@ -1,13 +1,13 @@
 -- Records keep files in the order of their numbers.
-use Rattle.std.proofs.Common.{◌≡◌, ℕ, ◌+◌, ◌==◌, nat_le, nat_lt, Bool, true, false, not, ◌&&◌, ◌||◌, if◌then◌else◌, List, [], ◌∷◌}
-use Rattle.std.proofs.Common.{length, Option, Some, None, sym, subst}
+use Rattle.std.proofs.Common.{◌≡◌, ℕ, ◌+◌, ◌==◌, nat_le, nat_lt, Bool, true, not, ◌&&◌, ◌||◌, List, [], ◌∷◌}
+use Rattle.std.proofs.Common.{length, Option, Some, None}
 use Rattle.spec_exchange.specs.Status.{success}
-use Rattle.spec_exchange.specs.Commands.{Basic, Element, all_lock, all_unlock, deletes_on_close}
+use Rattle.spec_exchange.specs.Commands.{Element, all_lock, all_unlock, deletes_on_close}
 use Rattle.spec_exchange.specs.State.{Server, Entry, Record, NewOpen, EpochRecord, CreateRecord, WriteRecord, EndRecord, BasicRecord}
 use Rattle.spec_exchange.specs.State.{DeleteRecord, RenameRecord, RemoveRecord, LockRecord, CloseRecord, VersionRecord, ExpireRecord}
 use Rattle.spec_exchange.specs.Content.{is_empty}
 use Rattle.spec_exchange.specs.CheckOpen.{is_slot, target_of, file_of}
-use Rattle.spec_exchange.specs.Files.{root, exists, find, passes_room, make_file, remove_file, rename_file}
+use Rattle.spec_exchange.specs.Files.{root, exists, find, passes_room, remove_file}
 use Rattle.spec_exchange.specs.Fold.{created_file, fold_from, is_file, lock_granted, lock_recorded, may_create, may_have_open, may_remove}
 use Rattle.spec_exchange.specs.Fold.{may_rename, restore, shut_recorded, sweep, with_record}
 use Rattle.spec_exchange.specs.Opens.{goes, pending_behind, without_gone}
@@ -38,7 +38,8 @@ created s action f path attributes is_dir time i a =
     either (λ (x : Server). FilesAscend x) (action == 2) _ _ (λ _. made_ascend s path is_dir attributes time i a)
     (λ _. either (λ (x : Server). FilesAscend x) (action == 1) _ _ (λ _. a) (λ _. a))
 
-slot : (s : Server) (o index number status : ℕ) → FilesAscend s → FilesAscend (Rattle.spec_exchange.specs.Effects.keep_slot s o index number status)
+slot : (s : Server) (o index number status : ℕ) → FilesAscend s
+    → FilesAscend (Rattle.spec_exchange.specs.Effects.keep_slot s o index number status)
 slot s o index number status a = either (λ (x : Server). FilesAscend x) (is_slot index) _ s (λ _. a) (λ _. a)
 
 granted : (s : Server) (o index number : ℕ) (A : RangeAnswer) → FilesAscend s → FilesAscend (lock_granted s o index number A)

@@ -1,15 +1,14 @@
 -- A draft is written beside a journal, which goes on; and what a crash meanwhile leaves.
-use Rattle.std.proofs.Common.{◌≡◌, ◌⊎◌, inl, inr, ℕ, ◌≤◌, Bool, true, false, List, [], Option, Some, None, Result, Ok, Err}
-use Rattle.std.proofs.Common.{refl, sym, ap, subst, ◌∙◌, arith}
-use Rattle.base_outside.specs.streams.Faults.{Rose}
+use Rattle.std.proofs.Common.{◌≡◌, ◌⊎◌, inl, inr, ℕ, Bool, true, false, List, Some, None, Result, Ok, Err}
+use Rattle.std.proofs.Common.{sym, subst, ◌∙◌, arith}
 use Rattle.spec_exchange.specs.State as model
 use Rattle.spec_journal.specs.Forms.{StandsFor}
 use Rattle.spec_wire.specs.journal.Moments.{LeavesOnly, Quiet}
 use Rattle.journal.specs.disk_journal.Journal.{JournalState, JournalSettled}
-use Rattle.journal.specs.disk_journal.Rewrite.{DraftStops, OnlyDrafted}
+use Rattle.journal.specs.disk_journal.Rewrite.{OnlyDrafted}
 use Rattle.server_checks.specs.declared.setups.error.EventError.{EventError}
 use Rattle.server_checks.specs.declared.setups.error.EventError.TheVariants.{Memory, DiskFault, Stopped}
-use Rattle.server_core.specs.compaction.Compacts.{HasNewBodies, IsAnew, JournalRewrites, RewriteLeaves}
+use Rattle.server_core.specs.compaction.Compacts.{JournalRewrites, RewriteLeaves}
 use Rattle.server_core.specs.snapshot_writing.Told.{IsDraftWritten}
 use Rattle.server_core.specs.snapshot_writing.Whole.{IsSnapshotOf}
 use Rattle.server_core.proofs.snapshot_writing.Lemmas.{stopped_same, stops_then, written_then}

@@ -1,15 +1,14 @@
 -- What a snapshot that was written says of its order, its guids and the bytes of its files, as the laws on snapshots ask it.
-use Rattle.std.proofs.Common.{◌≡◌, ℕ, ◌<◌, ◌≤◌, ◌==◌, nat_eq, Bool, true, false, not, ◌&&◌, ◌||◌, if◌then◌else◌, List, [], ◌∷◌, ◌++◌}
+use Rattle.std.proofs.Common.{◌≡◌, ℕ, ◌==◌, nat_eq, Bool, true, false, not, ◌&&◌, ◌||◌, if◌then◌else◌, List, [], ◌∷◌}
 use Rattle.std.proofs.Common.{length, take, refl, sym, ap, subst, ◌∙◌, arith}
 use Rattle.std.proofs.lemmas.Bool.Decides.{nat_tests}
 use Rattle.std.specs.List.{list_any, AllByRecursion, IsDistinct}
 use Rattle.spec_exchange.specs.Table.{has}
 use Rattle.spec_exchange.specs.Content.{ended}
 use Rattle.spec_exchange.specs.State.{Server}
-use Rattle.spec_exchange.specs.Files.{exists_in, used}
 use Rattle.law_server.proofs.tables.Logic.{both}
 use Rattle.law_snapshots.specs.snapshots.Kept.{ListsGuids, TellsBytes, are_distinct, has_pair}
-use Rattle.law_snapshots.specs.snapshots.Pieces.{FileBytes, Patch, patched, shown}
+use Rattle.law_snapshots.specs.snapshots.Pieces.{FileBytes, patched, shown}
 use Rattle.law_snapshots.specs.snapshots.Taken.{AreParentsFirst, IsTakable, are_pairs_distinct, are_parents_first, numbered_entries}
 use Rattle.store_files.specs.file_tree.Placed.{IsPathOrder, Once}
 use Rattle.store_opens.specs.open_table.Shown.{pair_eq}

@@ -1,5 +1,5 @@
 -- Bodies that are pieces of a snapshot are read as these pieces.
-use Rattle.std.proofs.Common.{◌≡◌, Bool, true, false, ◌&&◌, ℕ, List, [], ◌∷◌, ◌++◌, refl, sym, ap, subst, ◌∙◌}
+use Rattle.std.proofs.Common.{◌≡◌, true, ◌&&◌, ℕ, List, [], ◌∷◌, ◌++◌, sym, ap, ◌∙◌}
 use Rattle.spec_exchange.specs.State.{Server}
 use Rattle.law_server.proofs.tables.Logic.{front_of, back_of}
 use Rattle.law_snapshots.specs.snapshots.Pieces.{SnapshotPiece, with_pieces}

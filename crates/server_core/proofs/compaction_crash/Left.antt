@@ -1,5 +1,5 @@
 -- What a crash while a journal is written anew leaves stands for the server, by the old bodies or by a snapshot.
-use Rattle.std.proofs.Common.{◌≡◌, inl, inr, ℕ, List, []}
+use Rattle.std.proofs.Common.{inl, inr, ℕ, List, []}
 use Rattle.spec_exchange.specs.Fold.{Configuration}
 use Rattle.spec_exchange.specs.State.{Record, Server}
 use Rattle.spec_journal.specs.Forms.{BreaksAt, StandsFor}

@@ -4,7 +4,7 @@ use Rattle.server_core.specs.crash.Left.{AgainOver, BytesStand, IsBeside, IsReco
 use Rattle.spec_exchange.specs.Fold.{Configuration}
 use Rattle.spec_exchange.specs.State.{Record, Server, ServerEvent}
 use Rattle.spec_exchange.specs.Records.{origin_at}
-use Rattle.spec_exchange.specs.Step.{connection_of, expire, step, with_deadlines}
+use Rattle.spec_exchange.specs.Step.{connection_of, step, with_deadlines}
 use Rattle.spec_journal.specs.Forms.{BreaksAt, StandsFor}
 use Rattle.law_snapshots.specs.snapshots.Pieces.{SnapshotPiece}
 use Rattle.journal_bytes.specs.record_bodies.Body.{IsBodyOf, bodies_of}

@@ -1,13 +1,13 @@
 -- What each piece of a snapshot makes of what is shown.
 use Rattle.std.proofs.Common.{◌≡◌, ℕ, ◌+◌, ◌<◌, ◌≤◌, ◌^◌, ◌==◌, nat_eq, nat_le, nat_lt, Bool, true, false, not, ◌&&◌, if◌then◌else◌, List, []}
-use Rattle.std.proofs.Common.{◌∷◌, ◌++◌, length, take, drop, get_or, zero, suc, Option, Some, None, is_some, slice_get, refl, sym, ap, subst, ◌∙◌, arith, eqb-true}
+use Rattle.std.proofs.Common.{◌∷◌, length, take, drop, get_or, zero, suc, Some, None, is_some, slice_get, refl, sym, ap, subst, ◌∙◌, arith, eqb-true}
 use Rattle.std.proofs.lemmas.Bool.Decides.{nat_tests}
 use Rattle.std.proofs.lemmas.List.{drop_more}
-use Rattle.std.specs.BTreeSet.{BTreeSet, contains}
+use Rattle.std.specs.BTreeSet.{contains}
 use Rattle.std.specs.HashMap.{get}
 use Rattle.std.specs.Ordering.{nat_cmp}
 use Rattle.spec_exchange.specs.Table.{put, put2}
-use Rattle.spec_exchange.specs.Content.{ended, is_empty, written}
+use Rattle.spec_exchange.specs.Content.{ended}
 use Rattle.spec_exchange.specs.Commands.{Basic, deletes_on_close}
 use Rattle.spec_exchange.specs.CheckOpen.{is_slot}
 use Rattle.spec_exchange.specs.Effects.{keep_slot}
@@ -23,18 +23,18 @@ use Rattle.store_opens.specs.open_table.Shown.{ShowsOpens}
 use Rattle.store_opens.specs.declared.open_table.table.Opens.{Opens}
 use Rattle.law_records.specs.fold.Order.{FilesAscend}
 use Rattle.law_server.specs.tables.Fits.{Fits}
-use Rattle.law_server.proofs.tables.Logic.{either, front_of, back_of, both, not_true}
+use Rattle.law_server.proofs.tables.Logic.{front_of, back_of, both, not_true}
 use Rattle.law_snapshots.specs.snapshots.Pieces.{SnapshotPiece, BasePiece, BytesPiece, FilePiece, GuidPiece, OpenPiece, RangePiece, SlotPiece}
-use Rattle.law_snapshots.specs.snapshots.Pieces.{has_free_guid, may_place, may_stand, place_file, placed_entry, push_range, with_piece}
+use Rattle.law_snapshots.specs.snapshots.Pieces.{has_free_guid, may_place, may_stand, place_file, placed_entry, with_piece}
 use Rattle.law_snapshots.specs.snapshots.Pieces.{with_pieces}
 use Rattle.journal_bytes.specs.piece_bytes.Meaning.{piece_of, pieces_of, row_of}
 use Rattle.journal_bytes.specs.declared.piece_bytes.value.OpenFront.{OpenFront}
 use Rattle.journal_bytes.specs.declared.piece_bytes.value.Piece.{Piece}
 use Rattle.store_opens.specs.declared.share_modes.lists.Range as held_range
 use Rattle.store_opens.specs.share_modes.Locking.{range_of}
-use Rattle.store_files.specs.file_tree.Placed.{IsOneMore, PlacedIf, is_placeable, has_free_number, has_free_path, may_be_placed, may_have_bytes, with_bytes}
+use Rattle.store_files.specs.file_tree.Placed.{IsOneMore, PlacedIf, has_free_number, has_free_path, may_be_placed, may_have_bytes, with_bytes}
 use Rattle.store_files.specs.declared.file_tree.placing.PlacedFile.{PlacedFile}
-use Rattle.store_opens.specs.open_table.Stood.{has_free_id, has_free_name, may_stand_again, may_expire_once, stood, with_range}
+use Rattle.store_opens.specs.open_table.Stood.{may_stand_again, may_expire_once, stood, with_range}
 use Rattle.law_snapshots.specs.snapshots.Taken.{has_size, is_unnumbered, may_name, takes_piece, takes_pieces}
 use Rattle.server_core.specs.durable_state.Durable.{DurableShown, TookPiece, front_parts}
 use Rattle.server_core.specs.declared.durable_state.durable.Durable.{Durable}

@@ -1,7 +1,7 @@
 -- What a start makes of a snapshot and the records behind it.
 use Rattle.std.proofs.Common.{◌≡◌, ◌⊎◌, inl, inr, ℕ, ◌+◌, ◌≤◌, ◌==◌, eqb-true, nat_lt, nat_le, Bool, true, not, ◌&&◌, if◌then◌else◌}
-use Rattle.std.proofs.Common.{List, [], ◌∷◌, ◌++◌, length, refl, arith, sym, subst, ◌∙◌, ap, Option, Some, None, slice_get, suc}
-use Rattle.spec_exchange.specs.Content.{is_empty, written}
+use Rattle.std.proofs.Common.{List, [], ◌∷◌, refl, arith, sym, subst, ◌∙◌, ap, Option, Some, None, slice_get, suc}
+use Rattle.spec_exchange.specs.Content.{written}
 use Rattle.spec_exchange.specs.Commands.{Basic, deletes_on_close}
 use Rattle.spec_exchange.specs.Table.{put}
 use Rattle.spec_exchange.specs.State.{Server, Open, Range, Record}
@@ -28,7 +28,6 @@ use Rattle.law_snapshots.specs.snapshots.Taken.{is_unnumbered, takes_piece, take
 use Rattle.server_core.specs.Over.{StandsOver, based, begun_over, found_over, opening_over, opened_over}
 use Rattle.server_core.specs.Reading.{SpellOver}
 use Rattle.server_core.proofs.SnapshotBodies.{all_taken}
-use Rattle.server_core.proofs.durable_state.Choice.{eq_on}
 use Rattle.server_core.proofs.restart_tables.OfFold.{IsOfFold, all_persistent, all_recover, no_session, of_from, of_slot, put_persistent}
 use Rattle.server_core.proofs.restart_tables.OfFold.{stays_so, version_2}
 

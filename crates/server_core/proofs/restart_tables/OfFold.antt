@@ -1,6 +1,6 @@
 -- What every fold of records has: a version of the journal, the whole room, and persistent opens alone.
 use Rattle.std.proofs.Common.{◌≡◌, ◌⊎◌, inl, inr, ℕ, ◌+◌, ◌≤◌, ◌==◌, nat_lt, nat_le, Bool, true, false, not, ◌&&◌, ◌||◌, if◌then◌else◌}
-use Rattle.std.proofs.Common.{List, [], ◌∷◌, ◌++◌, length, refl, arith, sym, subst, ◌∙◌, ap, Option, Some, None, slice_get, suc}
+use Rattle.std.proofs.Common.{List, [], ◌∷◌, ◌++◌, length, refl, arith, sym, ◌∙◌, ap, Option, Some, None, slice_get, suc}
 use Rattle.spec_exchange.specs.Table.{put, put2, has}
 use Rattle.spec_exchange.specs.Status.{success}
 use Rattle.spec_exchange.specs.Content.{written, ended, is_empty}

@@ -4,14 +4,13 @@ use Rattle.std.proofs.Common.{subst, ◌∙◌, append_assoc}
 use Rattle.spec_exchange.specs.Fold.{nothing_yet, fold_from}
 use Rattle.spec_exchange.specs.State as model
 use Rattle.spec_exchange.specs.State.{Server}
-use Rattle.spec_journal.specs.Forms.{BreaksAt, StandsFor}
+use Rattle.spec_journal.specs.Forms.{StandsFor}
 use Rattle.journal_bytes.specs.record_bytes.Grammar.{BreaksRecords, SpellsRecords}
 use Rattle.journal_bytes.specs.record_bytes.Meaning.{records_of}
 use Rattle.journal_bytes.specs.declared.record_bytes.value.Record.{Record}
 use Rattle.law_server.specs.tables.Fits.{all_sound}
 use Rattle.server_core.specs.Reading.{BodiesSpell, NoServerWrites, SpellFrom}
-use Rattle.server_core.proofs.Bodies.{fold_both, sound_back, sound_front}
-use Rattle.server_core.specs.restart_tables.Restart.{IsNoBody}
+use Rattle.server_core.proofs.Bodies.{fold_both}
 
 abbrev pub MeansOne : Type 0
 MeansOne = (bytes : List ℕ) (a b : List (List ℕ)) → StandsFor bytes a → StandsFor bytes b → a ≡ b

@@ -11,7 +11,7 @@ use Rattle.law_snapshots.specs.snapshots.Pieces.{SnapshotPiece, unfolded}
 use Rattle.law_snapshots.specs.snapshots.Taken.{takes_pieces}
 use Rattle.server_core.specs.Over.{based}
 use Rattle.server_core.specs.Reading.{SpellOver}
-use Rattle.server_core.specs.crash.Left.{BytesStand, IsRecordedOver, StartsAgain}
+use Rattle.server_core.specs.crash.Left.{IsRecordedOver, StartsAgain}
 use Rattle.server_core.proofs.SnapshotBodies.{all_taken}
 
 -- what `piece_fits_law` and `restart_over_law` say

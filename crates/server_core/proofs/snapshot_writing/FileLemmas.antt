@@ -1,5 +1,5 @@
 -- Files of a snapshot under way: one part more, one file more.
-use Rattle.std.proofs.Common.{◌≡◌, ℕ, zero, suc, ◌+◌, ◌<◌, ◌≤◌, ◌==◌, min, nat_lt, Bool, true, false, not, ◌&&◌, ◌||◌, if◌then◌else◌, List, [], ◌∷◌, ◌++◌}
+use Rattle.std.proofs.Common.{◌≡◌, ℕ, zero, suc, ◌+◌, ◌<◌, ◌≤◌, ◌==◌, nat_lt, Bool, true, false, not, ◌&&◌, ◌||◌, if◌then◌else◌, List, [], ◌∷◌, ◌++◌}
 use Rattle.std.proofs.Common.{length, take, get_or, Option, Some, None, is_some, Result, Ok, Err, OnOk, refl, sym, ap, subst, ◌∙◌, arith, append_assoc}
 use Rattle.std.proofs.lemmas.Bool.Decides.{nat_tests}
 use Rattle.std.proofs.lemmas.List.{append-nil, places}
@@ -20,7 +20,7 @@ use Rattle.store_files.specs.file_tree.Shown.{ShowsFiles, model_info, path_at}
 use Rattle.store_files.specs.file_tree.Placed.{Once}
 use Rattle.law_snapshots.specs.snapshots.Taken.{all_filled, numbered_entries}
 use Rattle.server_core.specs.snapshot_writing.Told.{IsTold}
-use Rattle.server_core.specs.snapshot_writing.Files.{PartsSoFar, PartsTold, FileTold, FilesTold, TellsFiles, ArePatchesOf, IsFrontOf, front_piece}
+use Rattle.server_core.specs.snapshot_writing.Files.{PartsSoFar, PartsTold, FileTold, FilesTold, ArePatchesOf, IsFrontOf, front_piece}
 
 pub on_ok : {T E : Type 0} (r : Result T E) (P Q : Type 0) → (P → Q) → OnOk r P → OnOk r Q
 on_ok (Ok x) P Q f h = f h
@@ -293,8 +293,8 @@ module _ {D : Type 0} (knows : Type 0) (drafted : D → List ℕ) where
             (front_piece s f ∷ bytes_pieces f one.0) ∙ ap (λ l. ps ++ l) (sym told)) one.2,
       )
 
-  pub files_begun : (disk : D) (w : RewriteState) (body : List ℕ) (s : Server) (ps : List SnapshotPiece) → IsTold knows drafted disk w body ps
-      → FilesTold knows drafted disk w body s [] ps
+  pub files_begun : (disk : D) (w : RewriteState) (body : List ℕ) (s : Server) (ps : List SnapshotPiece)
+      → IsTold knows drafted disk w body ps → FilesTold knows drafted disk w body s [] ps
   unfolding file_pieces numbered_entries
   files_begun disk w body s ps h = (
     λ f. record { stored = 0; patches = [] },

@@ -1,6 +1,6 @@
 -- A snapshot under way: one piece more, one body more, one step more.
-use Rattle.std.proofs.Common.{◌≡◌, ◌⊎◌, inl, inr, ℕ, ◌<◌, ◌≤◌, List, [], ◌∷◌, ◌++◌}
-use Rattle.std.proofs.Common.{length, Some, None, Result, Ok, Err, IsOk, OnOk, refl, sym, ap, subst}
+use Rattle.std.proofs.Common.{◌≡◌, ◌⊎◌, inl, inr, ℕ, ◌<◌, List, [], ◌∷◌, ◌++◌}
+use Rattle.std.proofs.Common.{length, Some, Result, Ok, Err, IsOk, OnOk, refl, sym, ap, subst}
 use Rattle.std.proofs.Common.{◌∙◌, arith, append_assoc}
 use Rattle.std.proofs.lemmas.List.{append-nil}
 use Rattle.std.proofs.lemmas.List.Elements.{All-push, All-nil}
@@ -10,7 +10,7 @@ use Rattle.base_outside.specs.declared.streams.room.DiskStep.{DiskStep}
 use Rattle.base_outside.specs.declared.streams.room.DiskStep.TheVariants.{Done, NoRoom}
 use Rattle.journal.specs.declared.disk_journal.journal.JournalError.{JournalError}
 use Rattle.journal.specs.declared.disk_journal.journal.JournalError.TheVariants as errors
-use Rattle.spec_wire.specs.journal.Moments.{LeavesOnly, Quiet}
+use Rattle.spec_wire.specs.journal.Moments.{Quiet}
 use Rattle.law_wire.proofs.messages.Rows.{with_fields-append}
 use Rattle.law_snapshots.specs.snapshots.Pieces.{SnapshotPiece}
 use Rattle.journal.specs.disk_journal.Journal.{JournalState}
@@ -28,8 +28,8 @@ spelling_more [] p = append-nil (piece_spelling p)
 spelling_more (q ∷ qs) p = ap (λ (l : List ℕ). piece_spelling q ++ l) (spelling_more qs p)
     ∙ sym (append_assoc (piece_spelling q) (pieces_spelling qs) (piece_spelling p))
 
-pub told_more : {D : Type 0} (knows : Type 0) (drafted : D → List ℕ) (disk : D) (w : RewriteState) (old new : List ℕ) (ps : List SnapshotPiece)
-    (p : SnapshotPiece) → IsPut old p new → IsTold knows drafted disk w old ps → IsTold knows drafted disk w new (ps ++ p ∷ [])
+pub told_more : {D : Type 0} (knows : Type 0) (drafted : D → List ℕ) (disk : D) (w : RewriteState) (old new : List ℕ)
+    (ps : List SnapshotPiece) (p : SnapshotPiece) → IsPut old p new → IsTold knows drafted disk w old ps → IsTold knows drafted disk w new (ps ++ p ∷ [])
 told_more knows drafted disk w old new ps p put h = record {
   bodies = h.bodies;
   front = h.front;
@@ -59,7 +59,8 @@ filled_body : (b : List ℕ) (ps : List SnapshotPiece) → 0 < length b → b �
 filled_body b [] l e h = absurd (let x = ap length e in omega (arith, x, l))
 filled_body b (p ∷ ps) l e h = h
 
-pub told_put : {D : Type 0} (knows : Type 0) (drafted : D → List ℕ) (disk disk2 : D) (w v : RewriteState) (body : List ℕ) (ps : List SnapshotPiece)
+pub told_put : {D : Type 0} (knows : Type 0) (drafted : D → List ℕ) (disk disk2 : D) (w v : RewriteState) (body : List ℕ)
+    (ps : List SnapshotPiece)
     → ((qs : List SnapshotPiece) → AreWritablePieces qs → SpellsPieces (pieces_spelling qs) qs)
     → (knows → (bodies : List (List ℕ)) → IsDrafted drafted disk w bodies → IsDrafted drafted disk2 v (bodies ++ body ∷ []))
     → 0 < length body → IsTold knows drafted disk w body ps → IsTold knows drafted disk2 v [] ps

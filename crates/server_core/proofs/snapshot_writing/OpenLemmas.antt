@@ -1,12 +1,10 @@
 -- Opens, ranges and guids of a snapshot under way: one more of each.
-use Rattle.std.proofs.Common.{◌≡◌, ℕ, zero, suc, ◌+◌, ◌-◌, ◌<◌, ◌≤◌, ◌==◌, Bool, true, false, ◌&&◌, if◌then◌else◌, List, [], ◌∷◌, ◌++◌, length, map, take}
+use Rattle.std.proofs.Common.{◌≡◌, ℕ, zero, suc, ◌+◌, ◌-◌, ◌<◌, Bool, true, false, ◌&&◌, if◌then◌else◌, List, [], ◌∷◌, ◌++◌, length, map, take}
 use Rattle.std.proofs.Common.{get_or, Option, Some, None, refl, sym, ap, subst, ◌∙◌, arith, append_assoc}
-use Rattle.std.proofs.lemmas.Bool.Decides.{nat_tests}
 use Rattle.std.proofs.lemmas.List.{append-nil, take_more}
 use Rattle.spec_exchange.specs.State as model
 use Rattle.spec_exchange.specs.State.{Server, Entry, Kept, Range}
 use Rattle.spec_exchange.specs.Fold.{stays, ranges_that_stay}
-use Rattle.spec_exchange.specs.Files.{path_of}
 use Rattle.law_snapshots.specs.snapshots.Pieces.{SnapshotPiece, OpenPiece, SlotPiece, RangePiece, GuidPiece, slot_piece, slot_pieces, open_pieces}
 use Rattle.law_snapshots.specs.snapshots.Pieces.{range_pieces, all_range_pieces, guid_pieces}
 use Rattle.journal.specs.disk_journal.Rewrite.{RewriteState}
@@ -15,9 +13,7 @@ use Rattle.journal_bytes.specs.piece_bytes.Meaning.{row_of}
 use Rattle.store_opens.specs.declared.share_modes.lists.Range as held
 use Rattle.store_opens.specs.share_modes.Locking.{range_of}
 use Rattle.store_opens.specs.declared.open_table.row.Row.{Row}
-use Rattle.store_opens.specs.declared.open_table.table.Opens.{Opens}
-use Rattle.store_opens.specs.open_table.Rows.{OpenRowShown, OpenRowFound, open_of}
-use Rattle.store_opens.specs.open_table.Shown.{ShowsOpens}
+use Rattle.store_opens.specs.open_table.Rows.{OpenRowFound, open_of}
 use Rattle.law_snapshots.specs.snapshots.Taken.{numbered_entries}
 use Rattle.server_core.specs.snapshot_writing.Told.{IsTold}
 

@@ -22,8 +22,8 @@ use Rattle.server_core.specs.declared.journaled_tables.state.ServerState.{Server
 
 -- ---- a server
 
--- It was done: the state is as before but for the bytes that the journal uses, and a snapshot stands for it, without records behind it. Or it
--- was given up, and all goes on as before; or the disk failed, now or before.
+-- It was done: the state is as before but for the bytes that the journal uses, and a snapshot stands for it, without records behind it.
+-- Or it was given up, and all goes on as before; or the disk failed, now or before.
 abbrev pub Compacts : {D : Type 0} → Type 0 → (D → List ℕ) → (D → List ℕ → Type 0) → (D → ℕ) → List SnapshotPiece → ServerState D
     → ServerState D → model.Server → Logons → List model.Record → Result Bool EventError → Type 0
 Compacts told seen may_leave faults base old new s L records (Ok true) = (old.stopped ≡ None) × (new.stopped ≡ None)

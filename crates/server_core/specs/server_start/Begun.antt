@@ -1,5 +1,5 @@
 -- A server that begins on the disk that an earlier one left.
-use Rattle.std.specs.Prelude.{◌≡◌, ℕ, ◌+◌, List, ◌++◌, length, None}
+use Rattle.std.specs.Prelude.{◌≡◌, ℕ, ◌+◌, List, length, None}
 use Rattle.spec_exchange.specs.State as model
 use Rattle.spec_wire.specs.journal.Grammar.{front}
 use Rattle.spec_journal.specs.Forms.{StandsFor}

@@ -1,10 +1,10 @@
 -- Files of a snapshot under way, with their bytes part by part.
-use Rattle.std.specs.Prelude.{◌≡◌, ℕ, ◌∷◌, ◌++◌, [], List, length, true, ⊤}
-use Rattle.spec_exchange.specs.Table.{has, put}
+use Rattle.std.specs.Prelude.{◌≡◌, ℕ, ◌∷◌, ◌++◌, [], List, length, true}
+use Rattle.spec_exchange.specs.Table.{has}
 use Rattle.spec_exchange.specs.Content.{ended}
-use Rattle.spec_exchange.specs.State.{Server, Entry}
+use Rattle.spec_exchange.specs.State.{Server}
 use Rattle.spec_exchange.specs.Files.{exists_in, path_of}
-use Rattle.law_snapshots.specs.snapshots.Pieces.{SnapshotPiece, FilePiece, Patch, FileBytes, patched, shown, bytes_pieces, file_pieces}
+use Rattle.law_snapshots.specs.snapshots.Pieces.{SnapshotPiece, FilePiece, Patch, FileBytes, patched, bytes_pieces, file_pieces}
 use Rattle.law_snapshots.specs.snapshots.Taken.{all_filled, numbered_entries}
 use Rattle.journal.specs.disk_journal.Rewrite.{RewriteState}
 use Rattle.journal_bytes.specs.declared.piece_bytes.value.FileFront.{FileFront}

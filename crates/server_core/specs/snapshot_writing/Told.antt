@@ -23,7 +23,8 @@ AreBodiesOf [] ps = ps ≡ []
 AreBodiesOf (b ∷ bs) ps = (front : List SnapshotPiece) × (rest : List SnapshotPiece) × (ps ≡ front ++ rest) × IsPieceBody b front
     × AreBodiesOf bs rest
 
-pub record IsTold {D : Type 0} (told : Type 0) (drafted : D → List ℕ) (disk : D) (rewrite : RewriteState) (body : List ℕ) (ps : List SnapshotPiece) : Type 0 where
+pub record IsTold {D : Type 0} (told : Type 0) (drafted : D → List ℕ) (disk : D) (rewrite : RewriteState) (body : List ℕ)
+    (ps : List SnapshotPiece) : Type 0 where
   pub bodies : List (List ℕ)
   pub front : List SnapshotPiece
   pub last : List SnapshotPiece

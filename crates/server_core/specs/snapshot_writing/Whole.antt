@@ -1,8 +1,8 @@
 -- A snapshot that stands whole in a draft.
-use Rattle.std.specs.Prelude.{◌≡◌, ◌<◌, ◌≤◌, ℕ, ◌∷◌, ◌++◌, List, length}
+use Rattle.std.specs.Prelude.{◌<◌, ◌≤◌, ℕ, ◌∷◌, ◌++◌, List, length}
 use Rattle.spec_exchange.specs.State.{Server}
 use Rattle.spec_exchange.specs.Files.{root}
-use Rattle.spec_exchange.specs.Fold.{persistent_in, ranges_that_stay}
+use Rattle.spec_exchange.specs.Fold.{ranges_that_stay}
 use Rattle.law_snapshots.specs.snapshots.Pieces.{SnapshotPiece, FileBytes, base_piece, file_pieces, open_pieces, range_pieces}
 use Rattle.law_snapshots.specs.snapshots.Pieces.{all_range_pieces, guid_pieces}
 use Rattle.journal.specs.disk_journal.Rewrite.{RewriteState, IsDrafted}
@@ -41,7 +41,8 @@ pub record IsSnapshotOf (s : Server) (bodies : List (List ℕ)) : Type 0 where
   pub few : length guids ≤ 65536
 
 -- they stand in the draft
-pub record IsWholeSnapshot {D : Type 0} (told : Type 0) (drafted : D → List ℕ) (disk : D) (rewrite : RewriteState) (s : Server) : Type 0 where
+pub record IsWholeSnapshot {D : Type 0} (told : Type 0) (drafted : D → List ℕ) (disk : D) (rewrite : RewriteState)
+    (s : Server) : Type 0 where
   pub bodies : List (List ℕ)
   pub draft : told → IsDrafted drafted disk rewrite bodies
   pub snapshot : IsSnapshotOf s bodies

@@ -7,7 +7,8 @@ use Rattle.server_core.proofs.compaction.rewriting.rewrite_journal.Goals as goal
 pub returns-in-Ok-Some-clause-any_moment : goal.returns-in-Ok-Some-clause-any_moment
 returns-in-Ok-Some-clause-any_moment g c = λ told s bodies fits files opens version settled.
     quiet_first g.D.Disk.told g.D.Disk.seen g.D.Disk.may_leave g.D.Disk.moment g.D.Disk.left_since _ _ _ (RewriteLeaves s bodies)
-    (λ x left. inl (stands g.D.Disk.told g.D.Disk.seen g.D.Disk.may_leave g.D.Disk.moment g.D.Disk.left_since c.args.journal.now bodies settled x left))
+    (λ x left. inl (stands g.D.Disk.told g.D.Disk.seen g.D.Disk.may_leave g.D.Disk.moment g.D.Disk.left_since c.args.journal.now bodies
+    settled x left))
     c.begin_rewrite.ensures.quiet
     (c.write_and_adopt.ensures.any_moment told s bodies fits files opens version
     (λ k. subst (λ o. MatchOption o (Unit {0}) (λ w. IsDrafted g.D.Renewal.drafted c.begin_rewrite.new.self.disk w []))

@@ -8,7 +8,8 @@ pub returns-in-Ok-clause-any_moment : goal.returns-in-Ok-clause-any_moment
 returns-in-Ok-clause-any_moment g c = λ told s bodies fits files opens version begun settled.
     let w = c.in-Ok.ensures.goes in
     quiet_first g.D.Disk.told g.D.Disk.seen g.D.Disk.may_leave g.D.Disk.moment g.D.Disk.left_since _ _ _ (RewriteLeaves s bodies)
-    (λ x left. inl (stands g.D.Disk.told g.D.Disk.seen g.D.Disk.may_leave g.D.Disk.moment g.D.Disk.left_since c.args.journal.now bodies settled x left))
+    (λ x left. inl (stands g.D.Disk.told g.D.Disk.seen g.D.Disk.may_leave g.D.Disk.moment g.D.Disk.left_since c.args.journal.now bodies
+    settled x left))
     w.quiet
     (c.adopt_draft.ensures.any_moment told s bodies (c.in-Ok.ensures.whole s fits files opens version begun)
     (settled_on g.D.Disk.told g.D.Disk.seen g.D.Disk.may_leave g.D.Disk.moment g.D.Disk.left_since told g.D.Disk.faults _ _ bodies settled

@@ -1,6 +1,6 @@
 use Rattle.std.proofs.Common.{◌≡◌, List, ℕ, true, length, refl, sym, ap, subst, ◌∙◌}
 use Rattle.spec_exchange.specs.State as model
-use Rattle.spec_exchange.specs.Step.{Ruling, carried_out, event_answer, step, with_deadlines}
+use Rattle.spec_exchange.specs.Step.{Ruling, carried_out, event_answer, with_deadlines}
 use Rattle.server_core.proofs.journaled_tables.Behind.{held, held_still, settled_still}
 use Rattle.server_checks.specs.event_heard.Heard.{event_of, heard_event}
 use Rattle.journal_bytes.specs.record_bodies.Body.{IsBodyOf, fits_by}

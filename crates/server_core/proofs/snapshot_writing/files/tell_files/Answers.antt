@@ -1,4 +1,4 @@
-use Rattle.std.proofs.Common.{◌≡◌, get_or, take, sym, subst, arith}
+use Rattle.std.proofs.Common.{get_or, take, sym, subst, arith}
 use Rattle.std.proofs.lemmas.List.{take_more, take_all}
 use Rattle.server_core.specs.snapshot_writing.Files.{FilesTold}
 use Rattle.server_core.proofs.snapshot_writing.Lemmas.{goes_same, goes_then}

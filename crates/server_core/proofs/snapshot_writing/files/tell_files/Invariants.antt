@@ -1,4 +1,4 @@
-use Rattle.std.proofs.Common.{◌≡◌, List, Ok, take}
+use Rattle.std.proofs.Common.{List, Ok, take}
 use Rattle.spec_exchange.specs.State.{Server}
 use Rattle.law_snapshots.specs.snapshots.Pieces.{SnapshotPiece}
 use Rattle.store_files.specs.file_tree.Shown.{ShowsFiles}

@@ -1,4 +1,4 @@
-use Rattle.std.proofs.Common.{◌≡◌, ◌++◌, ◌∷◌, [], sym, ap, subst}
+use Rattle.std.proofs.Common.{◌++◌, ◌∷◌, [], subst}
 use Rattle.server_core.specs.snapshot_writing.Told.{IsTold}
 use Rattle.server_core.proofs.snapshot_writing.Lemmas.{goes_given_up}
 use Rattle.server_core.proofs.snapshot_writing.FileLemmas.{on_ok, piece_is, there, text_is}

@@ -1,4 +1,4 @@
-use Rattle.std.proofs.Common.{◌≡◌, ◌+◌, length, arith}
+use Rattle.std.proofs.Common.{arith}
 use Rattle.server_core.proofs.snapshot_writing.Lemmas.{goes_same, goes_then}
 use Rattle.server_core.proofs.snapshot_writing.FileLemmas.{parts_begun, parts_on, parts_end, all_up_to, there}
 use Rattle.server_core.proofs.snapshot_writing.files.tell_parts.Goals as goal

@@ -1,4 +1,4 @@
-use Rattle.std.proofs.Common.{◌≡◌, ◌++◌, ◌∷◌, [], true, refl, sym, ap, subst, ◌∙◌}
+use Rattle.std.proofs.Common.{◌++◌, ◌∷◌, [], refl, sym, ap, subst, ◌∙◌}
 use Rattle.spec_exchange.specs.State as model
 use Rattle.law_snapshots.specs.snapshots.Pieces.{OpenPiece, slot_pieces}
 use Rattle.server_core.specs.snapshot_writing.Told.{IsTold}

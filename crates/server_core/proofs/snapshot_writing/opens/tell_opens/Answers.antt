@@ -1,4 +1,4 @@
-use Rattle.std.proofs.Common.{◌++◌, get_or, take, sym, ap, subst, ◌∙◌, arith}
+use Rattle.std.proofs.Common.{get_or, take, ap, ◌∙◌, arith}
 use Rattle.std.proofs.lemmas.List.{take_more, take_all}
 use Rattle.law_snapshots.specs.snapshots.Pieces.{open_pieces}
 use Rattle.server_core.proofs.snapshot_writing.Lemmas.{goes_same, goes_then}

@@ -1,4 +1,4 @@
-use Rattle.std.proofs.Common.{◌++◌, ◌∷◌, [], refl, sym, subst}
+use Rattle.std.proofs.Common.{◌++◌, ◌∷◌, [], refl, subst}
 use Rattle.spec_exchange.specs.State as model
 use Rattle.law_snapshots.specs.snapshots.Pieces.{OpenPiece}
 use Rattle.server_core.specs.snapshot_writing.Told.{IsTold}

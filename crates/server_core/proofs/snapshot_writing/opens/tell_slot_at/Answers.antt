@@ -1,6 +1,4 @@
-use Rattle.std.proofs.Common.{◌≡◌, ◌++◌, Some, refl, sym, subst}
-use Rattle.law_snapshots.specs.snapshots.Pieces.{slot_piece}
-use Rattle.server_core.specs.snapshot_writing.Told.{IsTold}
+use Rattle.std.proofs.Common.{sym}
 use Rattle.server_core.proofs.snapshot_writing.Lemmas.{goes_same}
 use Rattle.server_core.proofs.snapshot_writing.FileLemmas.{on_ok}
 use Rattle.server_core.proofs.snapshot_writing.OpenLemmas.{told_none, told_same, slot_none, slot_some}

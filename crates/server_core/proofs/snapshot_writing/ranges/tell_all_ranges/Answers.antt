@@ -1,4 +1,4 @@
-use Rattle.std.proofs.Common.{◌++◌, get_or, take, sym, ap, subst, ◌∙◌, arith}
+use Rattle.std.proofs.Common.{get_or, take, ap, ◌∙◌, arith}
 use Rattle.std.proofs.lemmas.List.{take_more, take_all}
 use Rattle.law_snapshots.specs.snapshots.Pieces.{all_range_pieces}
 use Rattle.law_snapshots.specs.snapshots.Taken.{numbered_entries}

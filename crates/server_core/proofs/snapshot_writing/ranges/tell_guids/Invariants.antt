@@ -1,7 +1,5 @@
 use Rattle.std.proofs.Common.{◌++◌, List, Ok, take}
-use Rattle.spec_exchange.specs.State.{Server}
 use Rattle.law_snapshots.specs.snapshots.Pieces.{SnapshotPiece, guid_pieces}
-use Rattle.store_opens.specs.open_table.Shown.{ShowsOpens}
 use Rattle.server_core.specs.snapshot_writing.Told.{IsTold, DraftGoesOn}
 use Rattle.server_core.proofs.snapshot_writing.ranges.tell_guids.Given as goal
 

@@ -1,6 +1,6 @@
 use Rattle.std.proofs.Common.{sym, ◌∙◌, ap, ◌∷◌, []}
 use Rattle.spec_exchange.specs.State as model
-use Rattle.law_snapshots.specs.snapshots.Pieces.{RangePiece, SnapshotPiece}
+use Rattle.law_snapshots.specs.snapshots.Pieces.{RangePiece}
 use Rattle.store_opens.specs.share_modes.Locking.{range_of}
 use Rattle.server_core.proofs.snapshot_writing.Lemmas.{goes_same}
 use Rattle.server_core.proofs.snapshot_writing.FileLemmas.{on_ok}

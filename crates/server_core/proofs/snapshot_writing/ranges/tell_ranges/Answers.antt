@@ -1,11 +1,10 @@
-use Rattle.std.proofs.Common.{◌++◌, ◌∷◌, [], get_or, take, map, sym, ap, subst, ◌∙◌, arith}
-use Rattle.std.proofs.lemmas.List.{take_more, take_all}
-use Rattle.spec_exchange.specs.State as model
+use Rattle.std.proofs.Common.{map, ap, ◌∙◌, arith}
+use Rattle.std.proofs.lemmas.List.{take_all}
 use Rattle.spec_exchange.specs.Fold.{ranges_that_stay}
 use Rattle.law_snapshots.specs.snapshots.Pieces.{range_pieces}
 use Rattle.store_opens.specs.share_modes.Locking.{range_of}
 use Rattle.server_core.proofs.snapshot_writing.Lemmas.{goes_same, goes_then}
-use Rattle.server_core.proofs.snapshot_writing.OpenLemmas.{told_joined, told_same, told_none, no_ranges, range_end, map_taken}
+use Rattle.server_core.proofs.snapshot_writing.OpenLemmas.{told_joined, told_same, told_none, no_ranges, map_taken}
 use Rattle.server_core.proofs.snapshot_writing.ranges.tell_ranges.Goals as goal
 
 pub loop-range-init : goal.loop-range-init

@@ -1,4 +1,4 @@
-use Rattle.std.proofs.Common.{◌++◌, ◌∷◌, [], sym, subst}
+use Rattle.std.proofs.Common.{◌++◌, ◌∷◌, [], subst}
 use Rattle.server_core.specs.snapshot_writing.Told.{IsTold}
 use Rattle.server_core.proofs.snapshot_writing.FileLemmas.{on_ok}
 use Rattle.server_core.proofs.snapshot_writing.WholeLemmas.{base_is, root_there}

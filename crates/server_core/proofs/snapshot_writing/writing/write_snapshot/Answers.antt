@@ -1,4 +1,4 @@
-use Rattle.std.proofs.Common.{◌≡◌, ◌≤◌, IfSome, arith, length, sym, subst, ◌∙◌}
+use Rattle.std.proofs.Common.{◌≤◌, IfSome, arith, length, sym, subst, ◌∙◌}
 use Rattle.spec_exchange.specs.State.{Server}
 use Rattle.store_files.specs.file_tree.Placed.{IsPathOrder}
 use Rattle.store_opens.specs.open_table.Shown.{ShowsOpens}

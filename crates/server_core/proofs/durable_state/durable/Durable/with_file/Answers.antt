@@ -1,4 +1,4 @@
-use Rattle.std.proofs.Common.{◌≡◌, ℕ, Bool, sym, subst}
+use Rattle.std.proofs.Common.{ℕ, Bool, sym, subst}
 use Rattle.std.specs.Prelude.{IfOk}
 use Rattle.law_snapshots.specs.snapshots.Pieces.{FilePiece}
 use Rattle.server_core.specs.durable_state.Durable.{TookPiece}

@@ -1,4 +1,4 @@
-use Rattle.std.proofs.Common.{◌≡◌, ◌≤◌, Bool, length, sym, subst, ◌∙◌, arith}
+use Rattle.std.proofs.Common.{◌≤◌, Bool, length, sym, subst, arith}
 use Rattle.journal_bytes.specs.piece_bytes.Meaning.{piece_of}
 use Rattle.server_core.specs.durable_state.Durable.{TookPiece}
 use Rattle.server_core.proofs.durable_state.ByPiece.{takes_first, took_all, took_next, took_no_more}
