@@ -1,5 +1,5 @@
 -- Nothing else is told of links where none is being served any more.
-use Rattle.std.proofs.Common.{ℕ, List, [], Option, ◌⊎◌, inl, ⊎_elim}
+use Rattle.std.proofs.Common.{ℕ, List, [], Option, inl, ⊎_elim}
 use Rattle.serve_turns.specs.declared.shared_book.view.View.{View}
 use Rattle.serve_turns.specs.shared_book.Numbers.{IsOneOf, numbers_of}
 use Rattle.serve_turns.specs.link_serving.Serving.{AreAllServed, AreServed, IsAmong}

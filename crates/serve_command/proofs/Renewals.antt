@@ -1,6 +1,6 @@
 -- What a server shows behind a look at its journal.
 use Rattle.std.proofs.Common.{◌≡◌, ◌⊎◌, inl, inr, ℕ, ◌<◌, ◌≤◌, Bool, true, false, List, Option, Some, None, Result, Ok, Err, ap, ◌∙◌}
-use Rattle.std.proofs.Common.{is_some, refl, subst, sym, IfOk}
+use Rattle.std.proofs.Common.{is_some, subst, sym, IfOk}
 use Rattle.std.proofs.lemmas.Bool.{cases_lt}
 use Rattle.spec_crypto.specs.tokens.Tokens.{Users}
 use Rattle.spec_exchange.specs.State as model

@@ -8,7 +8,6 @@ use Rattle.law_snapshots.specs.snapshots.Pieces.{SnapshotPiece}
 use Rattle.server_core.specs.Over.{opened_over}
 use Rattle.spec_exchange.specs.State as model
 use Rattle.spec_world.specs.Ends.{Logons, no_logons}
-use Rattle.std.proofs.Common.{◌++◌}
 use Rattle.server_checks.specs.declared.tables.Config.{Config}
 use Rattle.server_core.specs.journaled_tables.Holds.{JournaledStands}
 use Rattle.server_core.specs.server_start.Begun.{ServerBegins}

@@ -2,7 +2,6 @@
 use Rattle.std.specs.Prelude.{◌≡◌, ℕ, ◌+◌, ◌%◌, ◌^◌, ◌≤◌, ◌<◌, List, length, Option, None, Some, slice_get, get_or}
 use Rattle.law_records.specs.recovery.Restarted.{Bare}
 use Rattle.spec_exchange.specs.State as model
-use Rattle.std.specs.Prelude.{◌++◌}
 use Rattle.base_outside.specs.streams.Faults.{Rose}
 use Rattle.spec_journal.specs.Forms.{StandsFor}
 use Rattle.spec_world.specs.Answering.{Seal}

@@ -1,4 +1,3 @@
-use Rattle.std.proofs.Common.{◌∙◌}
 use Rattle.serve_command.proofs.Renewals.{marked}
 use Rattle.serve_command.proofs.lasting_book.book.LastingBook.write_anew.Goals as goal
 
