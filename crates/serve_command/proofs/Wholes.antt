@@ -82,12 +82,13 @@ module _ {D : Type 0} (told : Type 0) (seen : D → List ℕ) (may_leave : D →
 
   pub disk_stands : (server : Server D) (base : List SnapshotPiece) (s : model.Server) (records : List model.Record) (bodies : List (List ℕ))
       → JournaledStands seen may_leave base (journal_of server) s records bodies
-      → DiskStands told seen may_leave (disk_of server) base records
+      → DiskStands told seen may_leave (disk_of server) base s records
   disk_stands server base s records bodies j =
       let f = j.settled in
       record {
         bodies = bodies;
         spelled = j.spelled;
+        for_state = j.for_state;
         stands = inr (record { form = (journal_of server).form; gate = f.gate; rest = f.rest; spelled = f.file; closed = f.closed; fit = f.fit });
         stays = λ bytes left. inr (record {
           form = (journal_of server).form;

@@ -38,8 +38,8 @@ pub record IsOfWhole (z : ServerSettings) (h : Course) (k now : ℕ) (fresh : Li
   pub behind : FindsBehind h place turns step
 
 -- It is so of each frame that its check lets pass and that was taken, not of one that ended for memory, whose turns stand in a row from a
--- place where the server went on and that the journal wasn't written anew between, if its connection has random bytes left for as many SESSION_SETUPs as the frame has messages: from the
--- state on that this place found, or whatever a frame without turns may begin at.
+-- place where the server went on, with the journal written anew in front of none of them, if its connection has random bytes left for as
+-- many SESSION_SETUPs as the frame has messages: from the state on that this place found, or whatever a frame without turns may begin at.
 abbrev pub AloneFrames : Type 0
 AloneFrames = (z : ServerSettings) (h : Course) (k : ℕ) (f : ServerEnd) (before : ℕ) (frame : List ℕ) (turns : List Placed) (G : GivenStep)
     (t : TakesFrame z h k f before frame turns G) (x : Frame) (place : ℕ) (s : Stand) → AllAsFound z h turns → check_frame f frame ≡ Ok x

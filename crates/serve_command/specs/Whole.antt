@@ -10,7 +10,7 @@ use Rattle.spec_world.specs.Settings.{ServerSettings}
 use Rattle.spec_world.specs.Statements.{IsOneNonce}
 use Rattle.server_checks.specs.declared.tables.Config.{Config}
 use Rattle.law_snapshots.specs.snapshots.Pieces.{SnapshotPiece}
-use Rattle.server_core.specs.Over.{begun_over, opened_over}
+use Rattle.server_core.specs.Over.{StandsOver, begun_over, opened_over}
 use Rattle.server_core.specs.Reading.{SpellOver}
 use Rattle.server_core.specs.restart_tables.Restart.{configuration_of}
 use Rattle.server_core.specs.declared.server.Server.{Server}
@@ -120,30 +120,33 @@ module _ {D : Type 0} (told : Type 0) (seen : D → List ℕ) (may_leave : D →
 
   -- ---- the disk
 
-  -- its bytes stand for a snapshot, the base, and these records behind it, and so does whatever a crash may leave of them
-  pub record DiskStands (disk : D) (base : List SnapshotPiece) (records : List model.Record) : Type 0 where
+  -- its bytes stand for a snapshot, the base, and these records behind it, and so does whatever a crash may leave of them; and these for
+  -- the state
+  pub record DiskStands (disk : D) (base : List SnapshotPiece) (s : model.Server) (records : List model.Record) : Type 0 where
     pub bodies : List (List ℕ)
     pub spelled : SpellOver base bodies records
+    pub for_state : StandsOver base records s
     pub stands : StandsFor (seen disk) bodies
     pub stays : (bytes : List ℕ) → may_leave disk bytes → StandsFor bytes bodies
 
-  -- A server that goes on shows what its place found, and its disk, where it tells its bytes, stands for the records of all events up to
-  -- there: a reply that stands in the history stands on the disk.
+  -- A server that goes on shows what its place found, and its disk, where it tells its bytes, stands for that, by a snapshot and the records
+  -- of all events since it was written: a reply that stands in the history stands on the disk.
   pub record OnDisk (book : ServerBook D) (s : Stand) : Type 0 where
     pub base : List SnapshotPiece
     pub holds : HoldsServerOver told seen may_leave base book.server.disk_book.book.server s.server s.logons s.records
     pub goes_on : stopped_of book.server.disk_book.book.server ≡ None
-    pub disk : told → DiskStands (disk_of book.server.disk_book.book.server) base s.records
+    pub disk : told → DiskStands (disk_of book.server.disk_book.book.server) base s.server s.records
 
 module _ {D : Type 0} (told : Type 0) (seen : D → List ℕ) (may_leave : D → List ℕ → Type 0) (faults : D → ℕ) where
   -- a server stops at its disk's own count of faults
   abbrev pub OnDiskAt : ServerBook D → Standing → Type 0
   OnDiskAt book (On s) = OnDisk told seen may_leave book s
-  OnDiskAt book (Off count) = (stopped_of book.server.disk_book.book.server ≡ Some count) × (count ≡ faults (disk_of book.server.disk_book.book.server))
+  OnDiskAt book (Off count) = (stopped_of book.server.disk_book.book.server ≡ Some count)
+      × (count ≡ faults (disk_of book.server.disk_book.book.server))
 
   -- The server at each place of the history, from the one that began to the one that was there in the end. Each step is the event's at its
-  -- place, with its reply. At each place where the server goes on its disk, if it tells its bytes, stands for the records up to there; at
-  -- each behind a stop its count of faults is the one told. The server stops in an event in which that count rose.
+  -- place, with its reply, and what came in front of it. At each place where the server goes on its disk, if it tells its bytes, stands for
+  -- what it found; at each behind a stop its count of faults is the one told. The server stops in a turn in which that count rose.
   pub record IsOnDisk (opening : ServerBook D) (log : List (Entry Turn Answer)) (h : Course) (last : ServerBook D) : Type 0 where
     pub books : ℕ → ServerBook D
     pub begins : books 0 ≡ opening
@@ -165,7 +168,7 @@ module _ {D : Type 0} (told : Type 0) (seen : D → List ℕ) (may_leave : D →
   -- connection's turns are its seat's entries, and what it wrote are the answers to what came, and that is all that passed over the link of
   -- its number; no entry is anybody else's; there are as many connections as links, each of one of the links; links, seats and numbers are
   -- each one connection's own; of which it is told how they ended, they ended so; at each place where the server goes on its disk, if it
-  -- tells its bytes, stands for the records; a server that stopped is told by its disk's count of faults; and no nonce came twice.
+  -- tells its bytes, stands for what it found; a server that stopped is told by its disk's count of faults; and no nonce came twice.
   pub record WasServedWhole (over : ℕ → Passage → Type 0) (count : ℕ) (opening : ServerBook D) (from : Stand) (ends : List (Option Ended))
       (last : ServerBook D)
       : Type 0 where

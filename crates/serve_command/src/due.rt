@@ -13,11 +13,12 @@ ghost use Rattle.serve_command.specs.Whole.{DiskStands};
 
 use base_outside::{Renewal, TellsRoom};
 
-/// What is told before an answer goes out, at every moment, also of a server that never returns: the disk stands for the records of all events
-/// that the answer tells of, and a crash leaves them.
+/// What is told before an answer goes out, at every moment, also of a server that never returns: the disk stands for the state behind all
+/// events that the answer tells of, by a snapshot and the records of the events since it was written, and a crash leaves them.
 pub fn due_law<D: Renewal + TellsRoom>()
     ensures on_disk { D.told → (z : ServerSettings) (k seat : ℕ) (opening : ServerBook D) (from : Stand) (came wrote answer : List ℕ)
         (due : AnswerIsDue (server_shows D.told D.seen D.may_leave) server_stopped (server_faults D.faults) z k seat opening from came wrote
         answer)
-        → (base : List SnapshotPiece) × DiskStands D.told D.seen D.may_leave (disk_of due.last.server.disk_book.book.server) base due.stand.records }
+        → (base : List SnapshotPiece)
+        × DiskStands D.told D.seen D.may_leave (disk_of due.last.server.disk_book.book.server) base due.stand.server due.stand.records }
 {}

@@ -72,8 +72,8 @@ module _ {S : Type 0} (shows : S → Users → model.Server → Logons → List 
       }
 
   -- the event itself
-  settles_from : (from : Standing) (b c : EventBook S) (e : Entry Turn Answer) → EventStepsFor shows stopped faults e.event.what b e.event e.reply c
-      → ShowsStanding shows stopped faults z.users b from
+  settles_from : (from : Standing) (b c : EventBook S) (e : Entry Turn Answer)
+      → EventStepsFor shows stopped faults e.event.what b e.event e.reply c → ShowsStanding shows stopped faults z.users b from
       → Settles (ShowsStanding shows stopped faults z.users c) (λ to g. MeetsFrom z from e g to)
   settles_from (On old) b c e steps stands = on_by old b c e.event e.reply e.event.what steps stands
   settles_from (Off count) b c e steps stands =

@@ -22,9 +22,9 @@ use Rattle.serve_turns.specs.event_book.History.{AllMeet, Course, On, Placed, Ru
 use Rattle.serve_turns.specs.event_book.Steps.{EventSteps, GoesOn}
 use Rattle.serve_turns.specs.shared_book.Histories.{Replays, entries_of}
 
--- The history so far, as of the connection's last turn: from where it began to a server that goes on and shows what it came to, so that its
--- disk stands for the records of all events up to there. The turns of the connection in it are those of the frames that came, and what was
--- written so far and the answer that is due are the answers to these frames.
+-- The history so far, as of the connection's last turn: from where it began to a server that goes on and shows what it came to, so that
+-- its disk stands for that, by a snapshot and the records behind it. The turns of the connection in it are those of the frames that came,
+-- and what was written so far and the answer that is due are the answers to these frames.
 pub record AnswerIsDue {S : Type 0} (shows : S → Users → model.Server → Logons → List model.Record → Type 0) (stopped : S → Option ℕ)
     (faults : S → ℕ)
     (z : ServerSettings) (k seat : ℕ) (opening : EventBook S) (from : Stand) (came wrote answer : List ℕ) : Type 0 where

@@ -21,7 +21,7 @@ pub struct Begun<S: Lasting, L: Link> {
 
 /// What is told before each answer goes out. A contract behind a call says nothing of a call that doesn't end, and a server may be served
 /// for ever; but this call is made again and again, and what it requires is known each time: the history so far, what the connection has in
-/// it, and that the disk stands for the records of all events up to there.
+/// it, and that the disk stands for all events up to there.
 pub trait Onlooker<S: Lasting> {
     /// That it was told of this answer. Without it no answer is put onto a link.
     ghost knows: { Self → List ℕ → Type 0 };

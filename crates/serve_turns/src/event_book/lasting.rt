@@ -11,9 +11,9 @@ pub trait Lasting: Serve {
     ghost use Rattle.conn_core.specs.served.Serving.{StopsAtFault};
     ghost use Rattle.serve_turns.specs.event_book.Renewing.{RenewedTo};
 
-    /// Renews the journal where the server finds that it is time. What it shows is as before, but for the bytes that the journal takes and
-    /// the records in it. It stops only where its disk fails in that, at its count of faults then, which rose, and else that count stays; one
-    /// that had stopped stays as it is, its disk too.
+    /// Renews the journal where the server finds that it is time. What it shows is as before, but for the bytes that the journal takes
+    /// and the records in it. It stops only where its disk fails in that, at its count of faults then, which rose, and else that count
+    /// stays; one that had stopped stays as it is, its disk too.
     fn renew(&mut self)
         ensures renewed { (users : Users) (s : model.Server) (L : Logons) (records : List model.Record)
             → Self.shows self.old users s L records → Self.stopped self.old ≡ None
