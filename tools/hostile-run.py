@@ -18,6 +18,7 @@ import sys
 import time
 import traceback
 
+import hostile_compactions
 import hostile_disk
 import hostile_frames
 import hostile_images
@@ -31,7 +32,8 @@ import hostile_words
 from hostile_client import Closed, Refused, Wrong
 from hostile_server import CHECKS, Failed, Run, Skipped
 
-PARTS = (hostile_disk, hostile_links, hostile_patience, hostile_load, hostile_words, hostile_images, hostile_kills, hostile_frames)
+PARTS = (hostile_disk, hostile_links, hostile_patience, hostile_load, hostile_words, hostile_images, hostile_kills,
+         hostile_compactions, hostile_frames)
 
 
 def in_order():

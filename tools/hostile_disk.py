@@ -12,7 +12,8 @@ import time
 from hostile_client import Closed, Refused
 from hostile_server import (CUT_FILE, DISK_FAILED, JOURNAL, KEPT_CUT, LOCK_FILE, LOG, TOP, USERS, Failed, Server, Skipped, check, expect,
                             free_port, mebibytes)
-from hostile_work import Appender, Kept, gates
+from hostile_work import Appender, Kept, end_of, gates
+
 
 def contents(folder):
     """The files of a folder, with their bytes."""
@@ -59,10 +60,10 @@ def two_servers(run):
 
 
 def rotten(run, server, behind, byte):
-    """Kills the server and changes the last gate with more than so many bytes behind it; the old journal and the gate's place."""
+    """Kills the server and changes the last gate with more bytes of entries behind it than that; the old journal and the gate's place."""
     server.kill()
     journal = bytearray(server.journal())
-    place = max(at for at in gates(journal) if len(journal) - at > behind)
+    place = max(at for at in gates(journal) if end_of(journal) - at > behind)
     journal[place] = byte
     with open(server.path(), "wb") as file:
         file.write(journal)
@@ -108,15 +109,22 @@ def cut_kept(run):
     return f"{', '.join(seen)} have what was cut; {len(old) - place} bytes were cut without a copy"
 
 
+def expect_owners(server, mask):
+    """Nobody else may read the journal."""
+    for name in (JOURNAL, LOCK_FILE):
+        expect(os.path.exists(server.path(name)), f"there is no {name}")
+        mode = stat.S_IMODE(os.stat(server.path(name)).st_mode)
+        expect(mode == 0o600, f"{name} has mode {mode:o} under umask {mask:o}")
+
+
 @check("modes", "journal")
 def modes(run):
-    """The journal and the lock file are made with mode 0600, whatever the umask."""
+    """The journal and the lock file are made with mode 0600, whatever the umask, and so is the draft that becomes the journal."""
     for mask in (0, 0o022, 0o077):
         server = run.server(prepare=lambda mask=mask: os.umask(mask))
-        for name in (JOURNAL, LOCK_FILE):
-            expect(os.path.exists(server.path(name)), f"there is no {name}")
-            mode = stat.S_IMODE(os.stat(server.path(name)).st_mode)
-            expect(mode == 0o600, f"{name} has mode {mode:o} under umask {mask:o}")
+        expect_owners(server, mask)
+        server.client().close()
+        expect_owners(server, mask)
         server.kill()
     return f"{JOURNAL} and {LOCK_FILE} have mode 600"
 
