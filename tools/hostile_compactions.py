@@ -53,7 +53,7 @@ def longest_snapshot():
 
 
 class Lengths(threading.Thread):
-    """Looks at the journal and its draft while the server runs: the greatest length of each. A draft that was there before doesn't count."""
+    """Looks at the journal and its draft while the server runs: the greatest length of each. A draft of an earlier life doesn't count."""
 
     def __init__(self, server):
         super().__init__(daemon=True)
