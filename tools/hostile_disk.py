@@ -1,4 +1,5 @@
 """Checks of tools/hostile-run.py on the journal and its folder, on ends of the process, on a full disk and on the clock."""
+import errno
 import mmap
 import os
 import resource
@@ -269,6 +270,42 @@ def disk_full(run):
     writer.verify(server.client())
     how = "a small file system" if place else "a limit on the file's size"
     return f"by {how}: {mebibytes(taken)} were acknowledged, status {status} after {took:.2f} s; begun there it serves reads"
+
+
+MOST_LINES = 20  # on one lack of room, under hundreds of events
+
+
+@check("no-room-ahead", "ends")
+def no_room_ahead(run):
+    """A disk that has no room for zeros behind the journal's end, nor for a draft: the server goes on, and its log isn't flooded."""
+    place = small_disk(run, 5 << 20)
+    if place is None:
+        raise Skipped("no file system can be mounted here")
+    server = run.server(LOG.format(level="info") + USERS, folder=place)
+    client, data = server.client(), os.urandom(1 << 18)
+    file = client.create("over").file
+    for _ in range(8):
+        client.write(file, 0, data)
+    count = run.count(400, 100)
+    for number in range(count):
+        client.write(file, 0, b"%06d" % number)
+        expect(client.read(file, 0, 6) == b"%06d" % number, "a read gives other bytes")
+    lines = no_room_lines(server)
+    expect(lines <= MOST_LINES, f"{lines} lines of the log tell in {2 * count} events that there is no room")
+    server.kill()
+    server = server.again()
+    take_all(os.path.join(place, "rest"))
+    client = server.client()
+    for _ in range(count):
+        expect(client.whole("over") == b"%06d" % (count - 1) + data[6:], "a file has other bytes")
+    lines += no_room_lines(server)
+    expect(lines <= 2 * MOST_LINES, f"{lines} lines of the log tell in some {5 * count} events that there is no room")
+    server.expect_alive("on a disk without room for a draft")
+    return f"{lines} lines told in some {5 * count} events that there is no room"
+
+
+def no_room_lines(server):
+    return sum(os.strerror(errno.ENOSPC) in line for line in server.told().splitlines())
 
 
 # ---- the clock

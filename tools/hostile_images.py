@@ -131,7 +131,7 @@ def images_of(run, library, kind, count, seen):
     """Some images of one run: of a new server, of one with a life before it, or of one whose journal passes the mark."""
     large = kind == KINDS - 1
     words = {"made": NotedOverwriter, "before": 3.0} if large else {"before": run.random.uniform(0.5, 3) * (kind % 2)}
-    trace, files, states = recorded_run(run, library, run.random.uniform(3, 6) if large else run.random.uniform(0.2, 2), **words)
+    trace, files, states = recorded_run(run, library, run.random.uniform(2, 4) if large else run.random.uniform(0.2, 2), **words)
     records = recorded_disk.records_of(trace)
     expect(records, "the library saw no call: the program makes its calls of the system by itself")
     recorded = recorded_disk.Recorded(records, files)
