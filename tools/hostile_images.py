@@ -12,7 +12,7 @@ import struct
 import time
 
 import recorded_disk
-from hostile_client import Closed
+from hostile_client import Closed, Refused
 from hostile_compactions import SETTINGS, Overwriter
 from hostile_disk import contents
 from hostile_kills import CLIENTS, State, Worker
@@ -143,7 +143,7 @@ def images_of(run, library, kind, count, seen):
         seen["of a journal that is written anew"] += is_draft
         try:
             seen["files and locks looked up"] += looked_at(run, recorded.image(run.random), [state.at(place) for state in states])
-        except (Failed, Closed) as error:
+        except (Failed, Closed, Refused) as error:
             raise Failed(f"image {seen['images']}, behind {moment} of {len(records)} records: {error}") from error
     run.end_all()
 
@@ -244,7 +244,7 @@ def refused_at_each(run, most, errors, try_one):
         for call in range(1, most + 1):
             try:
                 refused, _ = try_one(call, error)
-            except (Failed, Closed) as failed:
+            except (Failed, Closed, Refused) as failed:
                 raise Failed(f"{name} at call {call}: {failed}") from failed
             counts[0] += bool(refused)
             counts[1] += bool(refused) and goes_on(refused, error)
