@@ -18,6 +18,7 @@ import sys
 import time
 import traceback
 
+import hostile_compactions
 import hostile_disk
 import hostile_frames
 import hostile_images
@@ -26,14 +27,13 @@ import hostile_links
 import hostile_load
 import hostile_model
 import hostile_patience
-import hostile_renewal
 import hostile_trial
 import hostile_words
 from hostile_client import Closed, Refused, Wrong
 from hostile_server import CHECKS, Failed, Run, Skipped
 
 PARTS = (hostile_disk, hostile_links, hostile_patience, hostile_load, hostile_words, hostile_images, hostile_kills,
-         hostile_renewal, hostile_frames)
+         hostile_compactions, hostile_frames)
 
 
 def in_order():
@@ -77,7 +77,8 @@ def asked():
     words.add_argument("--seed", type=int, default=1, help="of what is drawn (1)")
     words.add_argument("--quick", action="store_true", help="smaller counts")
     words.add_argument("--client", nargs=4, metavar=("PORT", "USER", "PASSWORD", "SHARE"), help="try the tool's own client")
-    words.add_argument("--self", action="store_true", help="try the tool itself: keys on published vectors, kills on a server in memory")
+    words.add_argument("--self", action="store_true",
+                       help="try the tool itself: keys on published vectors, images of a record, kills of a server in memory")
     told = words.parse_args()
     names = [name for name, _, _ in CHECKS]
     strange = [name for name in f"{told.only},{told.without}".split(",") if name and name not in names]
@@ -97,6 +98,7 @@ def main():
     told = asked()
     if told.self:
         print(hostile_trial.vectors())
+        print(hostile_trial.images())
         print(hostile_model.kills())
     if told.client:
         print(hostile_trial.client(*told.client))

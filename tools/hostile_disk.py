@@ -1,4 +1,5 @@
 """Checks of tools/hostile-run.py on the journal and its folder, on ends of the process, on a full disk and on the clock."""
+import errno
 import mmap
 import os
 import resource
@@ -12,7 +13,8 @@ import time
 from hostile_client import Closed, Refused
 from hostile_server import (CUT_FILE, DISK_FAILED, JOURNAL, KEPT_CUT, LOCK_FILE, LOG, TOP, USERS, Failed, Server, Skipped, check, expect,
                             free_port, mebibytes)
-from hostile_work import Appender, Kept, gates
+from hostile_work import Appender, Kept, end_of, gates
+
 
 def contents(folder):
     """The files of a folder, with their bytes."""
@@ -59,10 +61,10 @@ def two_servers(run):
 
 
 def rotten(run, server, behind, byte):
-    """Kills the server and changes the last gate with more than so many bytes behind it; the old journal and the gate's place."""
+    """Kills the server and changes the last gate with more bytes of entries behind it than that; the old journal and the gate's place."""
     server.kill()
     journal = bytearray(server.journal())
-    place = max(at for at in gates(journal) if len(journal) - at > behind)
+    place = max(at for at in gates(journal) if end_of(journal) - at > behind)
     journal[place] = byte
     with open(server.path(), "wb") as file:
         file.write(journal)
@@ -108,15 +110,22 @@ def cut_kept(run):
     return f"{', '.join(seen)} have what was cut; {len(old) - place} bytes were cut without a copy"
 
 
+def expect_owners(server, mask):
+    """Nobody else may read the journal."""
+    for name in (JOURNAL, LOCK_FILE):
+        expect(os.path.exists(server.path(name)), f"there is no {name}")
+        mode = stat.S_IMODE(os.stat(server.path(name)).st_mode)
+        expect(mode == 0o600, f"{name} has mode {mode:o} under umask {mask:o}")
+
+
 @check("modes", "journal")
 def modes(run):
-    """The journal and the lock file are made with mode 0600, whatever the umask."""
+    """The journal and the lock file are made with mode 0600, whatever the umask, and so is the draft that becomes the journal."""
     for mask in (0, 0o022, 0o077):
         server = run.server(prepare=lambda mask=mask: os.umask(mask))
-        for name in (JOURNAL, LOCK_FILE):
-            expect(os.path.exists(server.path(name)), f"there is no {name}")
-            mode = stat.S_IMODE(os.stat(server.path(name)).st_mode)
-            expect(mode == 0o600, f"{name} has mode {mode:o} under umask {mask:o}")
+        expect_owners(server, mask)
+        server.client().close()
+        expect_owners(server, mask)
         server.kill()
     return f"{JOURNAL} and {LOCK_FILE} have mode 600"
 
@@ -261,6 +270,42 @@ def disk_full(run):
     writer.verify(server.client())
     how = "a small file system" if place else "a limit on the file's size"
     return f"by {how}: {mebibytes(taken)} were acknowledged, status {status} after {took:.2f} s; begun there it serves reads"
+
+
+MOST_LINES = 20  # on one lack of room, under hundreds of events
+
+
+@check("no-room-ahead", "ends")
+def no_room_ahead(run):
+    """A disk that has no room for zeros behind the journal's end, nor for a draft: the server goes on, and its log isn't flooded."""
+    place = small_disk(run, 5 << 20)
+    if place is None:
+        raise Skipped("no file system can be mounted here")
+    server = run.server(LOG.format(level="info") + USERS, folder=place)
+    client, data = server.client(), os.urandom(1 << 18)
+    file = client.create("over").file
+    for _ in range(8):
+        client.write(file, 0, data)
+    count = run.count(400, 100)
+    for number in range(count):
+        client.write(file, 0, b"%06d" % number)
+        expect(client.read(file, 0, 6) == b"%06d" % number, "a read gives other bytes")
+    lines = no_room_lines(server)
+    expect(lines <= MOST_LINES, f"{lines} lines of the log tell in {2 * count} events that there is no room")
+    server.kill()
+    server = server.again()
+    take_all(os.path.join(place, "rest"))
+    client = server.client()
+    for _ in range(count):
+        expect(client.whole("over") == b"%06d" % (count - 1) + data[6:], "a file has other bytes")
+    lines += no_room_lines(server)
+    expect(lines <= 2 * MOST_LINES, f"{lines} lines of the log tell in some {5 * count} events that there is no room")
+    server.expect_alive("on a disk without room for a draft")
+    return f"{lines} lines told in some {5 * count} events that there is no room"
+
+
+def no_room_lines(server):
+    return sum(os.strerror(errno.ENOSPC) in line for line in server.told().splitlines())
 
 
 # ---- the clock

@@ -47,6 +47,8 @@ class Worker(threading.Thread):
 class State:
     """What the server acknowledged to one client. `waiting` is what may or may not have been done: how all looks then."""
 
+    largest, pieces = LARGEST, (1, 10, 500, 4096, 20000)  # bytes of a file at most, and of a write
+
     def __init__(self, number, seed):
         self.folder, self.chance, self.guid = f"client{number}", random.Random(seed), os.urandom(16)
         self.who = BERT if number % 2 else ("anna", "First")
@@ -126,7 +128,7 @@ class State:
         name = f"f{self.chance.randrange(FILES)}"
         file, old = self.opened(client, name), self.files[name]
         at = self.chance.randrange(len(old) + 100)
-        data = self.chance.randbytes(self.chance.choice((1, 10, 500, 4096, 20000)))[:LARGEST - at]
+        data = self.chance.randbytes(self.chance.choice(self.pieces))[:self.largest - at]
         if data:
             new = old.ljust(at, b"\0")[:at] + data + old[at + len(data):]
             self.changed(self.files | {name: new}, lambda: client.write(file, at, data))
@@ -134,7 +136,7 @@ class State:
 
     def end(self, client):
         name = f"f{self.chance.randrange(FILES)}"
-        file, length = self.opened(client, name), self.chance.randrange(LARGEST // 4)
+        file, length = self.opened(client, name), self.chance.randrange(self.largest // 4)
         self.changed(self.files | {name: self.files[name][:length].ljust(length, b"\0")}, lambda: client.set_end(file, length))
         client.close_file(file)
 

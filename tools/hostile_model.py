@@ -7,6 +7,7 @@ import random
 import struct
 
 from hostile_client import NAME_NOT_FOUND, UNLOCK, Closed, Opened, Refused
+from hostile_compactions import Overwriter
 from hostile_kills import CLIENTS, State
 from hostile_server import Failed, expect
 
@@ -153,10 +154,10 @@ def lived(state, model, operations):
         return
 
 
-def rounds(seed, fault, count):
+def rounds(seed, fault, count, made=State):
     """What the check finds in so many kills, or None."""
     chance = random.Random(seed)
-    state, model = State(0, seed), Model(chance, fault)
+    state, model = made(0, seed), Model(chance, fault)
     for _ in range(count):
         try:
             lived(state, model, chance.choice((0, 1, 2, 3, 5, 10, 40)))
@@ -173,8 +174,10 @@ def kills():
     for seed in range(CLIENTS * 10):
         error = rounds(seed, "", 200)
         expect(error is None, f"the check found {error} in a right server, with seed {seed}")
+    expect(rounds(0, "", 20, Overwriter) is None, "the check found something in a right server under large writes")
     for fault in FAULTS:
         missed = [seed for seed in range(5) if rounds(seed, fault, 300) is None]
         expect(not missed, f"the check missed a server that {fault}, with seeds {missed}")
+        expect(rounds(0, fault, 300, Overwriter) is not None, f"the check missed a server that {fault}, under large writes")
         found.append(fault)
     return f"ok model: {CLIENTS * 10} runs of 200 kills of a right server, and a server that {', that '.join(found)}"

@@ -25,6 +25,10 @@ SIGNED_ALONE = "cipher none\n"
 LOGON_SECONDS, IDLE_SECONDS, PEER_CONNECTIONS = 30, 900, 128
 CONNECTIONS, SESSIONS = 256, 64
 JOURNAL, LOCK_FILE, CUT_FILE = "smb311.journal", "smb311.lock", re.compile(r"smb311\.cut-(\d+)$")
+DRAFT = "smb311.draft"  # in which the journal is written anew
+WRITTEN_ANEW = re.compile(r"smb311\.journal is written anew: (\d+) bytes in the place of (\d+)")
+MARK, AHEAD = 64 << 20, 16 << 20  # bytes from which on it is written anew; of zeros behind its end
+READY = re.compile(r"ready at \S+ with \d+ files and directories of \d+ bytes from smb311\.journal, read in (\d+) ms")
 KEPT_CUT = 2 << 20  # what a start cuts is kept where it is more
 REFUSALS, PEER_REFUSALS = 10, 20  # refused logons of a connection; of an address in a minute
 KEEPALIVE_SECONDS = 60
@@ -140,7 +144,7 @@ class Server:
 
     def begin(self, seconds=60):
         self.launch()
-        self.ready_after(seconds)
+        self.took = self.ready_after(seconds)
         return self
 
     def ready_after(self, seconds=60):
@@ -197,6 +201,10 @@ class Server:
     def told(self):
         """The lines of its log."""
         return self.text_of(self.err)
+
+    def written_anew(self):
+        """How often its log tells that the journal was written anew, each time the bytes then and before."""
+        return [tuple(map(int, pair)) for pair in WRITTEN_ANEW.findall(self.told())]
 
     def field(self, name):
         with open(f"/proc/{self.process.pid}/status", encoding="utf-8") as file:

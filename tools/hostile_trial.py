@@ -1,6 +1,9 @@
 """Tries the client of tools/hostile-run.py itself: keys and signatures on published vectors, all its calls on a server that runs."""
+import os
+import random
 import struct
 
+import recorded_disk
 import session_formulas as f
 from cryptography.hazmat.primitives.ciphers.aead import AESCCM, AESGCM
 from hostile_client import Refused, answered, bound, logged_on
@@ -35,6 +38,43 @@ def worked():
         expect(f.proof(owf, tokens.server, answer[16:]) == answer[:16], "the proof of NTLMv2")
         expect(f.mic(exported, tokens.type1, tokens.type2, third) == third[72:88], "NTLM's MIC")
     return "ok vectors: hashes, ciphers, keys and tokens"
+
+
+OLD, NEW, MORE = os.urandom(1500), os.urandom(2500), os.urandom(700)
+
+
+def record_of(draft_synced=True, folder_synced=True):
+    """A record of a journal that is written anew and goes on, as a program leaves it that syncs, or forgets one of the syncs."""
+    folder = [("s", 0, 0, b""), ("e", 0, 0, b"")]
+    made = [("n", 1, 0, b"smb311.journal"), *folder, ("w", 1, 0, OLD), ("s", 1, 0, b""), ("e", 1, 0, b"")]
+    draft = [("n", 2, 0, b"smb311.draft"), ("w", 2, 0, NEW[:1000]), ("w", 2, 1000, NEW[1000:])]
+    draft += [("s", 2, 0, b""), ("e", 2, 0, b"")] if draft_synced else []
+    named = [("r", 0, 0, b"smb311.draft\0smb311.journal")] + (folder if folder_synced else [])
+    more = [("w", 2, len(NEW), MORE), ("s", 2, 0, b""), ("e", 2, 0, b"")]
+    return [(number, *step) for number, step in enumerate(made + draft + named + more)], len(made)
+
+
+def journals(record, begun):
+    """The journals of many images from a moment on; those of the last moment by themselves."""
+    chance, recorded, found, last = random.Random(1), recorded_disk.Recorded(record), set(), set()
+    for moment in range(begun, len(record) + 1):
+        recorded.go_to(moment)
+        last = {recorded.image(chance)["smb311.journal"] for _ in range(200)}
+        found |= last
+    return found, last
+
+
+def images():
+    """Files as a crash may leave them: of a journal that is written anew with all its syncs one of two, torn behind them at most; without
+    the draft's sync a torn one; without the folder's sync the old one at the end."""
+    found, last = journals(*record_of())
+    expect(last == {NEW + MORE} and {OLD, NEW} <= found, "images of a journal that is written anew lack the old one or the new one")
+    expect(all(data == OLD or data.startswith(NEW) for data in found), "an image has a torn journal, though each sync was done")
+    found, _ = journals(*record_of(draft_synced=False))
+    expect(any(data != OLD and not data.startswith(NEW) for data in found), "no image has a torn journal, though its draft wasn't synced")
+    _, last = journals(*record_of(folder_synced=False))
+    expect({OLD, NEW + MORE} <= last, "no image has the old journal, though its folder wasn't synced")
+    return "ok images: whole with all syncs, torn without the draft's, old without the folder's"
 
 
 def client(port, user, password, share):

@@ -95,10 +95,29 @@ def refused_by(call):
 
 
 def gates(journal):
-    """The places of the open gates of a journal: behind 8 bytes of a mark a gate, a length of 4 bytes, in the second form a checksum of 4,
-    and as many bytes, and so on."""
-    found, at, around = [], 8, 9 if journal[:8] == b"smb311j2" else 5
-    while at + around <= len(journal) and journal[at] == 1:
+    """The places of the open gates of a journal: behind 8 bytes of a mark a gate, a length of 4 bytes, in the second form a checksum of as
+    many, and so many bytes as the length tells; and so on."""
+    found, at, front = [], 8, 9 if journal[:8] == b"smb311j2" else 5
+    while at + front <= len(journal) and journal[at] == 1:
         found.append(at)
-        at += around + struct.unpack_from("<I", journal, at + 1)[0]
+        at += front + struct.unpack_from("<I", journal, at + 1)[0]
     return found
+
+
+def end_of(journal):
+    """The place behind the closed gate; zeros may stand there."""
+    found = gates(journal)
+    front = 9 if journal[:8] == b"smb311j2" else 5
+    return found[-1] + front + struct.unpack_from("<I", journal, found[-1] + 1)[0] + 1 if found else 9
+
+
+def used_of(path):
+    """How many bytes of a journal's file stand for something; nothing but its gates is read."""
+    try:
+        with open(path, "rb", buffering=0) as file:
+            front, at = 9 if os.pread(file.fileno(), 8, 0) == b"smb311j2" else 5, 8
+            while len(head := os.pread(file.fileno(), 5, at)) == 5 and head[0] == 1:
+                at += front + struct.unpack_from("<I", head, 1)[0]
+            return at + 1
+    except FileNotFoundError:
+        return 0

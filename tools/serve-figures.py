@@ -77,34 +77,44 @@ def listens():
 class Server:
     """A server in a new folder. Behind it neither its processes nor the folder are left."""
 
-    process = None
+    process, place = None, "/dev/shm"
 
     def __enter__(self):
         if listens():
             sys.exit("port 445 is taken")
-        self.room = tempfile.mkdtemp(dir="/dev/shm")
+        self.room = tempfile.mkdtemp(dir=self.place)
         try:
             self.begin()
-            for _ in range(600):
-                if listens():
-                    return self
-                if self.process.poll() is not None:
-                    break
-                time.sleep(0.05)
-            with open(f"{self.room}/said", encoding="utf-8") as said:
-                sys.exit(f"{self.name} didn't begin: {said.read()}")
+            return self.begun()
         except BaseException:
             self.__exit__()
             raise
 
-    def __exit__(self, *_):
+    def begun(self):
+        """Itself, once it listens."""
+        for _ in range(6000):
+            if listens():
+                return self
+            if self.process.poll() is not None:
+                break
+            time.sleep(0.005)
+        sys.exit(f"{self.name} didn't begin: {self.said()}")
+
+    def said(self):
+        with open(f"{self.room}/said", encoding="utf-8", errors="replace") as said:
+            return said.read()
+
+    def end(self):
         if self.process:
             with contextlib.suppress(ProcessLookupError):
                 os.killpg(self.process.pid, signal.SIGKILL)
             self.process.wait()
-        shutil.rmtree(self.room, ignore_errors=True)
         while listens():
             time.sleep(0.05)
+
+    def __exit__(self, *_):
+        self.end()
+        shutil.rmtree(self.room, ignore_errors=True)
 
     def start(self, words, settings=""):
         with open(f"{self.room}/settings", "w", encoding="ascii") as file:
@@ -165,14 +175,14 @@ class Server:
 
 
 class Ours(Server):
-    name, strace = "smb311", ["strace"]
+    name, strace, more = "smb311", ["strace"], ""  # more settings
 
     def __init__(self, words, sealed):
         self.words, self.sealed = words, sealed
 
     def begin(self):
         cipher = "" if self.sealed else "cipher none\n"
-        self.start([*self.words, f"{HOST}:{PORT}"], f"{cipher}user {USER} {PASSWORD}\nshare {SHARE}\npeers 256\n")
+        self.start([*self.words, f"{HOST}:{PORT}"], f"{cipher}{self.more}user {USER} {PASSWORD}\nshare {SHARE}\npeers 256\n")
 
 
 class Samba(Server):
