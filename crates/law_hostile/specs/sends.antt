@@ -1,1 +1,3 @@
 pub mod OwnSends
+pub mod OwnNumbers
+pub mod HeardSends

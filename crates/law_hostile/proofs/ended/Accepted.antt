@@ -242,7 +242,7 @@ response_low : (n : ClientEnd) (frame : List ℕ) (x : HeardMessage) → dialog_
     → (let h = x.header in h.session < 256 ^ 8)
 response_low n frame x e low =
     let same : heard_in frame ≡ x = same_heard (has_header frame) (heard_in frame) x e in
-    subst (λ (y : HeardMessage). (let h = y.header in h.session < 256 ^ 8)) same low
+    subst (λ (y : HeardMessage). (let h = y.header in h.session < 256 ^ 8)) same low.0
 
 down_firm : (z : WorldSettings) (t : Watched) (k place : ℕ) (d : DownFrame) → slice_get t.repeating.downs place ≡ Some d
     → is_heard t.repeating.world k ≡ true → EventSigned z t (Give k false place) → Grounds z t → Firm z t.repeating
@@ -354,7 +354,7 @@ firm_on reads z t e fitting all g (inr f) = by (event_firm reads z t e fitting a
     by (inl c) = inl c
     by (inr q) = inr q.0
 
-run_grounds : (z : WorldSettings) (es : List RepeatEvent) (t : Watched) → z.client.ciphers ≡ [] → Grounds z t → Grounds z (watched_run z es t)
+pub run_grounds : (z : WorldSettings) (es : List RepeatEvent) (t : Watched) → z.client.ciphers ≡ [] → Grounds z t → Grounds z (watched_run z es t)
 unfolding watched_run
 run_grounds z [] t c g = g
 run_grounds z (e ∷ es) t c g = run_grounds z es (watched_happens z t e) c (grounds_on z t e c g)
@@ -380,7 +380,7 @@ no_ups z =
     }
 
 -- of a run and one event more
-signed_before : (z : WorldSettings) (es : List RepeatEvent) (e : RepeatEvent) (t : Watched) → AllSigned z (es ++ e ∷ []) t
+pub signed_before : (z : WorldSettings) (es : List RepeatEvent) (e : RepeatEvent) (t : Watched) → AllSigned z (es ++ e ∷ []) t
     → AllSigned z es t × EventSigned z (watched_run z es t) e
 unfolding watched_run
 signed_before z [] e t all = (tt, all.0)

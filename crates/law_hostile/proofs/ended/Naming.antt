@@ -224,7 +224,7 @@ serve_client z w k [] xs = refl
 serve_client z w k (b ∷ bs) [] = refl
 serve_client z w k (b ∷ bs) (x ∷ xs) = let S = step_at z w k b in by_end_client w k bs xs x S S.ends
 
-served_client : (z : WorldSettings) (w : World) (k : ℕ) → (bytes_happen z w (Plain (Serve k))).values.client ≡ w.values.client
+pub served_client : (z : WorldSettings) (w : World) (k : ℕ) → (bytes_happen z w (Plain (Serve k))).values.client ≡ w.values.client
 served_client z w k =
     either (λ (v : World). v.values.client ≡ w.values.client) (is_possible w.values (Serve k)) (bytes_later (bytes_changed z w (Serve k)) 1) w
     (λ _. serve_client z w k (w.wires k).up (w.values.conns k).up) (λ _. refl)
