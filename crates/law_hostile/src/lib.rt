@@ -27,7 +27,9 @@ mod unforged;
 pub use acts::{acts_are_guarded_law, faulty_acts_not_law};
 pub use dialogs::{channels_are_counted_law, dialogs_come_first_law};
 pub use empties::lists_are_empty_law;
-pub use ended::{dialogs_name_sessions_law, servers_stand_law};
+pub use ended::{
+    accepted_once_law, accepted_sessions_law, dialogs_name_sessions_law, servers_stand_law,
+};
 pub use finals::{accepted_was_made_law, made_was_signed_law, signed_was_made_law};
 pub use greeted::ends_greet_client_law;
 pub use ids::{own_frames_law, own_ids_rise_law};
