@@ -10,3 +10,4 @@ pub mod Putting
 pub mod Counts
 pub mod Lines
 pub mod Meaning
+pub mod Acting

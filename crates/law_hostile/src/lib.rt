@@ -42,7 +42,10 @@ pub use puts::{put_stays_law, signed_reply_was_put_law, signed_was_put_law};
 pub use replied::{
     signed_replies_law, signed_replies_tell_law, taken_replies_are_awaited_law, taken_replies_law,
 };
-pub use sends::{heard_was_sent_law, own_lines_fit_law, own_sends_law, taken_answers_send_law};
+pub use sends::{
+    acts_are_sends_law, heard_was_sent_law, own_lines_fit_law, own_sends_law,
+    taken_answers_send_law,
+};
 pub use setups::setups_are_own_law;
 pub use sifting::lists_may_sift_law;
 pub use taken_ids::{frames_take_once_law, opening_takes_once_law, signed_takes_once_law};

@@ -2,6 +2,7 @@
 //!
 //! Each law is the contract of a public function that does nothing.
 
+ghost use Rattle.law_hostile.specs.sends.ActsSends.{ActsAreSends};
 ghost use Rattle.law_hostile.specs.sends.HeardSends.{HeardWasSent, TakenAnswersSend};
 ghost use Rattle.law_hostile.specs.sends.OwnNumbers.{OwnLinesFit};
 ghost use Rattle.law_hostile.specs.sends.OwnSends.{OwnSends};
@@ -45,4 +46,16 @@ pub fn taken_answers_send_law()
     headers_law();
     commands_law();
     trees_law();
+}
+
+/// In such a run, an event that counts as an operation's act gives its server's end a frame that was put on that connection for its present
+/// opening, for the operation's own message, which the model's client sent there; and it does to the server what the model does at that
+/// message, whose answer acts.
+pub fn acts_are_sends_law()
+    ensures sends { ActsAreSends }
+{
+    headers_law();
+    commands_law();
+    trees_law();
+    negotiate_request_law();
 }

@@ -63,7 +63,7 @@ meets_moves w v e f g i =
 
 -- ---- an answer
 
-answer_is : (s : Server) (now : ℕ) (m : Message) (c : Command)
+pub answer_is : (s : Server) (now : ℕ) (m : Message) (c : Command)
     → ((status : ℕ) × (answer_to s now m c ≡ untouched s m status)) ⊎ (answer_to s now m c ≡ step s now (Heard m))
 answer_is s now m (Aside status) = inl (status, refl)
 answer_is s now m (Unreadable status) = inr refl

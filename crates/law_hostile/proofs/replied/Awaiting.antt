@@ -95,7 +95,7 @@ same_some : (x y : UpFrame) (o : Option UpFrame) → o ≡ Some x → o ≡ Some
 same_some x y o e f = let q : Some x ≡ Some y = sym e ∙ f in cc
 
 -- two frames of one id, put for one opening, are one
-one_put : (z : WorldSettings) (es : List RepeatEvent) (i j : ℕ) (u v : UpFrame) → slice_get (repeated z es).ups i ≡ Some u
+pub one_put : (z : WorldSettings) (es : List RepeatEvent) (i j : ℕ) (u v : UpFrame) → slice_get (repeated z es).ups i ≡ Some u
     → slice_get (repeated z es).ups j ≡ Some v → u.connection ≡ v.connection → u.opening ≡ v.opening → id_of_put u ≡ id_of_put v → u ≡ v
 one_put z es i j u v at on c o e = by (less_or i j)
   where
