@@ -1,3 +1,4 @@
+pub mod Ranks
 pub mod Moving
 pub mod Naming
 pub mod Given
@@ -13,3 +14,4 @@ pub mod Quiet
 pub mod Lowly
 pub mod Beginning
 pub mod Accepted
+pub mod Ordering

@@ -1,2 +1,13 @@
 pub mod Sending
 pub mod Runs
+pub mod Clients
+pub mod Taking
+pub mod Creating
+pub mod Epochs
+pub mod Opening
+pub mod Salt
+pub mod Putting
+pub mod Counts
+pub mod Lines
+pub mod Meaning
+pub mod Acting

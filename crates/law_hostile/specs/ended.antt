@@ -1,3 +1,4 @@
 pub mod EndedSessions
 pub mod Requests
 pub mod Acceptances
+pub mod Orders

@@ -1,1 +1,4 @@
 pub mod OwnSends
+pub mod OwnNumbers
+pub mod HeardSends
+pub mod ActsSends

@@ -4,6 +4,7 @@
 
 ghost use Rattle.law_hostile.specs.ended.Acceptances.{AcceptedEndsBefore, AcceptedIsBegun};
 ghost use Rattle.law_hostile.specs.ended.EndedSessions.{RepeatRecordsStand, RepeatSessionsStayOver};
+ghost use Rattle.law_hostile.specs.ended.Orders.{AcceptedAreGiven, AcceptedIsNew};
 ghost use Rattle.law_hostile.specs.ended.Requests.{DialogsNameSessions};
 
 use crypto_sessions::resp_law;
@@ -28,6 +29,16 @@ pub fn dialogs_name_sessions_law()
 pub fn accepted_sessions_law()
     ensures begun { AcceptedIsBegun }
     ensures before { AcceptedEndsBefore }
+{
+    resp_law();
+}
+
+/// In such a run no session is accepted twice: by an event behind which the client counts another number of accepted sessions, it accepted one
+/// more, which it never accepted before (`new`); and of each that it accepted the server gave the id, and no connection makes it any more
+/// (`given`).
+pub fn accepted_once_law()
+    ensures new { AcceptedIsNew }
+    ensures given { AcceptedAreGiven }
 {
     resp_law();
 }

@@ -27,7 +27,9 @@ mod unforged;
 pub use acts::{acts_are_guarded_law, faulty_acts_not_law};
 pub use dialogs::{channels_are_counted_law, dialogs_come_first_law};
 pub use empties::lists_are_empty_law;
-pub use ended::{dialogs_name_sessions_law, servers_stand_law};
+pub use ended::{
+    accepted_once_law, accepted_sessions_law, dialogs_name_sessions_law, servers_stand_law,
+};
 pub use finals::{accepted_was_made_law, made_was_signed_law, signed_was_made_law};
 pub use greeted::ends_greet_client_law;
 pub use ids::{own_frames_law, own_ids_rise_law};
@@ -40,7 +42,10 @@ pub use puts::{put_stays_law, signed_reply_was_put_law, signed_was_put_law};
 pub use replied::{
     signed_replies_law, signed_replies_tell_law, taken_replies_are_awaited_law, taken_replies_law,
 };
-pub use sends::own_sends_law;
+pub use sends::{
+    acts_are_sends_law, heard_was_sent_law, own_lines_fit_law, own_sends_law,
+    taken_answers_send_law,
+};
 pub use setups::setups_are_own_law;
 pub use sifting::lists_may_sift_law;
 pub use taken_ids::{frames_take_once_law, opening_takes_once_law, signed_takes_once_law};

@@ -24,7 +24,7 @@ use Rattle.law_hostile.specs.empties.Empties.{HasEmptyLists}
 use Rattle.law_hostile.specs.unforged.Unforged.{EventSigned, AllSigned}
 use Rattle.law_hostile.specs.finals.Finals.{WasMade}
 use Rattle.law_hostile.specs.loosely.LooseSessions.{IsOver}
-use Rattle.law_hostile.specs.ended.Requests.{NamesSession, LastNames, session_named, previous_named}
+use Rattle.law_hostile.specs.ended.Requests.{AsksSession, LastNames, session_named, previous_named}
 use Rattle.law_hostile.specs.ended.Acceptances.{NoneOrBegun, IsBegunFor, AcceptsNext, AcceptedIsBegun, AcceptedEndsBefore}
 use Rattle.law_hostile.proofs.negotiating.Agreeing.{of_one_chain, collided}
 use Rattle.law_hostile.proofs.negotiating.Keeping.{happens_keeps, start_keeps}
@@ -45,7 +45,7 @@ use Rattle.law_hostile.proofs.ended.Standing.{start_stands}
 use Rattle.law_hostile.proofs.ended.Moving.{event_moves}
 use Rattle.law_hostile.proofs.ended.Knowing.{Knows, known_kept, still_knows, goes_knows, accepts_knows}
 use Rattle.law_hostile.proofs.ended.Lowly.{AllLow, TellsLow, event_low, start_low}
-use Rattle.law_hostile.proofs.ended.Beginning.{Begun, BeginsBy, none_begun, event_begun}
+use Rattle.law_hostile.proofs.ended.Beginning.{Begun, BeginsBy, none_last, event_begun}
 
 -- ---- what holds in any case
 
@@ -154,35 +154,58 @@ FirmOn z r s = HasCollided s.world ⊎ (Firm z s × NoneOrNext z r.world s.world
 
 -- ---- a final response is accepted
 
--- the session that the client waits for, and the one before it, at the server
-record Waited (z : WorldSettings) (s : Server) (pending accepted : ℕ) : Type 0 where
-  session : IsBegunFor z s pending
-  previous : (accepted ≡ 0) ⊎ IsOver s accepted
+-- a final response that the server made for the session that the client waits for, and the one before it
+pub record MadeFor (made : List Ending) (pending accepted : ℕ) : Type 0 where
+  pub index : ℕ
+  pub ending : Ending
+  pub at : slice_get made index ≡ Some ending
+  pub front : List (List ℕ)
+  pub last : List ℕ
+  pub texts : ending.transcript ≡ front ++ last ∷ []
+  pub asks : AsksSession last
+  pub session : session_named last ≡ pending
+  pub previous : previous_named last ≡ accepted
 
-named_waited : (z : WorldSettings) (s : Server) (pending accepted : ℕ) (m : List ℕ) → pending < 256 ^ 8 → accepted < 256 ^ 8
-    → NamesSession m pending accepted → BeginsBy z s m → Waited z s pending accepted
-named_waited z s pending accepted m low small n b =
-    let e : session_named m ≡ pending = n.session_ ∙ number_of-le 8 pending low in
-    let f : previous_named m ≡ accepted = n.previous_ ∙ number_of-le 8 accepted small in
-    record {
-      session = subst (IsBegunFor z s) e b.session;
-      previous = subst (λ x. (x ≡ 0) ⊎ IsOver s x) f b.previous;
-    }
+-- both sessions at the server
+pub record Waited (z : WorldSettings) (s : Server) (made : List Ending) (pending accepted : ℕ) : Type 0 where
+  pub session : IsBegunFor z s pending
+  pub previous : (accepted ≡ 0) ⊎ IsOver s accepted
+  pub entry : MadeFor made pending accepted
 
 last_waited : (z : WorldSettings) (r : RepeatWorld) (texts : List (List ℕ)) (e : Ending) (i : ℕ) → slice_get r.world.made i ≡ Some e
     → e.transcript ≡ texts → LastNames r.world.values.client texts → Firm z r
-    → Waited z r.world.values.server r.world.values.client.pending r.world.values.client.accepted
+    → Waited z r.world.values.server r.world.made r.world.values.client.pending r.world.values.client.accepted
 last_waited z r texts e i at same l f =
     let n = l.named in
     let k = f.knows in
-    named_waited z r.world.values.server r.world.values.client.pending r.world.values.client.accepted l.last k.pending k.low n
-    (f.begun i e at l.front l.last (same ∙ l.texts_are) n.asks)
+    let s = r.world.values.server in
+    let pending = r.world.values.client.pending in
+    let accepted = r.world.values.client.accepted in
+    let session : session_named l.last ≡ pending = n.session_ ∙ number_of-le 8 pending k.pending in
+    let previous : previous_named l.last ≡ accepted = n.previous_ ∙ number_of-le 8 accepted k.low in
+    let b = f.begun i e at l.front l.last (same ∙ l.texts_are) n.asks in
+    record {
+      session = subst (IsBegunFor z s) session b.session;
+      previous = subst (λ x. (x ≡ 0) ⊎ IsOver s x) previous b.previous;
+      entry = record {
+        index = i;
+        ending = e;
+        at = at;
+        front = l.front;
+        last = l.last;
+        texts = same ∙ l.texts_are;
+        asks = n.asks;
+        session = session;
+        previous = previous;
+      };
+    }
 
-passes_waited : (z : WorldSettings) (t : Watched) (k place : ℕ) (d : DownFrame) → slice_get t.repeating.downs place ≡ Some d
+pub passes_waited : (z : WorldSettings) (t : Watched) (k place : ℕ) (d : DownFrame) → slice_get t.repeating.downs place ≡ Some d
     → is_heard t.repeating.world k ≡ true → EventSigned z t (Give k false place) → Grounds z t → Firm z t.repeating
     → (let v = given_down z t.repeating k d in NegotiationKeeps v.world → Ends z t.repeating.world v.world k d.frame
     → HasCollided v.world
-    ⊎ Waited z t.repeating.world.values.server t.repeating.world.values.client.pending t.repeating.world.values.client.accepted)
+    ⊎ Waited z t.repeating.world.values.server t.repeating.world.made t.repeating.world.values.client.pending
+    t.repeating.world.values.client.accepted)
 passes_waited z t k place d at on all g f keeps ends =
     let r = t.repeating in
     let w = r.world in
@@ -209,7 +232,8 @@ passes_waited z t k place d at on all g f keeps ends =
         → LastNames t.repeating.world.values.client texts
         → (let e = m.ending in (e.transcript ≡ texts) ⊎ HasCollided (given_down z t.repeating k d).world)
         → HasCollided (given_down z t.repeating k d).world
-        ⊎ Waited z t.repeating.world.values.server t.repeating.world.values.client.pending t.repeating.world.values.client.accepted
+        ⊎ Waited z t.repeating.world.values.server t.repeating.world.made t.repeating.world.values.client.pending
+        t.repeating.world.values.client.accepted
     by m texts names (inl e) = inr (last_waited z t.repeating texts m.ending m.index m.at e names f)
     by m texts names (inr c) = inl c
 
@@ -219,7 +243,7 @@ over_kept s u x k (inr o) = inr (k.over x o)
 
 ends_firm : (z : WorldSettings) (r s : RepeatWorld) (k : ℕ) (frame : List ℕ) → KeepsOver r.world.values.server s.world.values.server
     → PutsMore r s → Ends z r.world s.world k frame → Begun z s → Firm z r
-    → Waited z r.world.values.server r.world.values.client.pending r.world.values.client.accepted → FirmOn z r s
+    → Waited z r.world.values.server r.world.made r.world.values.client.pending r.world.values.client.accepted → FirmOn z r s
 ends_firm z r s k frame o p g begun f q =
     let knows : Knows z s = accepts_knows z r s k frame o p g q.session f.knows in
     inr (
@@ -242,7 +266,7 @@ response_low : (n : ClientEnd) (frame : List ℕ) (x : HeardMessage) → dialog_
     → (let h = x.header in h.session < 256 ^ 8)
 response_low n frame x e low =
     let same : heard_in frame ≡ x = same_heard (has_header frame) (heard_in frame) x e in
-    subst (λ (y : HeardMessage). (let h = y.header in h.session < 256 ^ 8)) same low
+    subst (λ (y : HeardMessage). (let h = y.header in h.session < 256 ^ 8)) same low.0
 
 down_firm : (z : WorldSettings) (t : Watched) (k place : ℕ) (d : DownFrame) → slice_get t.repeating.downs place ≡ Some d
     → is_heard t.repeating.world k ≡ true → EventSigned z t (Give k false place) → Grounds z t → Firm z t.repeating
@@ -270,7 +294,8 @@ down_firm z t k place d at on all g f keeps over begun =
       where
         waited : (let v = given_down z t.repeating k d in PutsMore t.repeating v → Ends z t.repeating.world v.world k d.frame
             → HasCollided v.world
-            ⊎ Waited z t.repeating.world.values.server t.repeating.world.values.client.pending t.repeating.world.values.client.accepted
+            ⊎ Waited z t.repeating.world.values.server t.repeating.world.made t.repeating.world.values.client.pending
+            t.repeating.world.values.client.accepted
             → FirmOn z t.repeating v)
         waited p e (inl c) = inl c
         waited p e (inr q) = ends_firm z t.repeating (given_down z t.repeating k d) k d.frame over p e begun f q
@@ -354,7 +379,7 @@ firm_on reads z t e fitting all g (inr f) = by (event_firm reads z t e fitting a
     by (inl c) = inl c
     by (inr q) = inr q.0
 
-run_grounds : (z : WorldSettings) (es : List RepeatEvent) (t : Watched) → z.client.ciphers ≡ [] → Grounds z t → Grounds z (watched_run z es t)
+pub run_grounds : (z : WorldSettings) (es : List RepeatEvent) (t : Watched) → z.client.ciphers ≡ [] → Grounds z t → Grounds z (watched_run z es t)
 unfolding watched_run
 run_grounds z [] t c g = g
 run_grounds z (e ∷ es) t c g = run_grounds z es (watched_happens z t e) c (grounds_on z t e c g)
@@ -367,7 +392,7 @@ run_firm reads z (e ∷ es) t fitting c all g f =
     run_firm reads z es (watched_happens z t e) fitting c all.1 (grounds_on z t e c g)
     (subst (FirmAt z) (sym (event_watched z t e)) (firm_on reads z t e fitting all.0 g f))
 
-no_ups : (z : WorldSettings) → Firm z (repeat_start z)
+pub no_ups : (z : WorldSettings) → Firm z (repeat_start z)
 no_ups z =
     record {
       knows = record {
@@ -376,11 +401,11 @@ no_ups z =
         pending = omega arith;
         ups = λ i u at. absurd (none_in [] i u refl at);
       };
-      begun = none_begun z (repeat_start z).world.values.server;
+      begun = none_last (BeginsBy z (repeat_start z).world.values.server);
     }
 
 -- of a run and one event more
-signed_before : (z : WorldSettings) (es : List RepeatEvent) (e : RepeatEvent) (t : Watched) → AllSigned z (es ++ e ∷ []) t
+pub signed_before : (z : WorldSettings) (es : List RepeatEvent) (e : RepeatEvent) (t : Watched) → AllSigned z (es ++ e ∷ []) t
     → AllSigned z es t × EventSigned z (watched_run z es t) e
 unfolding watched_run
 signed_before z [] e t all = (tt, all.0)

@@ -14,6 +14,7 @@ use Rattle.law_sessions.proofs.sessions.Answers.{Facts}
 use Rattle.spec_exchange.specs.Verdict.{Verdict, Refuse}
 use Rattle.spec_exchange.specs.Check.{check, owed, formed, has_session}
 use Rattle.spec_exchange.specs.Step.{step}
+use Rattle.spec_exchange.specs.CheckSetup.{is_new}
 use Rattle.spec_exchange.specs.Network.{answer_to}
 use Rattle.spec_world.specs.Settings.{WorldSettings, draw, logon_of}
 use Rattle.spec_world.specs.Ends.{ServerEnd, Logons, ConnEnd}
@@ -56,12 +57,15 @@ pub record BeginsBy (z : WorldSettings) (s : Server) (m : List ℕ) : Type 0 whe
   pub session : Known z s (session_named m)
   pub previous : (previous_named m ≡ 0) ⊎ IsOver s (previous_named m)
 
--- of the last of these messages
-abbrev pub LastBegins : WorldSettings → Server → List (List ℕ) → Type 0
-LastBegins z s ts = (front : List (List ℕ)) (last : List ℕ) → ts ≡ front ++ last ∷ [] → AsksSession last → BeginsBy z s last
+-- of the last of these messages, where it asks for a session
+abbrev pub LastHas : (List ℕ → Type 0) → List (List ℕ) → Type 0
+LastHas P ts = (front : List (List ℕ)) (last : List ℕ) → ts ≡ front ++ last ∷ [] → AsksSession last → P last
+
+abbrev pub AllLast : (List ℕ → Type 0) → List Ending → Type 0
+AllLast P made = (i : ℕ) (e : Ending) → slice_get made i ≡ Some e → LastHas P e.transcript
 
 abbrev pub AllBegun : WorldSettings → Server → List Ending → Type 0
-AllBegun z s made = (i : ℕ) (e : Ending) → slice_get made i ≡ Some e → LastBegins z s e.transcript
+AllBegun z s made = AllLast (BeginsBy z s) made
 
 over_kept : (s u : Server) (x : ℕ) → KeepsOver s u → (x ≡ 0) ⊎ IsOver s x → (x ≡ 0) ⊎ IsOver u x
 over_kept s u x k (inl e) = inl e
@@ -75,13 +79,13 @@ begun_kept z s u made k all i e at front last is a =
       previous = over_kept s u (previous_named last) k b.previous;
     }
 
-pub none_begun : (z : WorldSettings) (s : Server) → AllBegun z s []
-none_begun z s i e at = absurd (none_in [] i e refl at)
+pub none_last : (P : List ℕ → Type 0) → AllLast P []
+none_last P i e at = absurd (none_in [] i e refl at)
 
-both_begun : (z : WorldSettings) (s : Server) (made more : List Ending) → AllBegun z s made → AllBegun z s more → AllBegun z s (made ++ more)
-both_begun z s made more a b i e at = by (in_either made more i e at)
+pub both_last : (P : List ℕ → Type 0) (made more : List Ending) → AllLast P made → AllLast P more → AllLast P (made ++ more)
+both_last P made more a b i e at = by (in_either made more i e at)
   where
-    by : ((m : ℕ) × (slice_get made m ≡ Some e)) ⊎ ((m : ℕ) × (slice_get more m ≡ Some e)) → LastBegins z s e.transcript
+    by : ((m : ℕ) × (slice_get made m ≡ Some e)) ⊎ ((m : ℕ) × (slice_get more m ≡ Some e)) → LastHas P e.transcript
     by (inl m) = a m.0 e m.1
     by (inr m) = b m.0 e m.1
 
@@ -103,11 +107,10 @@ same_last xs ys x y e =
     let q : Some x ≡ Some y = sym (last_behind xs x) ∙ (ap last_of e ∙ last_behind ys y) in
     cc
 
-last_begins : (z : WorldSettings) (s : Server) (before : List (List ℕ)) (raw : List ℕ) → (AsksSession raw → BeginsBy z s raw)
-    → LastBegins z s (before ++ raw ∷ [])
-last_begins z s before raw h front last is a =
+last_begins : (P : List ℕ → Type 0) (before : List (List ℕ)) (raw : List ℕ) → (AsksSession raw → P raw) → LastHas P (before ++ raw ∷ [])
+last_begins P before raw h front last is a =
     let same : raw ≡ last = same_last before front raw last is in
-    subst (BeginsBy z s) same (h (subst AsksSession (sym same) a))
+    subst P same (h (subst AsksSession (sym same) a))
 
 -- ---- a SESSION_SETUP that doesn't read isn't answered with success
 
@@ -129,7 +132,7 @@ unread_step s now m request e off none =
     by_verdict (λ A. Tells invalid_parameter A.reply) s now m
     (λ t v records before finds. told_by t m now v records invalid_parameter (unread_found t m request v e off none finds))
 
-unread_not : (s : Server) (now : ℕ) (m : Message) (request : SetupRequest) → m.command ≡ Setup request → request.readable ≡ false
+pub unread_not : (s : Server) (now : ℕ) (m : Message) (request : SetupRequest) → m.command ≡ Setup request → request.readable ≡ false
     → m.fault ≡ None → (answer_to s now m m.command).reply.status ≡ success → ⊥
 unread_not s now m request e off none ok =
     by (unread_step s now m request e off none) (sym (ap (λ c. (answer_to s now m c).reply.status) e) ∙ ok)
@@ -152,7 +155,7 @@ same_checked : (a b : Checked) → a ∷ [] ≡ b ∷ [] → a ≡ b
 same_checked a b e = cc
 
 -- it has no fault where its answer is final
-no_fault : (s : Server) (now : ℕ) (m : Message) (binding : Bool) (channel : ℕ) (encrypts : Bool)
+pub no_fault : (s : Server) (now : ℕ) (m : Message) (binding : Bool) (channel : ℕ) (encrypts : Bool)
     → (m.fault ≡ None) ⊎ (m.fault ≡ Some access_denied)
     → progress m.command (answer_to s now m m.command).reply ≡ Final binding channel encrypts → m.fault ≡ None
 no_fault s now m binding channel encrypts (inl none) is = none
@@ -164,7 +167,7 @@ fault_from : (c d : Checked) (m : Message) → d ≡ c → (d.fault ≡ None) �
 fault_from c d m same (inl none) e = inl (sym e ∙ (sym (ap (λ (x : Checked). x.fault) same) ∙ none))
 fault_from c d m same (inr denied) e = inr (sym e ∙ (sym (ap (λ (x : Checked). x.fault) same) ∙ denied))
 
-read_body : (t : Told) (b : List ℕ) (h : Header) (s : Server) (now : ℕ) (m : Message) (request : SetupRequest) → m.command ≡ Setup request
+pub read_body : (t : Told) (b : List ℕ) (h : Header) (s : Server) (now : ℕ) (m : Message) (request : SetupRequest) → m.command ≡ Setup request
     → (request.readable ≡ false) ⊎ BodyTells t b request → m.fault ≡ None → (answer_to s now m m.command).reply.status ≡ success
     → BodyTells t b request
 read_body t b h s now m request e (inl off) none ok = absurd (unread_not s now m request e off none ok)
@@ -177,16 +180,16 @@ known_over z s m A x f on user e (inr known) =
     inr (subst (IsOver A.server) e (begun_over z s m A f on user (subst (Known z s) (sym e) known)))
 
 -- the request that is heard of a frame
-record HeardOf (z : WorldSettings) (r : RepeatWorld) (k : ℕ) (u : UpFrame) (h : HearsOne z r k u) : Type 0 where
-  request : SetupRequest
-  command : (let m = h.message in m.command ≡ Setup request)
-  body : (request.readable ≡ false) ⊎ BodyTells (told_of z.server r.world.logons k h.frame.server_end h.checked) u.frame request
-  session : (let m = h.message in m.session_id ≡ session_named u.frame)
-  fault : (let m = h.message in (m.fault ≡ None) ⊎ (m.fault ≡ Some access_denied))
-  shows : BodyTells (told_of z.server r.world.logons k h.frame.server_end h.checked) u.frame request
+pub record HeardOf (z : WorldSettings) (r : RepeatWorld) (k : ℕ) (u : UpFrame) (h : HearsOne z r k u) : Type 0 where
+  pub request : SetupRequest
+  pub command : (let m = h.message in m.command ≡ Setup request)
+  pub body : (request.readable ≡ false) ⊎ BodyTells (told_of z.server r.world.logons k h.frame.server_end h.checked) u.frame request
+  pub session : (let m = h.message in m.session_id ≡ session_named u.frame)
+  pub fault : (let m = h.message in (m.fault ≡ None) ⊎ (m.fault ≡ Some access_denied))
+  pub shows : BodyTells (told_of z.server r.world.logons k h.frame.server_end h.checked) u.frame request
       → shows_user (logon_user (logon_of z)) request.shows ≡ true
 
-heard_of : RespReads → (z : WorldSettings) (r : RepeatWorld) (k i : ℕ) (u : UpFrame) → IsFitting z → AllFine z r → slice_get r.ups i ≡ Some u
+pub heard_of : RespReads → (z : WorldSettings) (r : RepeatWorld) (k i : ℕ) (u : UpFrame) → IsFitting z → AllFine z r → slice_get r.ups i ≡ Some u
     → (h : HearsOne z r k u) → (header_in u.frame).command ≡ 1 → HeardOf z r k u h
 heard_of reads z r k i u fitting fine at h one =
     let c = h.checked in
@@ -214,11 +217,14 @@ heard_of reads z r k i u fitting fine at h one =
           ∙ own_token_fine reads z (L.pending k) (token_in u.frame) fitting asked.token;
     }
 
-abbrev FinalBegins : WorldSettings → Server → ℕ → Message → List ℕ → Type 0
-FinalBegins z s now m raw =
+-- where its answer is final
+abbrev pub FinalHas : (List ℕ → Type 0) → Server → ℕ → Message → List ℕ → Type 0
+FinalHas P s now m raw =
     (binding : Bool) (channel : ℕ) (encrypts : Bool)
-    → progress m.command (answer_to s now m m.command).reply ≡ Final binding channel encrypts → AsksSession raw
-    → BeginsBy z (answer_to s now m m.command).server raw
+    → progress m.command (answer_to s now m m.command).reply ≡ Final binding channel encrypts → AsksSession raw → P raw
+
+abbrev FinalBegins : WorldSettings → Server → ℕ → Message → List ℕ → Type 0
+FinalBegins z s now m raw = FinalHas (BeginsBy z (answer_to s now m m.command).server) s now m raw
 
 final_begins : RespReads → (z : WorldSettings) (r : RepeatWorld) (k i : ℕ) (u : UpFrame) → IsFitting z → AllFine z r → Stands r.world.values
     → slice_get r.ups i ≡ Some u → AllPut (PreviousKnown z r.world.values.server) r.ups → (h : HearsOne z r k u)
@@ -246,45 +252,65 @@ final_begins reads z r k i u fitting fine stands at known h binding channel encr
       previous = known_over z s m A (previous_named u.frame) facts on user previous (known i u at (fine.1.ups i u at) a);
     }
 
+-- the session that it begins was in the making
+pub final_new : RespReads → (z : WorldSettings) (r : RepeatWorld) (k i : ℕ) (u : UpFrame) → IsFitting z → AllFine z r → slice_get r.ups i ≡ Some u
+    → (h : HearsOne z r k u)
+    → (let m = h.message in
+    FinalHas (λ raw. is_new (session_named raw) (r.world.values.server.making m.connection) ≡ true) r.world.values.server
+    r.world.values.moment m u.frame)
+final_new reads z r k i u fitting fine at h binding channel encrypts is a =
+    let s = r.world.values.server in
+    let now = r.world.values.moment in
+    let m = h.message in
+    let A = answer_to s now m m.command in
+    let q : HeardOf z r k u h = heard_of reads z r k i u fitting fine at h a.command in
+    let none : m.fault ≡ None = no_fault s now m binding channel encrypts q.fault is in
+    let final = setup_final q.request.binding binding A.reply channel encrypts (sym (ap (λ d. progress d A.reply) q.command) ∙ is) in
+    let t = told_of z.server r.world.logons k h.frame.server_end h.checked in
+    let tells : BodyTells t u.frame q.request =
+    read_body t u.frame (header_in u.frame) s now m q.request q.command q.body none final.0 in
+    let new : binding ≡ false = sym final.1 ∙ (tells.binding ∙ a.flags) in
+    let facts = answered s now m m.command refl in
+    let enters = facts.enters (begins_at_final s now m channel encrypts none (is ∙ ap (λ b. Final b channel encrypts) new)) in
+    subst (λ x. is_new x (s.making m.connection) ≡ true) q.session enters.made
+
 -- ---- what is made of its answer
 
-one_begun : (z : WorldSettings) (s : Server) (f : ServerEnd) (r : SaidReply) (text : List ℕ) (p : Progress)
-    → ((binding : Bool) (channel : ℕ) (encrypts : Bool) → p ≡ Final binding channel encrypts → AsksSession r.request.raw
-    → BeginsBy z s r.request.raw) → AllBegun z s (ending_by false f r text p ++ [])
-one_begun z s f r text Stays h = none_begun z s
-one_begun z s f r text (Interim binding) h = none_begun z s
-one_begun z s f r text (Final binding channel encrypts) h = by
+one_begun : (P : List ℕ → Type 0) (f : ServerEnd) (r : SaidReply) (text : List ℕ) (p : Progress)
+    → ((binding : Bool) (channel : ℕ) (encrypts : Bool) → p ≡ Final binding channel encrypts → AsksSession r.request.raw → P r.request.raw)
+    → AllLast P (ending_by false f r text p ++ [])
+one_begun P f r text Stays h = none_last P
+one_begun P f r text (Interim binding) h = none_last P
+one_begun P f r text (Final binding channel encrypts) h = by
   where
-    by : AllBegun z s (ending_of f r text ∷ [])
+    by : AllLast P (ending_of f r text ∷ [])
     by zero e at =
         let q : Some (ending_of f r text) ≡ Some e = at in
         let same : ending_of f r text ≡ e = cc in
-        subst (λ (x : Ending). LastBegins z s x.transcript) same
-        (last_begins z s (before_setup f) r.request.raw (h binding channel encrypts refl))
+        subst (λ (x : Ending). LastHas P x.transcript) same
+        (last_begins P (before_setup f) r.request.raw (h binding channel encrypts refl))
     by (suc i) e at = absurd (none_in [] i e refl at)
 
-told_begun : (z : WorldSettings) (f : ServerEnd) (g : Going) (n : ℕ) (texts : List (List ℕ)) (k now : ℕ) (fresh : List ℕ) (h : ServerEnd)
-    (s : Server) (L : Logons) (c : Checked) (m : Message) (rs : List SaidReply) → heard_message z.server L k h c ≡ Some m
-    → FinalBegins z s now m c.raw → (rs ≡ []) ⊎ SaidBy z.server k now fresh h s L c rs
-    → AllBegun z (answer_to s now m m.command).server (told_each false (counted_on f false g n) rs texts).endings
+told_begun : (P : List ℕ → Type 0) (z : WorldSettings) (f : ServerEnd) (g : Going) (n : ℕ) (texts : List (List ℕ)) (k now : ℕ) (fresh : List ℕ)
+    (h : ServerEnd) (s : Server) (L : Logons) (c : Checked) (m : Message) (rs : List SaidReply) → heard_message z.server L k h c ≡ Some m
+    → FinalHas P s now m c.raw → (rs ≡ []) ⊎ SaidBy z.server k now fresh h s L c rs
+    → AllLast P (told_each false (counted_on f false g n) rs texts).endings
 unfolding told_each
-told_begun z f g n texts k now fresh h s L c m rs heard final (inl none) =
-    subst (λ l. AllBegun z (answer_to s now m m.command).server (told_each false (counted_on f false g n) l texts).endings) (sym none)
-    (none_begun z (answer_to s now m m.command).server)
-told_begun z f g n texts k now fresh h s L c m rs heard final (inr b) =
-    let t = (answer_to s now m m.command).server in
+told_begun P z f g n texts k now fresh h s L c m rs heard final (inl none) =
+    subst (λ l. AllLast P (told_each false (counted_on f false g n) l texts).endings) (sym none) (none_last P)
+told_begun P z f g n texts k now fresh h s L c m rs heard final (inr b) =
     let same : b.message ≡ m = same_message b.message m (sym b.heard ∙ heard) in
-    subst (λ l. AllBegun z t (told_each false (counted_on f false g n) l texts).endings) (sym b.is)
-    (subst (λ (x : Message). AllBegun z t (told_each false (counted_on f false g n)
+    subst (λ l. AllLast P (told_each false (counted_on f false g n) l texts).endings) (sym b.is)
+    (subst (λ (x : Message). AllLast P (told_each false (counted_on f false g n)
     (said_to z.server k now fresh h L h.window c x.command (answer_to s now x x.command) ∷ []) texts).endings) (sym same)
-    (one_begun z t (counted_on f false g n) (said_to z.server k now fresh h L h.window c m.command (answer_to s now m m.command))
+    (one_begun P (counted_on f false g n) (said_to z.server k now fresh h L h.window c m.command (answer_to s now m m.command))
     (first_text texts) (progress m.command (answer_to s now m m.command).reply) final))
 
-heard_begun : RespReads → (z : WorldSettings) (r : RepeatWorld) (k i : ℕ) (u : UpFrame) → IsFitting z → AllFine z r → Stands r.world.values
-    → slice_get r.ups i ≡ Some u → AllPut (PreviousKnown z r.world.values.server) r.ups → (h : HearsOne z r k u)
-    → (let S = step_at z (loaded_up r k u) k u.frame in
-    AllBegun z (answer_to r.world.values.server r.world.values.moment h.message h.message.command).server S.made)
-heard_begun reads z r k i u fitting fine stands at known h =
+-- what it made, where each that is final has P
+pub heard_last : (P : List ℕ → Type 0) (z : WorldSettings) (r : RepeatWorld) (k : ℕ) (u : UpFrame) → (h : HearsOne z r k u)
+    → FinalHas P r.world.values.server r.world.values.moment h.message u.frame
+    → (let S = step_at z (loaded_up r k u) k u.frame in AllLast P S.made)
+heard_last P z r k u h final =
     let w = loaded_up r k u in
     let s = r.world.values.server in
     let now = r.world.values.moment in
@@ -295,17 +321,25 @@ heard_begun reads z r k i u fitting fine stands at known h =
     let q = made_are z w k u.frame x ok h.plain in
     let raw : h.checked.raw ≡ u.frame = ap (λ (d : Checked). d.raw) h.is in
     let fresh = take 8 (draw z.seed w.draws) in
-    subst (AllBegun z (answer_to s now m m.command).server) (sym q.2)
-    (told_begun z x.server_end (went_at z w k x) q.0 q.1 k now fresh x.server_end s r.world.logons h.checked m (went_at z w k x).replies h.heard
-    (subst (FinalBegins z s now m) (sym raw) (final_begins reads z r k i u fitting fine stands at known h))
+    subst (AllLast P) (sym q.2)
+    (told_begun P z x.server_end (went_at z w k x) q.0 q.1 k now fresh x.server_end s r.world.logons h.checked m (went_at z w k x).replies h.heard
+    (subst (FinalHas P s now m) (sym raw) final)
     (said_all z.server k now fresh x.server_end s r.world.logons x.messages h.checked h.alone))
+
+heard_begun : RespReads → (z : WorldSettings) (r : RepeatWorld) (k i : ℕ) (u : UpFrame) → IsFitting z → AllFine z r → Stands r.world.values
+    → slice_get r.ups i ≡ Some u → AllPut (PreviousKnown z r.world.values.server) r.ups → (h : HearsOne z r k u)
+    → (let S = step_at z (loaded_up r k u) k u.frame in
+    AllBegun z (answer_to r.world.values.server r.world.values.moment h.message h.message.command).server S.made)
+heard_begun reads z r k i u fitting fine stands at known h =
+    heard_last (BeginsBy z (answer_to r.world.values.server r.world.values.moment h.message h.message.command).server) z r k u h
+    (final_begins reads z r k i u fitting fine stands at known h)
 
 -- ---- each event
 
 abbrev pub Begun : WorldSettings → RepeatWorld → Type 0
 Begun z r = AllBegun z r.world.values.server r.world.made
 
-ended_made : (z : WorldSettings) (r : RepeatWorld) (k : ℕ) (u : UpFrame) (why : ConnEnd) → is_served r.world k ≡ true
+pub ended_made : (z : WorldSettings) (r : RepeatWorld) (k : ℕ) (u : UpFrame) (why : ConnEnd) → is_served r.world k ≡ true
     → check_frame (r.world.wires k).server_end u.frame ≡ Err why → (given_up z r k u).world.made ≡ r.world.made
 ended_made z r k u why on e =
     let w = loaded_up r k u in
@@ -316,7 +350,7 @@ ended_made z r k u why on e =
     ap (λ q. (step_of z.server k w.values.moment (take 8 (draw z.seed w.draws)) w.values.server w.logons (w.wires k).server_end q).ends) bad in
     given_made z r k u on ∙ ap (made_behind r.world.made S) ends
 
-heard_made : (z : WorldSettings) (r : RepeatWorld) (k : ℕ) (u : UpFrame) → is_served r.world k ≡ true → (h : HearsOne z r k u)
+pub heard_made : (z : WorldSettings) (r : RepeatWorld) (k : ℕ) (u : UpFrame) → is_served r.world k ≡ true → (h : HearsOne z r k u)
     → (let S = step_at z (loaded_up r k u) k u.frame in (given_up z r k u).world.made ≡ r.world.made ++ S.made)
 heard_made z r k u on h =
     let S = step_at z (loaded_up r k u) k u.frame in
@@ -340,7 +374,7 @@ up_begun reads z r k i u fitting fine stands at known on over old =
         let S = step_at z (loaded_up r k u) k u.frame in
         let t = h.took in
         subst (AllBegun z v.world.values.server) (sym (heard_made z r k u on h))
-        (both_begun z v.world.values.server r.world.made S.made kept
+        (both_last (BeginsBy z v.world.values.server) r.world.made S.made kept
         (subst (λ a. AllBegun z a S.made) (sym t.server) (heard_begun reads z r k i u fitting fine stands at known h)))
 
 give_up_begun : RespReads → (z : WorldSettings) (r : RepeatWorld) (k i : ℕ) (o : Option UpFrame) → slice_get r.ups i ≡ o → IsFitting z

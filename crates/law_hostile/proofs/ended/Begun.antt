@@ -16,7 +16,7 @@ use Rattle.law_hostile.specs.loosely.LooseSessions.{NoMoreMade, IsOver}
 use Rattle.law_hostile.proofs.loosely.Over.{refuted, never, given_on, made_on}
 use Rattle.law_hostile.proofs.ended.Knowing.{Known}
 
-new_is : (x : ℕ) (o : Option Making) → is_new x o ≡ true → o ≡ Some (NewSession x)
+pub new_is : (x : ℕ) (o : Option Making) → is_new x o ≡ true → o ≡ Some (NewSession x)
 new_is x None e = absurd (cc)
 new_is x (Some (NewSession id)) e = ap (λ i. Some (NewSession i)) (eqb-true id x e)
 new_is x (Some (Binding id)) e = absurd (cc)

@@ -1,4 +1,4 @@
--- Along a repeat run the session that a reply's header tells is a number of eight bytes.
+-- Along a repeat run the session that a reply's header tells is a number of eight bytes, and its tree one of four.
 use Rattle.std.proofs.Common.{◌≡◌, ℕ, zero, suc, ◌<◌, ◌^◌, true, false, ◌&&◌, if◌then◌else◌, List, [], ◌∷◌, ◌++◌, ◌⊎◌, inl, inr, refl, sym}
 use Rattle.std.proofs.Common.{ap, ◌∙◌, subst, take, Option, Some, None, slice_get, Result, Ok, Err}
 use Rattle.law_server.proofs.tables.Logic.{either}
@@ -33,7 +33,7 @@ use Rattle.law_hostile.proofs.ended.Quiet.{Quiet, then_quiet, put_quiet, same_qu
 -- ---- a reply's text
 
 abbrev pub TellsLow : List ℕ → Type 0
-TellsLow m = (let h = header_in m in h.session < 256 ^ 8)
+TellsLow m = (let h = header_in m in (h.session < 256 ^ 8) × (h.tree < 256 ^ 4))
 
 bare_session : (h : Header) (body : List ℕ) → (header_in (message_spelling h body)).session ≡ number_of (le 8 h.session)
 unfolding header_in message_spelling bytes_at le
@@ -44,10 +44,23 @@ signed_session : (s : Signer) (h : Header) (body : List ℕ)
 unfolding header_in message_spelling signed bytes_at le
 signed_session s h body = refl
 
+bare_tree : (h : Header) (body : List ℕ) → (header_in (message_spelling h body)).tree ≡ number_of (le 4 h.tree)
+unfolding header_in message_spelling bytes_at le
+bare_tree h body = refl
+
+signed_tree : (s : Signer) (h : Header) (body : List ℕ) → (header_in (signed s (message_spelling h body))).tree ≡ number_of (le 4 h.tree)
+unfolding header_in message_spelling signed bytes_at le
+signed_tree s h body = refl
+
 said_low : (o : Option Signer) (h : Header) (body : List ℕ) → TellsLow (with_signature o h body)
-said_low None h body = subst (λ n. n < 256 ^ 8) (sym (bare_session h body)) (low_number 8 h.session)
-said_low (Some s) h body =
-    subst (λ n. n < 256 ^ 8) (sym (signed_session s (record h { flags = _ }) body)) (low_number 8 h.session)
+said_low None h body = (
+  subst (λ n. n < 256 ^ 8) (sym (bare_session h body)) (low_number 8 h.session),
+  subst (λ n. n < 256 ^ 4) (sym (bare_tree h body)) (low_number 4 h.tree),
+)
+said_low (Some s) h body = (
+  subst (λ n. n < 256 ^ 8) (sym (signed_session s (record h { flags = _ }) body)) (low_number 8 h.session),
+  subst (λ n. n < 256 ^ 4) (sym (signed_tree s (record h { flags = _ }) body)) (low_number 4 h.tree),
+)
 
 -- ---- lists of frames
 

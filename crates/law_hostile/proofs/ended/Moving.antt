@@ -63,7 +63,7 @@ meets_moves w v e f g i =
 
 -- ---- an answer
 
-answer_is : (s : Server) (now : ℕ) (m : Message) (c : Command)
+pub answer_is : (s : Server) (now : ℕ) (m : Message) (c : Command)
     → ((status : ℕ) × (answer_to s now m c ≡ untouched s m status)) ⊎ (answer_to s now m c ≡ step s now (Heard m))
 answer_is s now m (Aside status) = inl (status, refl)
 answer_is s now m (Unreadable status) = inr refl
@@ -245,21 +245,28 @@ by_stage P (Rattle.spec_exchange.specs.Client.SaidFirst b) f g = g (λ e. absurd
 by_stage P (Rattle.spec_exchange.specs.Client.SaidSecond b) f g = g (λ e. absurd (cc))
 by_stage P Rattle.spec_exchange.specs.Client.AskedTree f g = g (λ e. absurd (cc))
 
-down_moves : (z : WorldSettings) (r : RepeatWorld) (k : ℕ) (d : DownFrame) → is_heard r.world k ≡ true → Stands r.world.values
-    → Moves r.world.values (given_down z r k d).world.values
-down_moves z r k d on stands =
+down_same : (z : WorldSettings) (r : RepeatWorld) (k : ℕ) (d : DownFrame) → is_heard r.world k ≡ true
+    → SameServer r.world.values (given_down z r k d).world.values
+down_same z r k d on =
     let w = r.world.values in
     let n = (r.world.wires k).client_end in
     let v = (given_down z r k d).world.values in
-    by_stage (Moves w v) n.stage
+    by_stage (SameServer w v) n.stage
     (λ apart. (
     let f = line_given z r k d on apart in
-    let q = lines_server w k d.received.place n.awaited (line_response n d.frame) in
-    still_moves w v (f.server ∙ q.0) (f.records ∙ q.1) stands))
+    let q = lines_server w k d.received.place n.awaited (line_response n d.frame) in (f.server ∙ q.0, f.records ∙ q.1)))
     (λ other. (
     let f = dialog_given z r k d on other in
-    let q = dialogs_server z w k n n.stage (dialog_response n n.stage d.frame) in
-    still_moves w v (f.server ∙ q.0) (f.records ∙ q.1) stands))
+    let q = dialogs_server z w k n n.stage (dialog_response n n.stage d.frame) in (f.server ∙ q.0, f.records ∙ q.1)))
+
+pub down_server : (z : WorldSettings) (r : RepeatWorld) (k : ℕ) (d : DownFrame) → is_heard r.world k ≡ true
+    → (given_down z r k d).world.values.server ≡ r.world.values.server
+down_server z r k d on = (down_same z r k d on).0
+
+down_moves : (z : WorldSettings) (r : RepeatWorld) (k : ℕ) (d : DownFrame) → is_heard r.world k ≡ true → Stands r.world.values
+    → Moves r.world.values (given_down z r k d).world.values
+down_moves z r k d on stands =
+    let q = down_same z r k d on in still_moves r.world.values (given_down z r k d).world.values q.0 q.1 stands
 
 pub event_moves : (z : WorldSettings) (r : RepeatWorld) (e : RepeatEvent) → AllFine z r → Stands r.world.values
     → Moves r.world.values (repeat_happens z r e).world.values

@@ -28,6 +28,7 @@ use Rattle.spec_hostile.specs.RepeatRuns.{uses_no_list, same_done, own_connectio
 use Rattle.spec_hostile.specs.SignedFor.{PassesAt}
 use Rattle.law_ties.proofs.events.Columns.{push_keeps}
 use Rattle.law_hostile.specs.ended.Requests.{AsksSession, previous_named, NamesSession}
+use Rattle.law_hostile.proofs.ended.Ranks.{SameRanks, push_ranks}
 use Rattle.law_hostile.proofs.ended.Turns.{SameNames, names_self, seconds_put, talked_self, talked_put, not_second, Puts, no_puts, one_puts, line_puts}
 use Rattle.law_hostile.proofs.ended.Turns.{Rests, Goes, Ends, Turn, IsStill, GoesOnTo, IsAccepted, heard_turned, cut_names, cut_talked, cut_up}
 use Rattle.law_hostile.proofs.finals.Recalling.{wires_loaded, conn_loaded, up_recalls}
@@ -48,6 +49,14 @@ pub record Alike (w u : World) : Type 0 where
 alike_self : (w : World) → Alike w w
 alike_self w = record { client = refl; ends = λ j. refl; accepted = refl }
 
+ranks_alike : (w x u y : World) → Alike w x → Alike u y → SameRanks w.values.client u.values.client
+    → SameRanks x.values.client y.values.client
+ranks_alike w x u y a b r =
+    record {
+      rank = ap (λ (c : Client). c.rank) b.client ∙ (r.rank ∙ sym (ap (λ (c : Client). c.rank) a.client));
+      count = ap (λ (c : Client). c.accepted_count) b.client ∙ (r.count ∙ sym (ap (λ (c : Client). c.accepted_count) a.client));
+    }
+
 rests_alike : (w x u y : World) (k : ℕ) → Alike w x → Alike u y → Rests w u k → Rests x y k
 rests_alike w x u y k a b r =
     record {
@@ -56,6 +65,7 @@ rests_alike w x u y k a b r =
             ∙ ((let n = r.names in n.pending) ∙ sym (ap (λ (c : Client). c.pending) a.client));
         accepted = ap (λ (c : Client). c.accepted) b.client
             ∙ ((let n = r.names in n.accepted) ∙ sym (ap (λ (c : Client). c.accepted) a.client));
+        ranks = ranks_alike w x u y a b (let n = r.names in n.ranks);
         seconds = λ j e. ap (λ (c : Client). c.stage j) a.client
             ∙ (let n = r.names in n.seconds j (ap (λ (c : Client). c.stage j) (sym b.client) ∙ e));
       };
@@ -74,6 +84,7 @@ goes_alike w x u y k frame a b r =
       heard = ap (λ (n : ClientEnd). dialog_response n (SaidFirst false) frame) (a.ends k) ∙ r.heard;
       pending = ap (λ (c : Client). c.pending) b.client ∙ r.pending;
       accepted = ap (λ (c : Client). c.accepted) b.client ∙ (r.accepted ∙ sym (ap (λ (c : Client). c.accepted) a.client));
+      ranks = ranks_alike w x u y a b r.ranks;
       front = r.front;
       last = r.last;
       transcript = ap (λ (n : ClientEnd). n.transcript) (b.ends k) ∙ r.transcript;
@@ -94,6 +105,10 @@ ends_alike z w x u y k frame a b r =
           ∙ ap (λ n. x.accepted ++ ended_on n r.response false ∷ []) (sym (a.ends k))));
       pending = ap (λ (c : Client). c.pending) b.client ∙ (r.pending ∙ sym (ap (λ (c : Client). c.pending) a.client));
       accepted = ap (λ (c : Client). c.accepted) b.client ∙ (r.accepted ∙ sym (ap (λ (c : Client). c.pending) a.client));
+      rank = ap (λ (c : Client). c.rank) b.client
+          ∙ (r.rank ∙ sym (ap (λ (c : Client). put c.rank c.pending (c.accepted_count + 1)) a.client));
+      count = ap (λ (c : Client). c.accepted_count) b.client
+          ∙ (r.count ∙ sym (ap (λ (c : Client). c.accepted_count + 1) a.client));
       behind = ap (λ (n : ClientEnd). n.stage) (b.ends k) ∙ r.behind;
       others = λ j off. b.ends j ∙ (r.others j off ∙ sym (a.ends j));
       stages = λ j off. ap (λ (c : Client). c.stage j) b.client ∙ (r.stages j off ∙ ap (λ (c : Client). c.stage j) (sym a.client));
@@ -224,7 +239,7 @@ serve_client z w k [] xs = refl
 serve_client z w k (b ∷ bs) [] = refl
 serve_client z w k (b ∷ bs) (x ∷ xs) = let S = step_at z w k b in by_end_client w k bs xs x S S.ends
 
-served_client : (z : WorldSettings) (w : World) (k : ℕ) → (bytes_happen z w (Plain (Serve k))).values.client ≡ w.values.client
+pub served_client : (z : WorldSettings) (w : World) (k : ℕ) → (bytes_happen z w (Plain (Serve k))).values.client ≡ w.values.client
 served_client z w k =
     either (λ (v : World). v.values.client ≡ w.values.client) (is_possible w.values (Serve k)) (bytes_later (bytes_changed z w (Serve k)) 1) w
     (λ _. serve_client z w k (w.wires k).up (w.values.conns k).up) (λ _. refl)
@@ -271,7 +286,7 @@ open_stays z w k =
     let fresh = fresh_wires z w greeting served in
     record {
       rests = record {
-        names = record { pending = refl; accepted = refl; seconds = seconds_put c.stage k (SaidNegotiate c.live) (no_negotiate c.live) };
+        names = record { pending = refl; accepted = refl; ranks = record { rank = refl; count = refl }; seconds = seconds_put c.stage k (SaidNegotiate c.live) (no_negotiate c.live) };
         talked = talked_put w.wires k fresh (λ s. not_second fresh.client_end.stage (SaidNegotiate c.live) refl (no_negotiate c.live) _ s);
       };
       puts = subst (Puts c) (sym (ap (λ (v : Wires). v.up) (put_here w.wires k fresh)))
@@ -310,11 +325,11 @@ push_stays w k slotless pick none =
     let p = Pushes k slotless pick in
     let q = push_keeps w.values.client k slotless pick in
     pushed_stays w k (client_after w.values.client p) (act w.values.client p) none
-    (record { pending = q.pending; accepted = q.accepted; seconds = λ j e. ap (λ (f : ℕ → Stage). f j) (sym q.stage) ∙ e })
+    (record { pending = q.pending; accepted = q.accepted; ranks = push_ranks w.values.client k slotless pick; seconds = λ j e. ap (λ (f : ℕ → Stage). f j) (sym q.stage) ∙ e })
 
 take_names : (c : Client) (g : ℕ) (op : Op) → SameNames c (client_after c (TakesOp g op))
 take_names c g op =
-    either (SameNames c) (may_take c g op) (take_op c g op) c (λ _. record { pending = refl; accepted = refl; seconds = λ j e. e }) (λ _. names_self c)
+    either (SameNames c) (may_take c g op) (take_op c g op) c (λ _. record { pending = refl; accepted = refl; ranks = record { rank = refl; count = refl }; seconds = λ j e. e }) (λ _. names_self c)
 
 changed_stays : (z : WorldSettings) (w : World) (e : Event) → uses_no_list e ≡ true → (w.wires (own_connection e)).up ≡ []
     → Stays w (bytes_changed z w e) (own_connection e)

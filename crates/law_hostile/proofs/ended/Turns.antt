@@ -1,5 +1,5 @@
 -- What a response that the network gives to a client's end does to the sessions that its dialogs name.
-use Rattle.std.proofs.Common.{◌≡◌, ℕ, zero, suc, ◌==◌, Bool, true, false, if◌then◌else◌, List, [], ◌∷◌, ◌++◌, refl, sym}
+use Rattle.std.proofs.Common.{◌≡◌, ℕ, zero, suc, ◌+◌, ◌==◌, Bool, true, false, if◌then◌else◌, List, [], ◌∷◌, ◌++◌, refl, sym}
 use Rattle.std.proofs.Common.{ap, ◌∙◌, subst, eqb-true, Option, Some, None, slice_get}
 use Rattle.law_server.proofs.tables.Logic.{either}
 use Rattle.law_records.proofs.recovery.Lists.{put_here}
@@ -32,6 +32,7 @@ use Rattle.spec_hostile.specs.SignedFor.{Passes, PassesAt}
 use Rattle.law_ties.proofs.events.Columns.{hear_keeps}
 use Rattle.law_ties.proofs.wire_facts.Ciphers.{begins}
 use Rattle.law_hostile.specs.ended.Requests.{AsksSession, previous_named, NamesSession}
+use Rattle.law_hostile.proofs.ended.Ranks.{SameRanks, settle_ranks}
 use Rattle.law_hostile.proofs.ended.Texts.{setup_names, bound_not, line_not}
 
 -- ---- what is told
@@ -40,6 +41,7 @@ use Rattle.law_hostile.proofs.ended.Texts.{setup_names, bound_not, line_not}
 pub record SameNames (c d : Client) : Type 0 where
   pub pending : d.pending ≡ c.pending
   pub accepted : d.accepted ≡ c.accepted
+  pub ranks : SameRanks c d
   pub seconds : (j : ℕ) → d.stage j ≡ SaidSecond false → c.stage j ≡ SaidSecond false
 
 abbrev pub FewerSeconds : (ℕ → Stage) → (ℕ → Stage) → Type 0
@@ -59,7 +61,7 @@ no_bound : SaidSecond true ≡ SaidSecond false → ⊥
 no_bound e = absurd (cc)
 
 pub names_self : (c : Client) → SameNames c c
-names_self c = record { pending = refl; accepted = refl; seconds = λ j e. e }
+names_self c = record { pending = refl; accepted = refl; ranks = record { rank = refl; count = refl }; seconds = λ j e. e }
 
 -- an end that waits for the end of a session's dialog did so before, with the same messages
 abbrev pub Talked : ClientEnd → ClientEnd → Type 0
@@ -109,6 +111,7 @@ pub record Goes (w u : World) (k : ℕ) (frame : List ℕ) : Type 0 where
   pub heard : dialog_response (w.wires k).client_end (SaidFirst false) frame ≡ Some response
   pub pending : u.values.client.pending ≡ response.header.session
   pub accepted : u.values.client.accepted ≡ w.values.client.accepted
+  pub ranks : SameRanks w.values.client u.values.client
   pub front : List (List ℕ)
   pub last : List ℕ
   pub transcript : (u.wires k).client_end.transcript ≡ front ++ last ∷ []
@@ -124,6 +127,8 @@ pub record Ends (z : WorldSettings) (w u : World) (k : ℕ) (frame : List ℕ) :
   pub remembered : u.accepted ≡ w.accepted ++ ended_on (w.wires k).client_end response false ∷ []
   pub pending : u.values.client.pending ≡ w.values.client.pending
   pub accepted : u.values.client.accepted ≡ w.values.client.pending
+  pub rank : u.values.client.rank ≡ put w.values.client.rank w.values.client.pending (w.values.client.accepted_count + 1)
+  pub count : u.values.client.accepted_count ≡ w.values.client.accepted_count + 1
   pub behind : (u.wires k).client_end.stage ≡ AskedTree
   pub others : (j : ℕ) → (j == k) ≡ false → (u.wires j).client_end ≡ (w.wires j).client_end
   pub stages : (j : ℕ) → (j == k) ≡ false → u.values.client.stage j ≡ w.values.client.stage j
@@ -142,10 +147,10 @@ pub record Turned (z : WorldSettings) (w u : World) (k : ℕ) (frame : List ℕ)
 heard_names : (c : Client) (g : ℕ) (asking : Bool) (r : Reply) (place : ℕ) (h : Hearing) → SameNames c (hear c g asking r place h)
 heard_names c g asking r place (Settles o) =
     let q = hear_keeps c g asking r place (Settles o) refl in
-    record { pending = q.pending; accepted = q.accepted; seconds = λ j e. ap (λ (f : ℕ → Stage). f j) (sym q.stage) ∙ e }
-heard_names c g asking r place GoesAgain = record { pending = refl; accepted = refl; seconds = λ j e. e }
-heard_names c g asking r place Attaches = record { pending = refl; accepted = refl; seconds = λ j e. e }
-heard_names c g asking r place EndsSession = record { pending = refl; accepted = refl; seconds = λ j e. absurd (cc) }
+    record { pending = q.pending; accepted = q.accepted; ranks = settle_ranks c g asking r place o; seconds = λ j e. ap (λ (f : ℕ → Stage). f j) (sym q.stage) ∙ e }
+heard_names c g asking r place GoesAgain = record { pending = refl; accepted = refl; ranks = record { rank = refl; count = refl }; seconds = λ j e. e }
+heard_names c g asking r place Attaches = record { pending = refl; accepted = refl; ranks = record { rank = refl; count = refl }; seconds = λ j e. e }
+heard_names c g asking r place EndsSession = record { pending = refl; accepted = refl; ranks = record { rank = refl; count = refl }; seconds = λ j e. absurd (cc) }
 
 hears_names : (c : Client) (k g : ℕ) (asking : Bool) (r : Reply) (place : ℕ) → SameNames c (client_after c (Hears k g asking r place))
 hears_names c k g asking r place =
@@ -155,18 +160,18 @@ hears_names c k g asking r place =
 ready_names : (c : Client) (k session tree : ℕ) → SameNames c (client_after c (IsReady k session tree))
 ready_names c k session tree =
     either (λ d. SameNames c d) (becomes_ready c session) _ _
-    (λ _. either (λ d. SameNames c d) c.live _ _ (λ _. record { pending = refl; accepted = refl; seconds = seconds_put c.stage k Apart no_apart })
-    (λ _. record { pending = refl; accepted = refl; seconds = seconds_put c.stage k Apart no_apart }))
-    (λ _. record { pending = refl; accepted = refl; seconds = seconds_put c.stage k Apart no_apart })
+    (λ _. either (λ d. SameNames c d) c.live _ _ (λ _. record { pending = refl; accepted = refl; ranks = record { rank = refl; count = refl }; seconds = seconds_put c.stage k Apart no_apart })
+    (λ _. record { pending = refl; accepted = refl; ranks = record { rank = refl; count = refl }; seconds = seconds_put c.stage k Apart no_apart }))
+    (λ _. record { pending = refl; accepted = refl; ranks = record { rank = refl; count = refl }; seconds = seconds_put c.stage k Apart no_apart })
 
 refused_names : (c : Client) (k : ℕ) (why : Refusal) → SameNames c (client_after c (IsRefused k why))
-refused_names c k why = record { pending = refl; accepted = refl; seconds = seconds_put c.stage k Apart no_apart }
+refused_names c k why = record { pending = refl; accepted = refl; ranks = record { rank = refl; count = refl }; seconds = seconds_put c.stage k Apart no_apart }
 
 cut_after_names : (c : Client) (k : ℕ) → SameNames c (client_after c (IsCut k))
 cut_after_names c k =
     either (λ d. SameNames c d) (c.ready k) _ _
-    (λ _. either (λ d. SameNames c d) (ends_at_cut c) _ _ (λ _. record { pending = refl; accepted = refl; seconds = λ j e. absurd (cc) })
-    (λ _. record { pending = refl; accepted = refl; seconds = λ j e. e }))
+    (λ _. either (λ d. SameNames c d) (ends_at_cut c) _ _ (λ _. record { pending = refl; accepted = refl; ranks = record { rank = refl; count = refl }; seconds = λ j e. absurd (cc) })
+    (λ _. record { pending = refl; accepted = refl; ranks = record { rank = refl; count = refl }; seconds = λ j e. e }))
     (λ _. names_self c)
 
 pub cut_names : (w : World) (k : ℕ) → SameNames w.values.client (cut_wires w k).values.client
@@ -178,7 +183,7 @@ cut_names w k =
   where
     off : SameNames w.values.client (cut_off w.values k).client
     off = either (λ (u : Values). SameNames w.values.client u.client) (w.values.client.ready k) _ _ (λ _. cut_after_names w.values.client k)
-        (λ _. record { pending = refl; accepted = refl; seconds = seconds_put w.values.client.stage k Apart no_apart })
+        (λ _. record { pending = refl; accepted = refl; ranks = record { rank = refl; count = refl }; seconds = seconds_put w.values.client.stage k Apart no_apart })
 
 -- ---- wires that close
 
@@ -323,7 +328,7 @@ first_turned z w k stage x frame bound none =
     let e = noted_sent (spent (f k).client_end 1 ForDialog) (SaidFirst bound) b in
     record {
       turn = IsStill (record {
-        names = record { pending = refl; accepted = refl; seconds = seconds_put w.values.client.stage k (SaidFirst bound) (no_first bound) };
+        names = record { pending = refl; accepted = refl; ranks = record { rank = refl; count = refl }; seconds = seconds_put w.values.client.stage k (SaidFirst bound) (no_first bound) };
         talked = talked_twice w.wires k (record (w.wires k) { client_end = noted_heard n stage x }) (queued (f k) e b) (SaidFirst bound) refl (no_first bound);
       });
       puts = subst (Puts w.values.client) (sym (queued_up f k e b))
@@ -343,7 +348,7 @@ second_bound z w k stage x frame none =
     let e = noted_sent (spent (f k).client_end 1 ForDialog) (SaidSecond true) b in
     record {
       turn = IsStill (record {
-        names = record { pending = refl; accepted = refl; seconds = seconds_put w.values.client.stage k (SaidSecond true) no_bound };
+        names = record { pending = refl; accepted = refl; ranks = record { rank = refl; count = refl }; seconds = seconds_put w.values.client.stage k (SaidSecond true) no_bound };
         talked = talked_twice w.wires k (record (w.wires k) { client_end = noted_heard n stage x }) (queued (f k) e b) (SaidSecond true) refl no_bound;
       });
       puts = subst (Puts w.values.client) (sym (queued_up f k e b))
@@ -371,6 +376,7 @@ second_turned z w k x frame none at heard =
         heard = heard;
         pending = refl;
         accepted = refl;
+        ranks = record { rank = refl; count = refl };
         front = (f k).client_end.transcript;
         last = b;
         transcript = ap (λ (v : Wires). v.client_end.transcript) (put_here f k (queued (f k) e b));
@@ -412,6 +418,8 @@ accepts_turned z w k x frame none at passes =
         remembered = refl;
         pending = refl;
         accepted = refl;
+        rank = refl;
+        count = refl;
         behind = ap (λ (v : Wires). v.client_end.stage) (put_here f k (queued (f k) e b)) ∙ ap (λ (v : ClientEnd). v.stage) end;
         stages = λ j off. put_other w.values.client.stage k j AskedTree off;
         others = λ j off.

@@ -83,7 +83,7 @@ sealed_frame f frame on =
     (split_text false (messages_in frame)) (λ _. sealed_opened f (opened_by f.keys frame))
     (λ off. absurd (let a = on in let b = off in cc)))
 
-bare_of : (f : ServerEnd) (frame : List ℕ) (x : Frame) → check_frame f frame ≡ Ok x → x.sealed ≡ false → begins_sealed frame ≡ false
+pub bare_of : (f : ServerEnd) (frame : List ℕ) (x : Frame) → check_frame f frame ≡ Ok x → x.sealed ≡ false → begins_sealed frame ≡ false
 bare_of f frame x ok plain = by (begins_sealed frame) refl
   where
     by : (b : Bool) → begins_sealed frame ≡ b → b ≡ false

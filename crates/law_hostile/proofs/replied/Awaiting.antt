@@ -54,7 +54,7 @@ opened_by : (verified : Bool) (m : List ℕ) (y : HeardMessage)
 opened_by true m y e = answered_by (has_header m) true m y e
 opened_by false m y e = absurd (let q : None ≡ Some y = e in cc)
 
-line_reads : (n : ClientEnd) (m : List ℕ) (y : HeardMessage) → n.encrypts ≡ false → line_response n m ≡ Some y → y ≡ heard_in m
+pub line_reads : (n : ClientEnd) (m : List ℕ) (y : HeardMessage) → n.encrypts ≡ false → line_response n m ≡ Some y → y ≡ heard_in m
 line_reads n m y bare e =
     let text : line_text n m ≡ (if verifies n.keys.signing m then Some m else None) =
     ap (λ b. if b then opened n.keys false m else if verifies n.keys.signing m then Some m else None) bare in
@@ -95,7 +95,7 @@ same_some : (x y : UpFrame) (o : Option UpFrame) → o ≡ Some x → o ≡ Some
 same_some x y o e f = let q : Some x ≡ Some y = sym e ∙ f in cc
 
 -- two frames of one id, put for one opening, are one
-one_put : (z : WorldSettings) (es : List RepeatEvent) (i j : ℕ) (u v : UpFrame) → slice_get (repeated z es).ups i ≡ Some u
+pub one_put : (z : WorldSettings) (es : List RepeatEvent) (i j : ℕ) (u v : UpFrame) → slice_get (repeated z es).ups i ≡ Some u
     → slice_get (repeated z es).ups j ≡ Some v → u.connection ≡ v.connection → u.opening ≡ v.opening → id_of_put u ≡ id_of_put v → u ≡ v
 one_put z es i j u v at on c o e = by (less_or i j)
   where
@@ -105,12 +105,12 @@ one_put z es i j u v at on c o e = by (less_or i j)
     by (inr (inr l)) = absurd (never_less (id_of_put v) (id_of_put u) (sym e) (own_ids_rise z es j i v u l on at (sym c) (sym o)))
 
 -- what was put before stays
-run_split : (z : WorldSettings) (a b : List RepeatEvent) (r : RepeatWorld) → repeat_run z (a ++ b) r ≡ repeat_run z b (repeat_run z a r)
+pub run_split : (z : WorldSettings) (a b : List RepeatEvent) (r : RepeatWorld) → repeat_run z (a ++ b) r ≡ repeat_run z b (repeat_run z a r)
 unfolding repeat_run
 run_split z [] b r = refl
 run_split z (e ∷ a) b r = run_split z a b (repeat_happens z r e)
 
-put_before : (z : WorldSettings) (es before after : List RepeatEvent) (i : ℕ) (u : UpFrame) → es ≡ before ++ after
+pub put_before : (z : WorldSettings) (es before after : List RepeatEvent) (i : ℕ) (u : UpFrame) → es ≡ before ++ after
     → slice_get (watched_to z before).repeating.ups i ≡ Some u → slice_get (repeated z es).ups i ≡ Some u
 put_before z es before after i u run at =
     let old : slice_get (repeated z before).ups i ≡ Some u =
@@ -145,7 +145,7 @@ line_not_aside c h (inl e) = absurd (let q : true ≡ false = sym e ∙ h.greets
 line_not_aside c h (inr (inl e)) = absurd (let q : true ≡ false = sym e ∙ h.sets_not in cc)
 line_not_aside c h (inr (inr e)) = probe_not (c.header.command == 13) (number 8 c.raw 40 == 0) h.asks_not e
 
-op_line : (token : Token) (c : Command) → (token ≡ ForDialog → ⊥) → goes_on_line token c ≡ true
+pub op_line : (token : Token) (c : Command) → (token ≡ ForDialog → ⊥) → goes_on_line token c ≡ true
 op_line ForDialog c own = absurd (own refl)
 op_line (ForOp g) c own = refl
 op_line (ForAttach g) c own = refl

@@ -24,7 +24,7 @@ use Rattle.law_hostile.proofs.replied.Saying.{signed_replies_answer}
 
 -- ---- each event of a run without a forged message is such
 
-signed_at : (z : WorldSettings) (before : List RepeatEvent) (v : RepeatEvent) (after : List RepeatEvent) (t : Watched)
+pub signed_at : (z : WorldSettings) (before : List RepeatEvent) (v : RepeatEvent) (after : List RepeatEvent) (t : Watched)
     → AllSigned z (before ++ v ∷ after) t → EventSigned z (watched_run z before t) v
 unfolding watched_run
 signed_at z [] v after t all = all.0

@@ -151,7 +151,7 @@ meant_header heads z m frame i id (AsksSetup n r token command sequence own e) o
 meant_header heads z m frame i id (AsksLine s e) one = line_header heads z s m frame i id e one
 
 -- of the message that was answered
-asked_header : AreHeadersLawful → (z : WorldSettings) (t : Watched) (k place : ℕ) (e : SignedEntry) → Holds z t
+pub asked_header : AreHeadersLawful → (z : WorldSettings) (t : Watched) (k place : ℕ) (e : SignedEntry) → Holds z t
     → (q : IsAnswer z t k place e) (index : ℕ) (u : UpFrame) → slice_get t.repeating.ups index ≡ Some u → (let c = q.checked in u.frame ≡ c.raw)
     → FitsRequest z u.sent.message → (let c = q.checked in IsLineHeader c.header)
 asked_header heads z t k place e holds q index u at same fits =
