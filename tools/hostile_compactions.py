@@ -146,7 +146,7 @@ class Seen:
             self.below += before < MARK
 
     def expect_enough(self, count):
-        expect(self.anew >= count // 2, f"the journal was written anew only {self.anew} times in {self.kills} lives")
+        expect(self.anew >= count // 4, f"the journal was written anew only {self.anew} times in {self.kills} lives")
         expect(self.drafts >= count // 10, f"only {self.drafts} of {self.kills} kills left a draft")
 
     def text(self):
