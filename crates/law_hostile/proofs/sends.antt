@@ -11,3 +11,4 @@ pub mod Counts
 pub mod Lines
 pub mod Meaning
 pub mod Acting
+pub mod Trees

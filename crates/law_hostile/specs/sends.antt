@@ -2,3 +2,4 @@ pub mod OwnSends
 pub mod OwnNumbers
 pub mod HeardSends
 pub mod ActsSends
+pub mod TreeSends

@@ -44,7 +44,7 @@ pub use replied::{
 };
 pub use sends::{
     acts_are_sends_law, heard_was_sent_law, own_lines_fit_law, own_sends_law,
-    taken_answers_send_law,
+    taken_answers_send_law, taken_trees_answer_law,
 };
 pub use setups::setups_are_own_law;
 pub use sifting::lists_may_sift_law;

@@ -6,6 +6,7 @@ ghost use Rattle.law_hostile.specs.sends.ActsSends.{ActsAreSends};
 ghost use Rattle.law_hostile.specs.sends.HeardSends.{HeardWasSent, TakenAnswersSend};
 ghost use Rattle.law_hostile.specs.sends.OwnNumbers.{OwnLinesFit};
 ghost use Rattle.law_hostile.specs.sends.OwnSends.{OwnSends};
+ghost use Rattle.law_hostile.specs.sends.TreeSends.{TakenTreesAnswerSend};
 
 use law_ties::{commands_law, headers_law, trees_law};
 use law_wire::negotiate_request_law;
@@ -27,8 +28,8 @@ pub fn own_lines_fit_law()
     trees_law();
 }
 
-/// In such a run, each message that a server's end hears unsealed and without a fault is just the message that the model's client sent on a line
-/// of that connection in its present opening, in each part; but for NEGOTIATE, SESSION_SETUP and an ECHO of SessionId 0.
+/// In such a run, each message that a server's end hears unsealed and without a fault is just the message that the model's client sent on
+/// a line of that connection in its present opening, in each part; but for NEGOTIATE, SESSION_SETUP and an ECHO of SessionId 0.
 pub fn heard_was_sent_law()
     ensures sent { HeardWasSent }
 {
@@ -53,6 +54,17 @@ pub fn taken_answers_send_law()
 /// message, whose answer acts.
 pub fn acts_are_sends_law()
     ensures sends { ActsAreSends }
+{
+    headers_law();
+    commands_law();
+    trees_law();
+    negotiate_request_law();
+}
+
+/// In such a run, each response by which a dialog of the client gets its tree answers the TREE_CONNECT that the model's client sent for that
+/// dialog on that connection in its present opening, under the id of the response (MS-SMB2 3.2.5.5).
+pub fn taken_trees_answer_law()
+    ensures answers { TakenTreesAnswerSend }
 {
     headers_law();
     commands_law();

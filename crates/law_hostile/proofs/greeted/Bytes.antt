@@ -57,7 +57,7 @@ setup_command n true previous token m frame e =
 setup_command n false previous token m frame e =
     tells_command frame ∙ (ap (λ b. number 2 b 12) e ∙ (bare_command m 1 1 false _ ∙ number_of-le 2 1 (omega arith)))
 
-small_number : (c : Command) → number_of_command c < 2 ^ 16
+pub small_number : (c : Command) → number_of_command c < 2 ^ 16
 small_number (TreeConnect share) = omega arith
 small_number (Create request) = omega arith
 small_number (Close file query) = omega arith

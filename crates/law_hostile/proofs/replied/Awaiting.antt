@@ -122,7 +122,7 @@ put_before z es before after i u run at =
 -- ---- the request that was answered
 
 -- the message that an end answered is the one of the frame that it was given
-given_header : (z : WorldSettings) (t : Watched) (k place : ℕ) (e : SignedEntry) → Holds z t → (q : IsAnswer z t k place e)
+pub given_header : (z : WorldSettings) (t : Watched) (k place : ℕ) (e : SignedEntry) → Holds z t → (q : IsAnswer z t k place e)
     → (let c = q.checked in header_in q.put.frame ≡ c.header)
 given_header z t k place e holds q =
     let f = (t.repeating.world.wires k).server_end in

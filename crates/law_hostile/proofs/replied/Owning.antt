@@ -49,7 +49,7 @@ by_kind P c f = first (is_negotiate c.header) refl (is_setup c.header) refl (is_
     first false a false b false d = inr (f a b d)
 
 -- the frame that is given is the client's, and so unsealed
-plain_frame : (z : WorldSettings) (t : Watched) (k place : ℕ) (e : SignedEntry) → Holds z t → (a : IsAnswer z t k place e)
+pub plain_frame : (z : WorldSettings) (t : Watched) (k place : ℕ) (e : SignedEntry) → Holds z t → (a : IsAnswer z t k place e)
     → a.frame.sealed ≡ false
 plain_frame z t k place e h a =
     let f = (t.repeating.world.wires k).server_end in
@@ -90,7 +90,7 @@ one_opening k n j m e = (cc, cc)
 no_session : (k n x : ℕ) → OnOpening k n ≡ InSession x → ⊥
 no_session k n x e = absurd (cc)
 
-place_of : (z : WorldSettings) (t v : Watched) (k : ℕ) (e : SignedEntry) (j place : ℕ) → e.place ≡ opening_of t.repeating k
+pub place_of : (z : WorldSettings) (t v : Watched) (k : ℕ) (e : SignedEntry) (j place : ℕ) → e.place ≡ opening_of t.repeating k
     → (a : IsAnswer z v j place e) → (j ≡ k) × (v.repeating.openings j ≡ t.repeating.openings k)
 place_of z t v k e j place is a = by a.place_is
   where

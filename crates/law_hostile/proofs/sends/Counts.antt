@@ -3,7 +3,7 @@ use Rattle.std.proofs.Common.{◌≡◌, ℕ, ◌+◌, ◌≤◌, ◌<◌, ◌^�
 use Rattle.spec_exchange.specs.Network.{Event, Submit, Open, Push, Serve, Take, Cut, Drop, Restart, Crash, Wait, Finish}
 use Rattle.spec_world.specs.Settings.{WorldSettings, values_of}
 use Rattle.spec_hostile.specs.RepeatRuns.{RepeatWorld, RepeatEvent, Same, Give, repeat_happens, repeat_run, repeat_start}
-use Rattle.spec_hostile.specs.HostileNetwork.{own_events, repeated}
+use Rattle.spec_hostile.specs.HostileNetwork.{IsBounded, own_events, repeated}
 use Rattle.law_ties.specs.wire_facts.Steps.{restarts_in, submits_in}
 use Rattle.law_hostile.proofs.greeted.Greeting.{AllFine}
 use Rattle.law_hostile.proofs.loosely.Over.{Stands}
@@ -112,3 +112,41 @@ unfolding own_events
 front_restarts [] b = none_restarts (own_events b)
 front_restarts (Same e ∷ a) b = with_more e (own_events a) (own_events (a ++ b)) (front_restarts a b)
 front_restarts (Give k up place ∷ a) b = front_restarts a b
+
+with_more_sent : (e : Event) (a b : List Event) → submits_in a ≤ submits_in b → submits_in (e ∷ a) ≤ submits_in (e ∷ b)
+unfolding submits_in
+with_more_sent (Submit g op) a b l = omega (arith, l)
+with_more_sent (Open k) a b l = l
+with_more_sent (Push k slotless pick) a b l = l
+with_more_sent (Serve k) a b l = l
+with_more_sent (Take k) a b l = l
+with_more_sent (Cut k) a b l = l
+with_more_sent (Drop k) a b l = l
+with_more_sent Restart a b l = l
+with_more_sent (Crash k kept) a b l = l
+with_more_sent (Wait m) a b l = l
+with_more_sent (Finish refusal) a b l = l
+
+none_submits : (es : List Event) → submits_in [] ≤ submits_in es
+unfolding submits_in
+none_submits es = zero_more (submits_in es)
+
+front_submits : (a b : List RepeatEvent) → submits_in (own_events a) ≤ submits_in (own_events (a ++ b))
+unfolding own_events
+front_submits [] b = none_submits (own_events b)
+front_submits (Same e ∷ a) b = with_more_sent e (own_events a) (own_events (a ++ b)) (front_submits a b)
+front_submits (Give k up place ∷ a) b = front_submits a b
+
+fewer_restarts : (a b : ℕ) → a ≤ b → b < 4294967295 → a < 4294967295
+fewer_restarts a b l m = omega (arith, l, m)
+
+fewer_submits : (a b : ℕ) → a ≤ b → b < 2 ^ 64 → a < 2 ^ 64
+fewer_submits a b l m = omega (arith, l, m)
+
+pub front_bounded : (z : WorldSettings) (a b : List RepeatEvent) → IsBounded z (a ++ b) → IsBounded z a
+front_bounded z a b h =
+    record {
+      fitting = h.fitting;
+      restarts = fewer_restarts (restarts_in (own_events a)) (restarts_in (own_events (a ++ b))) (front_restarts a b) h.restarts;
+      submits = fewer_submits (submits_in (own_events a)) (submits_in (own_events (a ++ b))) (front_submits a b) h.submits;
+    }

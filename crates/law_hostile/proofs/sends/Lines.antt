@@ -270,7 +270,7 @@ unfolding watched_run
 watched_snoc z [] e t = refl
 watched_snoc z (x ∷ es) e t = watched_snoc z es e (watched_happens z t x)
 
-front_signed : (z : WorldSettings) (a b : List RepeatEvent) (t : Watched) → AllSigned z (a ++ b) t → AllSigned z a t
+pub front_signed : (z : WorldSettings) (a b : List RepeatEvent) (t : Watched) → AllSigned z (a ++ b) t → AllSigned z a t
 front_signed z [] b t all = tt
 front_signed z (e ∷ a) b t all = (all.0, front_signed z a b (watched_happens z t e) all.1)
 
