@@ -254,7 +254,7 @@ def fill_to_mark(server, wires):
     path, used = f"{server.room}/{JOURNAL}", 0
     for _ in range(200):
         anew = WRITTEN_ANEW.findall(server.said())
-        mark, used = max(MARK, 2 * int(anew[-1][0])) if anew else MARK, used_of(path)
+        mark, used = max(MARK, 2 * int(anew[-1][1])) if anew else MARK, used_of(path)
         if mark - (2 << 20) <= used < mark:
             return used
         written(wires, 8, 60, most=max(1, (mark - (1 << 20) - used) // 2 // PIECE))
