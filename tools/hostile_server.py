@@ -204,7 +204,7 @@ class Server:
 
     def written_anew(self):
         """How often its log tells that the journal was written anew, each time the bytes then and before."""
-        return [tuple(map(int, pair)) for pair in WRITTEN_ANEW.findall(self.told())]
+        return [(int(behind), int(before)) for before, behind in WRITTEN_ANEW.findall(self.told())]
 
     def field(self, name):
         with open(f"/proc/{self.process.pid}/status", encoding="utf-8") as file:
