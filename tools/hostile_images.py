@@ -331,7 +331,7 @@ def refused_over_mark(run, library):
 def anew_behind(server):
     """Whether the log tells that the journal was written anew, behind the line on a lack of room."""
     lines = server.told().splitlines()
-    lacked = [number for number, line in enumerate(lines) if JOURNAL in line and os.strerror(errno.ENOSPC) in line]
+    lacked = [number for number, line in enumerate(lines) if f"{JOURNAL} is not written anew for lack of room" in line]
     return bool(lacked) and any(WRITTEN_ANEW.search(line) for line in lines[lacked[-1]:])
 
 
